@@ -1,0 +1,5 @@
+pub mod Reading
+pub mod Digits
+pub mod Identifiers
+pub mod Decimals
+pub mod OneOutcome

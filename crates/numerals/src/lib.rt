@@ -1,0 +1,85 @@
+// The numbers of a route book as they are read: an identifier of exactly 8 digits 0-9 A-F, or 1 to 5 decimal digits without a
+// needless leading zero. The two public functions answer for every slice and have no `requires`.
+ghost use mathlib.Core.Path.{_≡_};
+ghost use Prim.Native.Nat.{_≤_, _<_, _^_};
+ghost use lib.ListN.{length};
+ghost use Rattle.numerals.specs.Numeral.{digitValue, numeralFrom, identifier, needlessZero, decimal};
+
+// What a field is read as: a number, or none.
+pub enum Number {
+    Is(u32),
+    Not,
+}
+
+// The value of a digit 0-9 A-F; 16 for a byte that is none.
+fn digit(b: u8) -> u64
+    ensures { λ r. ⌜ r ≡ digitValue b ⌝ }
+{
+    if b < 48 {
+        return 16;
+    }
+    if b < 58 {
+        return (b - 48) as u64;
+    }
+    if b < 65 {
+        return 16;
+    }
+    if b < 71 {
+        return (b - 55) as u64;
+    }
+    16
+}
+
+// The number that digits of a base write, where they are so few that it fits 32 bits.
+fn numeral(s: &[u8], base: u64) -> Number
+    requires { ⌜ (base ^ (length (now s)) ≤ 4294967296) × (0 < base) ⌝ }
+    ensures { λ r. ⌜ r ≡ numeralFrom base 0 (now (s .entry)) ⌝ }
+{
+    let mut v: u64 = 0;
+    let mut i: usize = 0;
+    while i < s.len() {
+        let d = digit(s[i]);
+        if d >= base {
+            return Number::Not;
+        }
+        v = v * base + d;
+        i += 1;
+    }
+    Number::Is(v as u32)
+}
+
+// Exactly 8 digits 0-9 A-F.
+pub fn read_identifier(s: &[u8]) -> Number
+    ensures { λ r. ⌜ r ≡ identifier (now (s .entry)) ⌝ }
+{
+    if s.len() != 8 {
+        return Number::Not;
+    }
+    numeral(s, 16)
+}
+
+// More than one digit, and the first is 0.
+fn needless_zero(s: &[u8]) -> bool
+    ensures { λ r. ⌜ r ≡ needlessZero (now (s .entry)) ⌝ }
+{
+    if 1 < s.len() {
+        return s[0] == 48;
+    }
+    false
+}
+
+// 1 to 5 decimal digits, no needless leading zero.
+pub fn read_decimal(s: &[u8]) -> Number
+    ensures { λ r. ⌜ r ≡ decimal (now (s .entry)) ⌝ }
+{
+    if s.len() < 1 {
+        return Number::Not;
+    }
+    if s.len() > 5 {
+        return Number::Not;
+    }
+    if needless_zero(s) {
+        return Number::Not;
+    }
+    numeral(s, 10)
+}
