@@ -1,0 +1,138 @@
+// The book as words that the caller lends: where each column stands, one accessor for each, and the empty book.
+// Every call on a book reads it through these accessors. Nothing here judges what the words say.
+ghost use mathlib.Core.Path.{_≡_};
+ghost use Prim.Native.Nat.{_<_};
+ghost use lib.ListN.{length};
+ghost use Rattle.record.specs.Limits.{messages, signals, routes, buses, identifierLimit};
+ghost use Rattle.record.specs.Place.{placeKey};
+ghost use Rattle.record.specs.Columns.{messageCountOf, signalCountOf, routeCountOf, idsOf, endsOf, numbersOf, startsOf, fromsOf, tosOf, emptyBook};
+
+// How much a book holds, and how far its numbers go.
+pub const MESSAGES: usize = 64;
+
+pub const SIGNALS: usize = 256;
+
+pub const ROUTES: usize = 64;
+
+pub const BUSES: u32 = 8;
+
+pub const IDENTIFIER_LIMIT: u32 = 536870912;
+
+pub const START_LIMIT: u32 = 64;
+
+pub const TEXT_LIMIT: usize = 32768;
+
+// The words: three counts, then the columns, each at its greatest length.
+pub const BOOK_WORDS: usize = 771;
+
+pub const MESSAGE_COUNT: usize = 0;
+
+pub const SIGNAL_COUNT: usize = 1;
+
+pub const ROUTE_COUNT: usize = 2;
+
+pub const IDS: usize = 3;
+
+pub const IDS_END: usize = 67;
+
+pub const ENDS: usize = 67;
+
+pub const ENDS_END: usize = 131;
+
+pub const NUMBERS: usize = 131;
+
+pub const NUMBERS_END: usize = 387;
+
+pub const STARTS: usize = 387;
+
+pub const STARTS_END: usize = 643;
+
+pub const FROMS: usize = 643;
+
+pub const FROMS_END: usize = 707;
+
+pub const TOS: usize = 707;
+
+pub const TOS_END: usize = 771;
+
+// How many messages the words say there are, whatever it is; as the next two.
+pub fn message_count(book: &[u32; BOOK_WORDS]) -> u32
+    ensures { λ r. ⌜ r ≡ messageCountOf (now (book .entry)) ⌝ }
+{
+    book[MESSAGE_COUNT]
+}
+
+pub fn signal_count(book: &[u32; BOOK_WORDS]) -> u32
+    ensures { λ r. ⌜ r ≡ signalCountOf (now (book .entry)) ⌝ }
+{
+    book[SIGNAL_COUNT]
+}
+
+pub fn route_count(book: &[u32; BOOK_WORDS]) -> u32
+    ensures { λ r. ⌜ r ≡ routeCountOf (now (book .entry)) ⌝ }
+{
+    book[ROUTE_COUNT]
+}
+
+// The messages' identifiers.
+pub fn ids(book: &[u32; BOOK_WORDS]) -> &[u32]
+    ensures { λ r. ⌜ (now r ≡ idsOf (now (book .entry))) × (length (now r) ≡ messages) ⌝ }
+{
+    let words: &[u32] = book;
+    &words[IDS..IDS_END]
+}
+
+// For each message, how many signals there are up to its last one.
+pub fn ends(book: &[u32; BOOK_WORDS]) -> &[u32]
+    ensures { λ r. ⌜ (now r ≡ endsOf (now (book .entry))) × (length (now r) ≡ messages) ⌝ }
+{
+    let words: &[u32] = book;
+    &words[ENDS..ENDS_END]
+}
+
+// The signals' numbers, message by message.
+pub fn numbers(book: &[u32; BOOK_WORDS]) -> &[u32]
+    ensures { λ r. ⌜ (now r ≡ numbersOf (now (book .entry))) × (length (now r) ≡ signals) ⌝ }
+{
+    let words: &[u32] = book;
+    &words[NUMBERS..NUMBERS_END]
+}
+
+// The signals' starts, in step with their numbers.
+pub fn starts(book: &[u32; BOOK_WORDS]) -> &[u32]
+    ensures { λ r. ⌜ (now r ≡ startsOf (now (book .entry))) × (length (now r) ≡ signals) ⌝ }
+{
+    let words: &[u32] = book;
+    &words[STARTS..STARTS_END]
+}
+
+// The places that the routes lead from.
+pub fn froms(book: &[u32; BOOK_WORDS]) -> &[u32]
+    ensures { λ r. ⌜ (now r ≡ fromsOf (now (book .entry))) × (length (now r) ≡ routes) ⌝ }
+{
+    let words: &[u32] = book;
+    &words[FROMS..FROMS_END]
+}
+
+// The places that the routes lead to, in step with those they lead from.
+pub fn tos(book: &[u32; BOOK_WORDS]) -> &[u32]
+    ensures { λ r. ⌜ (now r ≡ tosOf (now (book .entry))) × (length (now r) ≡ routes) ⌝ }
+{
+    let words: &[u32] = book;
+    &words[TOS..TOS_END]
+}
+
+// Makes the book the empty one.
+pub fn clear(book: &mut [u32; BOOK_WORDS])
+    ensures { λ _. ⌜ now (book .exit) ≡ emptyBook ⌝ }
+{
+    *book = [0; BOOK_WORDS];
+}
+
+// The place that is an identifier on a bus.
+pub fn place(bus: u32, identifier: u32) -> u32
+    requires { ⌜ (bus < buses) × (identifier < identifierLimit) ⌝ }
+    ensures { λ r. ⌜ r ≡ placeKey bus identifier ⌝ }
+{
+    bus * IDENTIFIER_LIMIT + identifier
+}
