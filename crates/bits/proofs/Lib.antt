@@ -1,0 +1,3 @@
+pub mod Weights
+pub mod Placing
+pub mod Summing

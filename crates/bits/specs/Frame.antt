@@ -1,0 +1,14 @@
+-- Bits in a frame, in document 01's words. A frame is a list of bytes, byte 0 first.
+-- Assumes nothing.
+use mathlib.Core.List.{List}
+use Prim.Native.Nat.{ℕ, zero, suc, _+_, _*_, _/_, _%_, _^_}
+use lib.ListN.{getD}
+
+-- frame bit k: bit k mod 8 (weight 2^(k mod 8)) of byte k div 8
+abbrev pub frameBit : List ℕ → ℕ → ℕ
+frameBit frame k = getD frame (k / 8) 0 / 2 ^ (k % 8) % 2
+
+-- the raw count of a signal of b bits at start s: its weight 2^j is at frame bit s + j
+unfoldable pub countAt : List ℕ → ℕ → ℕ → ℕ
+countAt frame s zero = 0
+countAt frame s (suc j) = countAt frame s j + frameBit frame (s + j) * 2 ^ j
