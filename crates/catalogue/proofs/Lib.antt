@@ -1,0 +1,4 @@
+pub mod Table
+pub mod Whole
+pub mod Shaped
+pub mod Found

@@ -1,0 +1,4 @@
+pub mod Rows
+pub mod Rule
+pub mod Find
+pub mod Shapes
