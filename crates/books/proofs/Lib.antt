@@ -1,0 +1,5 @@
+pub mod Tests
+pub mod Ends
+pub mod Building
+pub mod Columns
+pub mod Known

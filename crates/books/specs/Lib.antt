@@ -1,0 +1,4 @@
+pub mod Book
+pub mod Lines
+pub mod Good
+pub mod Words

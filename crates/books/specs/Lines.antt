@@ -1,0 +1,77 @@
+-- Why one more line is refused, by what the book holds already: the lowest of 3 to 9, and 0 where it is taken. Assumes nothing: these are definitions.
+use Prim.Native.Nat.{ℕ, _+_, _*_, _^_}
+use mathlib.Core.Bool.{Bool, true, false, cond, _&&_, _||_, not}
+use mathlib.Core.List.{List, [], _∷_}
+use lib.Dec.{eqb, ltb, leb}
+use lib.ListN.{length}
+use Rattle.catalogue.specs.Find.{bitsOf}
+use Rattle.books.specs.Book.{Placement, Message, Route, identifiers, numbers, allPlacements, lastPlacements}
+
+-- limits
+abbrev pub messageLimit : ℕ
+messageLimit = 64
+
+abbrev pub signalLimit : ℕ
+signalLimit = 256
+
+abbrev pub routeLimit : ℕ
+routeLimit = 64
+
+abbrev pub busLimit : ℕ
+busLimit = 8
+
+abbrev pub identifierLimit : ℕ
+identifierLimit = 536870912
+
+abbrev pub frameBits : ℕ
+frameBits = 64
+
+-- `n` stands in the list
+unfoldable pub isIn : ℕ → List ℕ → Bool
+isIn n [] = false
+isIn n (m ∷ ms) = eqb n m || isIn n ms
+
+-- refusal 3 of an `S` line: number not in the catalogue, or start over its limit
+unfoldable pub unknownOrOver : Placement → Bool
+unknownOrOver p = eqb (bitsOf (p .number)) 0 || leb frameBits (p .start)
+
+-- refusal 7: start + bits over 64, or 503 or 504 at a wrong start
+unfoldable pub misplaced : Placement → Bool
+misplaced p =
+    ltb frameBits (p .start + bitsOf (p .number)) ||
+    ((eqb (p .number) 503 && not (eqb (p .start) 60)) || (eqb (p .number) 504 && not (eqb (p .start) 56)))
+
+-- the two have a frame bit in common: each starts before the other ends
+unfoldable pub meets : Placement → Placement → Bool
+meets p q = ltb (p .start) (q .start + bitsOf (q .number)) && ltb (q .start) (p .start + bitsOf (p .number))
+
+-- refusal 8: bits meet an earlier signal of the message
+unfoldable pub meetsEarlier : List Placement → Placement → Bool
+meetsEarlier [] p = false
+meetsEarlier (q ∷ qs) p = meets p q || meetsEarlier qs p
+
+-- an `M` line
+unfoldable pub messageRefusal : List Message → ℕ → ℕ
+messageRefusal ms i =
+    cond (leb identifierLimit i) 3
+    (cond (isIn i (identifiers ms)) 5
+    (cond (leb messageLimit (length ms)) 9
+    0))
+
+-- an `S` line
+unfoldable pub signalRefusal : List Message → Placement → ℕ
+signalRefusal ms p =
+    cond (unknownOrOver p) 3
+    (cond (eqb (length ms) 0) 4
+    (cond (isIn (p .number) (numbers (lastPlacements ms))) 6
+    (cond (misplaced p) 7
+    (cond (meetsEarlier (lastPlacements ms) p) 8
+    (cond (leb signalLimit (length (allPlacements ms))) 9
+    0)))))
+
+-- an `R` line
+unfoldable pub routeRefusal : List Route → ℕ → ℕ → ℕ → ℕ → ℕ
+routeRefusal rs a i b j =
+    cond ((leb busLimit a || leb identifierLimit i) || (leb busLimit b || leb identifierLimit j)) 3
+    (cond (leb routeLimit (length rs)) 9
+    0)

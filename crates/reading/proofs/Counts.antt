@@ -1,0 +1,132 @@
+-- What lines that pass are counted to: the book's counts are counts of lines, and each route has the number of its R line. Assumes nothing.
+use mathlib.Core.Path.{_≡_, refl, sym, ap, _∙_, subst}
+use Prim.Native.Nat.{ℕ, zero, suc, _+_, _≤_, _<_}
+use native.Mathlib.Omega.{arith}
+use native.Mathlib.Nat.{add-suc}
+use mathlib.Core.Bool.{Bool, false, _||_}
+use mathlib.Core.List.{List, [], _∷_, _++_, append-assoc, append-nil}
+use lib.ListN.{length, length-append}
+use lib.Dec.{leb}
+use borrow.Author.Tests.{leb-false}
+use Rattle.line.specs.declared.Line.{Line}
+use Rattle.line.specs.declared.Line.the-variants as line
+use Rattle.record.specs.Limits.{identifierLimit}
+use Rattle.record.specs.Place.{placeKey, key-fits}
+use Rattle.books.specs.Book.{Book, Message, Placement, Route, noBook, fresh, inLast, withPlacement, allPlacements}
+use Rattle.books.specs.Lines.{routeRefusal, signalRefusal, busLimit, routeLimit}
+use Rattle.books.proofs.Tests.{not-refused, both-false}
+use Rattle.books.proofs.Ends.{in-last, Last, last, count-last, length-more}
+use Rattle.reading.specs.Reading.{Outcome, passed, refused, onward, refusalOf, withLine, numberedWith, readFrom, meanings, linesRead}
+use Rattle.reading.specs.Written.{Places, no-route, route}
+use Rattle.reading.specs.Taken.{mLines, sLines, rLinesFrom}
+use Rattle.reading.proofs.Passing.{went, same-book}
+use Rattle.reading.proofs.Writes.{no-message, between}
+
+-- what is counted of a book that lines give after the book b: each count grows by the lines of its kind
+pub record Counted (n : ℕ) (b : Book) (at : List ℕ) (ls : List Line) (c : Book) (to : List ℕ) : Type 0 where
+  pub messages : length (c .messages) ≡ length (b .messages) + mLines ls
+  pub signals : length (allPlacements (c .messages)) ≡ length (allPlacements (b .messages)) + sLines ls
+  pub routes : length (c .routes) ≡ length (b .routes) + length (rLinesFrom n ls)
+  pub numbers : to ≡ at ++ rLinesFrom n ls
+
+-- an S line adds one placement, and no message
+one-signal : (ms : List Message) (p : Placement) → signalRefusal ms p ≡ 0
+    → (length (inLast ms p) ≡ length ms) × (length (allPlacements (inLast ms p)) ≡ length (allPlacements ms) + 1)
+one-signal [] p e = absurd (no-message p e)
+one-signal (m ∷ ms) p e = go (last m ms)
+  where
+    at : (x : List Message) (l : Message) → (length (inLast (x ++ (l ∷ [])) p) ≡ length (x ++ (l ∷ []))) × (length (allPlacements (inLast (x ++ (l ∷ [])) p)) ≡ length (allPlacements (x ++ (l ∷ []))) + 1)
+    at x l = rw in-last (
+      omega (arith, length-more x (withPlacement l p), length-more x l),
+      omega (arith, count-last x (withPlacement l p), count-last x l, length-more (l .placements) p),
+    )
+
+    go : Last (m ∷ ms) → (length (inLast (m ∷ ms) p) ≡ length (m ∷ ms)) × (length (allPlacements (inLast (m ∷ ms) p)) ≡ length (allPlacements (m ∷ ms)) + 1)
+    go r = subst (λ (l : List Message). (length (inLast l p) ≡ length l) × (length (allPlacements (inLast l p)) ≡ length (allPlacements l) + 1)) (sym (r .whole)) (at (r .before) (r .last))
+
+-- what follows a line is counted on from it
+module _ (n : ℕ) (b : Book) (at : List ℕ) (ls : List Line) {c : Book} {to : List ℕ} where
+  after : (l : Line) → refusalOf b l ≡ 0 → Counted (suc n) (withLine b l) (numberedWith at n l) ls c to → Counted n b at (l ∷ ls) c to
+  unfolding refusalOf withLine numberedWith mLines sLines rLinesFrom
+  after (line.Message i) e k = record {
+    messages = omega (arith, k .messages, length-more (b .messages) (fresh i), add-suc (length (b .messages)) (mLines ls));
+    signals = omega (arith, k .signals, count-last (b .messages) (fresh i));
+    routes = k .routes;
+    numbers = k .numbers;
+  }
+  after (line.Signal m s) e k =
+      let one = one-signal (b .messages) (record { number = m; start = s }) e in
+      record {
+        messages = omega (arith, k .messages, one .0);
+        signals = omega (arith, k .signals, one .1, add-suc (length (allPlacements (b .messages))) (sLines ls));
+        routes = k .routes;
+        numbers = k .numbers;
+      }
+  after (line.Route x i y j) e k = record {
+    messages = k .messages;
+    signals = k .signals;
+    routes = omega (arith, k .routes, length-more (b .routes) (between (placeKey x i) (placeKey y j)), add-suc (length (b .routes)) (length (rLinesFrom (suc n) ls)));
+    numbers = k .numbers ∙ append-assoc at (n ∷ []) (rLinesFrom (suc n) ls);
+  }
+  after line.IllFormed e k = let z : _≡_ {A = ℕ} 2 0 = e in absurd (omega arith)
+
+pub counted : (n : ℕ) (b : Book) (at : List ℕ) (ls : List Line) {c : Book} {to : List ℕ} → readFrom n b at ls ≡ passed c to → Counted n b at ls c to
+unfolding readFrom mLines sLines rLinesFrom
+counted n b at [] e =
+    let f = same-book e in
+    record {
+      messages = omega (arith, ap (λ (x : Book). length (x .messages)) f);
+      signals = omega (arith, ap (λ (x : Book). length (allPlacements (x .messages))) f);
+      routes = omega (arith, ap (λ (x : Book). length (x .routes)) f);
+      numbers = let z = append-nil at in (cc);
+    }
+counted n b at (l ∷ ls) e =
+    let w = went (refusalOf b l) n (readFrom (suc n) (withLine b l) (numberedWith at n l) ls) e in
+    after n b at ls l (w .taken) (counted (suc n) (withLine b l) (numberedWith at n l) ls (w .after))
+
+-- the routes of lines that pass: few enough, and their places are places
+pub record Routed (rs : List Route) : Type 0 where
+  pub few : length rs ≤ routeLimit
+  pub places : Places rs
+
+places-more : {rs : List Route} (r : Route) → Places rs → r .from < 4294967296 → r .to < 4294967296 → Places (rs ++ (r ∷ []))
+places-more r no-route f t = route f t no-route
+places-more r (route g u p) f t = route g u (places-more r p f t)
+
+routed-route : (rs : List Route) (x i y j : ℕ) → Routed rs → routeRefusal rs x i y j ≡ 0 → Routed (rs ++ (between (placeKey x i) (placeKey y j) ∷ []))
+unfolding routeRefusal
+routed-route rs x i y j h e =
+    let a = not-refused ((leb busLimit x || leb identifierLimit i) || (leb busLimit y || leb identifierLimit j)) 2 _ e in
+    let b = not-refused (leb routeLimit (length rs)) 8 0 (a .1) in
+    let c = both-false (leb busLimit x || leb identifierLimit i) (leb busLimit y || leb identifierLimit j) (a .0) in
+    let d = both-false (leb busLimit x) (leb identifierLimit i) (c .0) in
+    let f = both-false (leb busLimit y) (leb identifierLimit j) (c .1) in
+    record {
+      few = omega (arith, length-more rs (between (placeKey x i) (placeKey y j)), leb-false routeLimit (length rs) (b .0));
+      places = places-more (between (placeKey x i) (placeKey y j)) (h .places)
+          (key-fits x i (leb-false busLimit x (d .0)) (leb-false identifierLimit i (d .1)))
+          (key-fits y j (leb-false busLimit y (f .0)) (leb-false identifierLimit j (f .1)));
+    }
+
+routed-with : (b : Book) (l : Line) → Routed (b .routes) → refusalOf b l ≡ 0 → Routed (withLine b l .routes)
+unfolding refusalOf withLine
+routed-with b (line.Message i) h e = h
+routed-with b (line.Signal n s) h e = h
+routed-with b (line.Route x i y j) h e = routed-route (b .routes) x i y j h e
+routed-with b line.IllFormed h e = h
+
+pub routed-on : (n : ℕ) (b : Book) (at : List ℕ) (ls : List Line) {c : Book} {to : List ℕ} → Routed (b .routes) → readFrom n b at ls ≡ passed c to → Routed (c .routes)
+unfolding readFrom
+routed-on n b at [] h e = subst (λ (x : Book). Routed (x .routes)) (same-book e) h
+routed-on n b at (l ∷ ls) h e =
+    let w = went (refusalOf b l) n (readFrom (suc n) (withLine b l) (numberedWith at n l) ls) e in
+    routed-on (suc n) (withLine b l) (numberedWith at n l) ls (routed-with b l h (w .taken)) (w .after)
+
+-- of a text
+pub text-counted : (text : List ℕ) {c : Book} {to : List ℕ} → linesRead text ≡ passed c to → Counted 1 noBook [] (meanings text) c to
+unfolding linesRead
+text-counted text e = counted 1 noBook [] (meanings text) e
+
+pub text-routed : (text : List ℕ) {c : Book} {to : List ℕ} → linesRead text ≡ passed c to → Routed (c .routes)
+unfolding linesRead
+text-routed text e = routed-on 1 noBook [] (meanings text) (record { few = omega arith; places = no-route }) e

@@ -1,0 +1,5 @@
+pub mod Passing
+pub mod Writes
+pub mod Texts
+pub mod Counts
+pub mod Exact

@@ -1,0 +1,146 @@
+-- Texts of books: a book that lines build has a text, and reading that text gives the book. Assumes nothing.
+use mathlib.Core.Path.{_≡_, refl, sym, ap, _∙_, subst}
+use Prim.Native.Nat.{ℕ, zero, suc, _+_, _*_, _≤_, _<_, _/_, _%_}
+use native.Mathlib.Omega.{arith}
+use mathlib.Core.List.{List, [], _∷_, _++_, map, append-nil}
+use mathlib.Core.Bool.{Bool, true, false}
+use lib.ListN.{length, length-append, length-map}
+use lib.Dec.{leb, eqb}
+use borrow.Author.Tests.{leb-false, eqb-false}
+use Rattle.numerals.specs.Written.{identifierText, decimalText, decimalWidth, decimalLimit}
+use Rattle.numerals.proofs.Digits.{length-digits}
+use Rattle.numerals.proofs.Decimals.{width-few}
+use Rattle.parts.specs.Parts.{lines, TextLine, ended, unended, tab, newline}
+use Rattle.parts.specs.Joined.{join, textOfLines, Free, Frees, no-part, part}
+use Rattle.parts.proofs.LineEnds.{lines-written}
+use Rattle.line.specs.Meaning.{meaningOf, lineMeaning}
+use Rattle.line.specs.Written.{lineText, fieldsOf, Writable}
+use Rattle.line.proofs.ReadBack.{text-free, read-back}
+use Rattle.line.specs.declared.Line.{Line}
+use Rattle.line.specs.declared.Line.the-variants as line
+use Rattle.record.specs.Limits.{identifierLimit, textLimit}
+use Rattle.record.specs.Place.{key-place}
+use Rattle.catalogue.specs.Find.{bitsOf}
+use Rattle.books.proofs.Known.{known-small}
+use Rattle.books.specs.Book.{Book, Message, Placement, Route, noBook, fresh, allPlacements}
+use Rattle.books.specs.Lines.{messageRefusal, signalRefusal, unknownOrOver, isIn, messageLimit, signalLimit, routeLimit, frameBits}
+use Rattle.books.specs.Good.{Built, none, message, signal}
+use Rattle.books.proofs.Tests.{not-refused, both-false}
+use Rattle.books.proofs.Building.{built-good}
+use Rattle.books.proofs.Columns.{Within, within}
+use Rattle.reading.specs.Reading.{Outcome, passed, readFrom, meanings, linesRead}
+use Rattle.reading.specs.Written.{signalLine, routeLine, messageLines, bookLines, bookText, Places, no-route, route, countUp}
+use Rattle.reading.proofs.Writes.{lines-message, lines-signal, book-read}
+
+-- lines that all have a text
+pub data AllWritable : List Line → Type 0 where
+  nothing : AllWritable []
+  also : {l : Line} {ls : List Line} → Writable l → AllWritable ls → AllWritable (l ∷ ls)
+
+all-append : {ls ms : List Line} → AllWritable ls → AllWritable ms → AllWritable (ls ++ ms)
+all-append nothing b = b
+all-append (also w a) b = also w (all-append a b)
+
+texts-free : (ls : List Line) → Frees newline (map lineText ls)
+texts-free [] = no-part
+texts-free (l ∷ ls) = part (text-free l) (texts-free ls)
+
+means : {ls : List Line} → AllWritable ls → map meaningOf (map ended (map lineText ls)) ≡ ls
+unfolding meaningOf
+means nothing = refl
+means (also {l} {ls} w a) = let e = read-back l w in let f = means a in cc
+
+-- lines, written and read back
+pub meanings-written : (ls : List Line) → AllWritable ls → meanings (textOfLines (map lineText ls)) ≡ ls
+unfolding meanings
+meanings-written ls a = ap (map meaningOf) (lines-written (map lineText ls) (texts-free ls)) ∙ means a
+
+-- the lines of a book have texts
+message-writable : (ms : List Message) (i : ℕ) → messageRefusal ms i ≡ 0 → Writable (line.Message i)
+unfolding messageRefusal
+message-writable ms i e = let a = leb-false identifierLimit i (not-refused (leb identifierLimit i) 2 _ e .0) in omega arith
+
+signal-writable : (ms : List Message) (p : Placement) → signalRefusal ms p ≡ 0 → Writable (signalLine p)
+unfolding signalRefusal unknownOrOver
+signal-writable ms p e =
+    let a = both-false (eqb (bitsOf (p .number)) 0) (leb frameBits (p .start)) (not-refused (unknownOrOver p) 2 _ e .0) in
+    let b = leb-false frameBits (p .start) (a .1) in
+    (omega (arith, known-small (p .number) (eqb-false (bitsOf (p .number)) 0 (a .0))), omega arith)
+
+messages-writable : {ms : List Message} → Built ms → AllWritable (messageLines ms)
+unfolding messageLines
+messages-writable none = nothing
+messages-writable (message {ms} i b e) = subst AllWritable (sym (lines-message ms i)) (all-append (messages-writable b) (also (message-writable ms i e) nothing))
+messages-writable (signal {ms} p b e) = subst AllWritable (sym (lines-signal ms p e)) (all-append (messages-writable b) (also (signal-writable ms p e) nothing))
+
+routes-writable : {rs : List Route} → Places rs → AllWritable (map routeLine rs)
+routes-writable no-route = nothing
+routes-writable (route {r} f t p) =
+    let a = key-place (r .from) f in
+    let b = key-place (r .to) t in
+    also {l = routeLine r} ((omega arith, omega arith), (omega arith, omega arith)) (routes-writable p)
+
+pub lines-writable : (b : Book) → Built (b .messages) → Places (b .routes) → AllWritable (bookLines b)
+unfolding bookLines
+lines-writable b h p = all-append (messages-writable h) (routes-writable p)
+
+-- how long the text of a line is
+identifier-long : (n : ℕ) → length (identifierText n) ≡ 8
+unfolding identifierText
+identifier-long n = length-digits 16 8 n
+
+decimal-long : (n : ℕ) → n < decimalLimit → length (decimalText n) ≤ 5
+unfolding decimalText
+decimal-long n h = omega (arith, length-digits 10 (decimalWidth n) n, width-few n h)
+
+length-join : (s : ℕ) (p q : List ℕ) (ps : List (List ℕ)) → length (join s (p ∷ q ∷ ps)) ≡ length p + suc (length (join s (q ∷ ps)))
+unfolding join
+length-join s p q ps = length-append p (s ∷ join s (q ∷ ps))
+
+length-one : (s : ℕ) (p : List ℕ) → length (join s (p ∷ [])) ≡ length p
+unfolding join
+length-one s p = refl
+
+line-long : (l : Line) → Writable l → length (lineText l) ≤ 40
+unfolding lineText fieldsOf
+line-long (line.Message i) w =
+    let one = length-join tab (77 ∷ []) (identifierText i) [] in
+    omega (arith, one, length-one tab (identifierText i), identifier-long i)
+line-long (line.Signal n s) (wn, ws) =
+    let one = length-join tab (83 ∷ []) (decimalText n) (decimalText s ∷ []) in
+    let two = length-join tab (decimalText n) (decimalText s) [] in
+    omega (arith, one, two, length-one tab (decimalText s), decimal-long n wn, decimal-long s ws)
+line-long (line.Route a i b j) ((wa, wi), (wb, wj)) =
+    let one = length-join tab (82 ∷ []) (decimalText a) (identifierText i ∷ decimalText b ∷ identifierText j ∷ []) in
+    let two = length-join tab (decimalText a) (identifierText i) (decimalText b ∷ identifierText j ∷ []) in
+    let three = length-join tab (identifierText i) (decimalText b) (identifierText j ∷ []) in
+    let four = length-join tab (decimalText b) (identifierText j) [] in
+    omega (arith, one, two, three, four, length-one tab (identifierText j), decimal-long a wa, decimal-long b wb, identifier-long i, identifier-long j)
+line-long line.IllFormed w = absurd w
+
+lines-long : {ls : List Line} → AllWritable ls → length (textOfLines (map lineText ls)) ≤ 41 * length ls
+unfolding textOfLines
+lines-long nothing = omega arith
+lines-long (also {l} {ls} w a) =
+    let h = lines-long a in
+    let k = line-long l w in
+    omega (arith, length-append (lineText l) (newline ∷ textOfLines (map lineText ls)))
+
+-- how many lines messages have
+count-messages : (ms : List Message) → length (messageLines ms) ≡ length ms + length (allPlacements ms)
+unfolding messageLines allPlacements
+count-messages [] = refl
+count-messages (m ∷ ms) =
+    omega (arith, length-append (map signalLine (m .placements)) (messageLines ms), length-map (m .placements) signalLine, length-append (m .placements) (allPlacements ms), count-messages ms)
+
+pub text-short : (b : Book) → Built (b .messages) → Places (b .routes) → length (b .routes) ≤ routeLimit → length (bookText b) ≤ textLimit
+unfolding bookText bookLines
+text-short b h p l =
+    let k = within (b .messages) (built-good h) in
+    omega (arith, lines-long (all-append (messages-writable h) (routes-writable p)), length-append (messageLines (b .messages)) (map routeLine (b .routes)), length-map (b .routes) routeLine, count-messages (b .messages), k .few, k .room)
+
+-- reading the text of a book gives that book
+pub text-read : (b : Book) → Built (b .messages) → Places (b .routes) → length (b .routes) ≤ routeLimit
+    → linesRead (bookText b) ≡ passed b (countUp (1 + length (messageLines (b .messages))) (length (b .routes)))
+unfolding linesRead bookText
+text-read b h p l = ap (readFrom 1 noBook []) (meanings-written (bookLines b) (lines-writable b h p)) ∙ book-read b h p l

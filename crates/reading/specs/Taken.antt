@@ -1,0 +1,60 @@
+-- When a text is taken, and with what book; and what its lines are counted to. Assumes nothing: these are definitions.
+use mathlib.Core.Path.{_≡_}
+use Prim.Native.Nat.{ℕ, suc, _≤_}
+use mathlib.Core.List.{List, [], _∷_, map}
+use lib.ListN.{length, getD, take, drop}
+use Rattle.record.specs.Limits.{textLimit}
+use Rattle.record.specs.Columns.{routeCountOf}
+use Rattle.line.specs.declared.Line.{Line}
+use Rattle.line.specs.declared.Line.the-variants as line
+use Rattle.chains.specs.Chain.{LoopFree, Single}
+use Rattle.books.specs.Book.{Book, Route}
+use Rattle.books.specs.Words.{routeColumns}
+use Rattle.reading.specs.Reading.{passed, linesRead}
+
+-- the places that routes lead from, and those they lead to
+abbrev pub froms : List Route → List ℕ
+froms rs = map (λ (r : Route). r .from) rs
+
+abbrev pub tos : List Route → List ℕ
+tos rs = map (λ (r : Route). r .to) rs
+
+-- no closed chain, and no two different chains that join the same two places
+pub record Sound (rs : List Route) : Type 0 where
+  pub loop-free : LoopFree (froms rs) (tos rs)
+  pub single : Single (froms rs) (tos rs)
+
+-- a text is taken with a book: it is not too long, its lines pass and give the book, and the book's routes are sound
+pub record TakenWith (text : List ℕ) (b : Book) : Type 0 where
+  pub short : length text ≤ textLimit
+  pub at : List ℕ
+  pub read : linesRead text ≡ passed b at
+  pub sound : Sound (b .routes)
+
+-- the routes stand in the words: their count and their columns. The messages are not asked.
+pub record RoutesStand (w : List ℕ) (rs : List Route) : Type 0 where
+  pub count : routeCountOf w ≡ length rs
+  pub columns : take 128 (drop 643 w) ≡ routeColumns rs
+
+-- how many M lines, S lines and R lines there are
+unfoldable pub mLines : List Line → ℕ
+mLines [] = 0
+mLines (line.Message i ∷ ls) = suc (mLines ls)
+mLines (line.Signal n s ∷ ls) = mLines ls
+mLines (line.Route a i b j ∷ ls) = mLines ls
+mLines (line.IllFormed ∷ ls) = mLines ls
+
+unfoldable pub sLines : List Line → ℕ
+sLines [] = 0
+sLines (line.Message i ∷ ls) = sLines ls
+sLines (line.Signal n s ∷ ls) = suc (sLines ls)
+sLines (line.Route a i b j ∷ ls) = sLines ls
+sLines (line.IllFormed ∷ ls) = sLines ls
+
+-- the line numbers of the R lines, of lines from number n on
+unfoldable pub rLinesFrom : ℕ → List Line → List ℕ
+rLinesFrom n [] = []
+rLinesFrom n (line.Message i ∷ ls) = rLinesFrom (suc n) ls
+rLinesFrom n (line.Signal m s ∷ ls) = rLinesFrom (suc n) ls
+rLinesFrom n (line.Route a i b j ∷ ls) = n ∷ rLinesFrom (suc n) ls
+rLinesFrom n (line.IllFormed ∷ ls) = rLinesFrom (suc n) ls

@@ -1,0 +1,37 @@
+-- The text of a book: each M line with its S lines, in book order, then the R lines in book order. Assumes nothing: these are definitions.
+use Prim.Native.Nat.{ℕ, zero, suc, _<_, _/_, _%_}
+use mathlib.Core.List.{List, [], _∷_, _++_, map}
+use Rattle.record.specs.Limits.{identifierLimit}
+use Rattle.parts.specs.Joined.{textOfLines}
+use Rattle.line.specs.Written.{lineText}
+use Rattle.line.specs.declared.Line.{Line}
+use Rattle.line.specs.declared.Line.the-variants as line
+use Rattle.books.specs.Book.{Book, Message, Placement, Route}
+
+abbrev pub signalLine : Placement → Line
+signalLine p = line.Signal (p .number) (p .start)
+
+-- the line of a route, by the bus and the identifier of each of its places
+abbrev pub routeLine : Route → Line
+routeLine r =
+    line.Route (r .from / identifierLimit) (r .from % identifierLimit) (r .to / identifierLimit) (r .to % identifierLimit)
+
+unfoldable pub messageLines : List Message → List Line
+messageLines [] = []
+messageLines (m ∷ ms) = line.Message (m .identifier) ∷ (map signalLine (m .placements) ++ messageLines ms)
+
+unfoldable pub bookLines : Book → List Line
+bookLines b = messageLines (b .messages) ++ map routeLine (b .routes)
+
+unfoldable pub bookText : Book → List ℕ
+bookText b = textOfLines (map lineText (bookLines b))
+
+-- the places of routes are numbers of 32 bits: a bus below 8 and an identifier below 2^29
+pub data Places : List Route → Type 0 where
+  no-route : Places []
+  route : {r : Route} {rs : List Route} → r .from < 4294967296 → r .to < 4294967296 → Places rs → Places (r ∷ rs)
+
+-- the line numbers of k lines from n on
+unfoldable pub countUp : ℕ → ℕ → List ℕ
+countUp n zero = []
+countUp n (suc k) = n ∷ countUp (suc n) k
