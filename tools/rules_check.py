@@ -1,0 +1,104 @@
+#!/usr/bin/env python3
+"""Holds tools/rules.py against the worked examples that document 01 prints, its two ways to judge routes against each
+other, and the books of examples/ and docs/BOOK.md against tools/rules.py.
+
+    python3 tools/rules_check.py
+"""
+
+import os
+import random
+import re
+
+from rules import (
+    CATALOGUE,
+    SleepWatch,
+    checker_line,
+    checksum,
+    class_of,
+    listing,
+    precharge_complete,
+    read_book,
+    verdict_by_chains,
+    verdict_by_counting,
+)
+
+ROOT = os.path.join(os.path.dirname(__file__), "..")
+
+FIRST = b"M\t18FF21F3\nS\t203\t0\nS\t204\t16\nR\t0\t18FF21F3\t1\t18FF21F3\nR\t1\t18FF21F3\t2\t18FF21D0\n"
+
+CLASSES = [
+    (203, 19999, ("value", -100)),
+    (203, 65535, ("invalid", 65535)),
+    (204, 250, ("value", 100000)),
+    (204, 251, ("outside", 251)),
+    (505, 0, ("value", -40000)),
+    (505, 253, ("absent", 253)),
+    (505, 251, ("outside", 251)),
+    (710, 65535, ("value", 65535)),
+    (1306, 48, ("value", 12000)),
+    (1306, 49, ("outside", 49)),
+    (1705, 2, ("invalid", 2)),
+]
+
+
+def printed_examples():
+    for number, raw, expected in CLASSES:
+        assert class_of(CATALOGUE, number, raw) == expected, number
+    assert checksum(0x18FFFAF3, [0] * 8) == 4
+    assert checksum(0x18FFFAF3, [0xFF] * 7 + [0x0F]) == 5
+    assert precharge_complete(6000, 5700) and not precharge_complete(6000, 5699)
+    assert not precharge_complete(0, 0)
+
+
+def printed_books():
+    assert read_book(FIRST)[0] == ("ok", 1, 2, 2)
+    assert read_book(FIRST + b"R\t2\t18FF21D0\t0\t18FF21F3\n")[0] == ("no", 10, 4)
+    assert read_book(b"M\t00000000\nS\t204\t56\n")[0] == ("ok", 1, 1, 0)
+    assert read_book(b"M\t00000000\nS\t204\t57\n")[0] == ("no", 7, 2)
+    assert read_book(b"M\t00000000\nS\t203\t0\nS\t204\t15\n")[0] == ("no", 8, 3)
+    wanted = "18FF21F3\t203\tvalue\t-100\n18FF21F3\t204\tvalue\t100000\n"
+    assert listing(FIRST, b"18FF21F3\t1F4EFAFFFFFFFFFF\n") == wanted
+
+
+def contents(name):
+    with open(os.path.join(ROOT, name), "rb") as file:
+        return file.read()
+
+
+def example_books():
+    assert contents("examples/first.book") == FIRST
+    assert read_book(contents("examples/loop.book"))[0] == ("no", 10, 4)
+    assert read_book(contents("examples/truck.book"))[0] == ("ok", 14, 112, 16)
+    printed = listing(contents("examples/truck.book"), contents("examples/frames.txt"))
+    assert contents("examples/frames.listing") == printed.encode()
+
+
+def books_of_the_page():
+    """Every book shown in docs/BOOK.md has the answer shown below it."""
+    shown = re.findall(r"```book\n(.*?)```\nAnswer: `(.*?)`", contents("docs/BOOK.md").decode(), re.DOTALL)
+    assert len(shown) > 10
+    for text, answer in shown:
+        assert checker_line(read_book(text.encode())[0]) == answer, text
+
+
+def ages():
+    assert SleepWatch(0).call(9999, False) == "awake"
+    assert SleepWatch(0).call(10000, False) == "asleep"
+
+
+def both_verdicts_agree():
+    chance = random.Random(1)
+    for _ in range(20000):
+        places = range(chance.randint(1, 7))
+        routes = [(chance.choice(places), chance.choice(places)) for _ in range(chance.randint(0, 5))]
+        assert verdict_by_chains(routes) == verdict_by_counting(routes), routes
+
+
+if __name__ == "__main__":
+    printed_examples()
+    printed_books()
+    example_books()
+    books_of_the_page()
+    ages()
+    both_verdicts_agree()
+    print("rules: all worked examples hold")
