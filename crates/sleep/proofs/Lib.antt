@@ -1,0 +1,4 @@
+pub mod OneOutcome
+pub mod Refusals
+pub mod History
+pub mod Worked

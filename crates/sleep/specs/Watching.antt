@@ -1,0 +1,46 @@
+-- The sleep watch, in document 01's words. Assumes nothing.
+use Prim.Native.Nat.{ℕ, _+_, _-_, _%_, _^_}
+use mathlib.Core.Bool.{Bool, false, cond}
+use lib.Dec.{leb}
+use Rattle.sleep.specs.declared.Watch.{Watch}
+use Rattle.sleep.specs.declared.Answer.{Answer}
+use Rattle.sleep.specs.declared.Answer.the-variants.{Taken, ClockWentBack}
+use Rattle.sleep.specs.declared.Updated.{Updated}
+
+-- document 01's number of each answer; 0 is no refusal
+abbrev pub refusal : Answer → ℕ
+refusal Taken = 0
+refusal ClockWentBack = 51
+
+-- a watch from its parts, and what a call leaves: the watch and the answer
+abbrev pub watchOf : ℕ → Bool → Watch
+watchOf lastWake sleeps = record { «last_wake» = lastWake; asleep = sleeps }
+
+abbrev pub outcome : Watch → Answer → Updated
+outcome w a = record { watch = w; answer = a }
+
+-- "it starts awake at the time given"; "awake, last wake = now"
+abbrev pub awakeAt : ℕ → Watch
+awakeAt time = watchOf time false
+
+-- "The age is taken round the 32-bit circle, now minus last wake"
+abbrev pub age : ℕ → ℕ → ℕ
+age time lastWake = (time + 2 ^ 32 - lastWake) % 2 ^ 32
+
+-- "asleep from age 10,000 on"
+abbrev pub sleepsAfter : ℕ
+sleepsAfter = 10000
+
+-- "While asleep no call is refused, and a wake-off call changes nothing"
+abbrev pub whileAsleep : Watch → ℕ → Bool → Updated
+whileAsleep w time wake = outcome (cond wake (awakeAt time) w) Taken
+
+-- "Wake on: awake, last wake = now. Wake off: asleep from age 10,000 on"
+abbrev pub whileAwake : Watch → ℕ → Bool → Watch
+whileAwake w time wake = cond wake (awakeAt time) (watchOf (w .«last_wake») (leb sleepsAfter (age time (w .«last_wake»))))
+
+-- "while awake, an age of 2^31 or more is refusal 51, whether wake is on or off"; 51 leaves the "state kept"
+unfoldable pub afterCall : Watch → ℕ → Bool → Updated
+afterCall w time wake =
+    cond (w .asleep) (whileAsleep w time wake)
+    (cond (leb (2 ^ 31) (age time (w .«last_wake»))) (outcome w ClockWentBack) (outcome (whileAwake w time wake) Taken))
