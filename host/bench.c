@@ -1,0 +1,223 @@
+/* bench IMPLEMENTATION CASE TIMES: makes one call so many times, by the library, by the plain implementation, or by nothing:
+   functions that return at once, which shows what the loop around the calls costs. The count of instructions at two numbers
+   of times, subtracted and divided, less the same of nothing, is the cost of one call: host/measure does that.
+   bench list: the names of the cases. */
+#include "made_text.h"
+#include "plain.h"
+#include "plain_catalogue.h"
+#include <stdio.h>
+#include <stdlib.h>
+#include <string.h>
+
+struct face {
+    uint32_t (*book_read)(const uint8_t *, size_t, uint32_t *, uint32_t *);
+    uint32_t (*class_of)(uint32_t, uint32_t, uint32_t *, int64_t *);
+    uint32_t (*frame_read)(const uint32_t *, uint32_t, const uint8_t *, size_t, uint32_t *, size_t, uint8_t *, size_t, int64_t *, size_t, uint32_t *);
+    uint32_t (*frame_pack)(const uint32_t *, uint32_t, const uint32_t *, size_t, uint8_t *, size_t);
+    uint32_t (*spread)(const uint32_t *, uint32_t, uint32_t, uint32_t *, size_t, uint32_t *);
+    uint32_t (*fault_sum)(const uint32_t *, size_t, uint32_t *);
+    uint32_t (*power_step)(uint32_t *, struct pc_observation);
+    uint32_t (*sleep_watch)(uint32_t *, uint32_t *, uint32_t, uint32_t);
+};
+
+static const struct face library = { pc_book_read, pc_class, pc_frame_read, pc_frame_pack, pc_spread, pc_fault_sum, pc_power_step, pc_sleep_watch };
+static const struct face plain = { plain_book_read, plain_class, plain_frame_read, plain_frame_pack, plain_spread, plain_fault_sum, plain_power_step, plain_sleep_watch };
+
+static uint32_t no_book_read(const uint8_t *a, size_t b, uint32_t *c, uint32_t *d) {
+    (void)a, (void)b, (void)c, (void)d;
+    return 0;
+}
+static uint32_t no_class(uint32_t a, uint32_t b, uint32_t *c, int64_t *d) {
+    (void)a, (void)b, (void)c, (void)d;
+    return 0;
+}
+static uint32_t no_frame_read(const uint32_t *a, uint32_t b, const uint8_t *c, size_t d, uint32_t *e, size_t f, uint8_t *g, size_t h, int64_t *i, size_t j, uint32_t *k) {
+    (void)a, (void)b, (void)c, (void)d, (void)e, (void)f, (void)g, (void)h, (void)i, (void)j, (void)k;
+    return 0;
+}
+static uint32_t no_frame_pack(const uint32_t *a, uint32_t b, const uint32_t *c, size_t d, uint8_t *e, size_t f) {
+    (void)a, (void)b, (void)c, (void)d, (void)e, (void)f;
+    return 0;
+}
+static uint32_t no_spread(const uint32_t *a, uint32_t b, uint32_t c, uint32_t *d, size_t e, uint32_t *f) {
+    (void)a, (void)b, (void)c, (void)d, (void)e, (void)f;
+    return 0;
+}
+static uint32_t no_fault_sum(const uint32_t *a, size_t b, uint32_t *c) {
+    (void)a, (void)b, (void)c;
+    return 0;
+}
+static uint32_t no_power_step(uint32_t *a, struct pc_observation b) {
+    (void)a, (void)b;
+    return 0;
+}
+static uint32_t no_sleep_watch(uint32_t *a, uint32_t *b, uint32_t c, uint32_t d) {
+    (void)a, (void)b, (void)c, (void)d;
+    return 0;
+}
+static const struct face nothing = { no_book_read, no_class, no_frame_read, no_frame_pack, no_spread, no_fault_sum, no_power_step, no_sleep_watch };
+
+/* The one that is measured. */
+static const struct face *face;
+
+/* ---- What the calls are made on. */
+
+static struct made_text text;
+static uint32_t book[PC_BOOK_WORDS], message, first_signal, signal_count;
+static uint8_t frame[PC_FRAME_BYTES];
+static uint32_t values[64], raws[64], places[64], counts[27];
+static uint8_t classes[64];
+static int64_t thousandths[64];
+
+/* The first book that chance makes of this size. */
+static void make_book(uint32_t messages, uint32_t signals, uint32_t routes) {
+    struct chance c = { 2023 };
+    uint32_t line;
+    do
+        make_text(&text, &c, messages, signals, routes);
+    while (plain_book_read(text.bytes, text.length, book, &line) != 0 || book[PC_BOOK_SIGNALS] != signals);
+}
+
+/* A book of one message of thirty relay and fault bits. */
+static void make_thirty_bits(void) {
+    uint32_t line;
+    text.length = (size_t)sprintf((char *)text.bytes, "M\t18FF21F3\n");
+    for (int i = 0; i < 20; i++)
+        text.length += (size_t)sprintf((char *)text.bytes + text.length, "S\t%d\t%d\n", 310 + i, i);
+    for (int i = 0; i < 10; i++)
+        text.length += (size_t)sprintf((char *)text.bytes + text.length, "S\t%d\t%d\n", 1902 + i, 20 + 2 * i);
+    plain_book_read(text.bytes, text.length, book, &line);
+}
+
+/* The last message of the book that has as many signals as any, a frame for it and values. */
+static void choose_message(void) {
+    uint32_t first = 0, count;
+    for (uint32_t m = 0; m < book[PC_BOOK_MESSAGES]; first = book[PC_BOOK_ENDS + m], m++)
+        if (book[PC_BOOK_ENDS + m] - first >= signal_count) {
+            message = book[PC_BOOK_IDENTIFIERS + m];
+            first_signal = first;
+            signal_count = book[PC_BOOK_ENDS + m] - first;
+        }
+    for (uint32_t i = 0; i < signal_count; i++)
+        for (int row = 0; row < PLAIN_ROWS; row++)
+            if (plain_catalogue[row].number == book[PC_BOOK_NUMBERS + first_signal + i])
+                values[i] = plain_catalogue[row].mark_count ? 1 : plain_catalogue[row].highest;
+    if (plain_frame_pack(book, message, values, signal_count, frame, sizeof frame) != 0 ||
+        plain_frame_read(book, message, frame, sizeof frame, raws, 64, classes, 64, thousandths, 64, &count) != 0)
+        exit(3);
+}
+
+static void no_book(void) {
+}
+static void typical_book(void) {
+    make_book(10, 60, 12);
+    choose_message();
+}
+static void full_book(void) {
+    make_book(64, 256, 64);
+    choose_message();
+}
+static void thirty_bits(void) {
+    make_thirty_bits();
+    choose_message();
+}
+static void some_faults(void) {
+    for (int i = 0; i < 27; i++)
+        counts[i] = i % 5 == 0;
+}
+
+/* ---- One call of each kind; `turn` is how many came before. */
+
+static uint32_t call_book_read(uint32_t turn) {
+    uint32_t line;
+    (void)turn;
+    return face->book_read(text.bytes, text.length, book, &line);
+}
+
+/* Each of the 199 signals in turn. */
+static uint32_t call_class(uint32_t turn) {
+    uint32_t class_code;
+    int64_t reading;
+    return face->class_of(plain_catalogue[turn % PLAIN_ROWS].number, 1, &class_code, &reading);
+}
+
+static uint32_t call_frame_read(uint32_t turn) {
+    uint32_t count;
+    (void)turn;
+    return face->frame_read(book, message, frame, sizeof frame, raws, 64, classes, 64, thousandths, 64, &count);
+}
+
+static uint32_t call_frame_pack(uint32_t turn) {
+    (void)turn;
+    return face->frame_pack(book, message, values, signal_count, frame, sizeof frame);
+}
+
+/* From the start of each route in turn. */
+static uint32_t call_spread(uint32_t turn) {
+    uint32_t count, place = book[PC_BOOK_FROM + turn % book[PC_BOOK_ROUTES]];
+    return face->spread(book, PC_BUS(place), PC_IDENTIFIER(place), places, 64, &count);
+}
+
+static uint32_t call_fault_sum(uint32_t turn) {
+    uint32_t sum[PC_FAULT_WORDS];
+    (void)turn;
+    return face->fault_sum(counts, 27, sum);
+}
+
+/* Up and down again, with each picture seen twice. */
+static uint32_t call_power_step(uint32_t turn) {
+    static uint32_t state;
+    static const uint8_t walk[7][4] = { { 1, 1, 1, 1 }, { 2, 1, 1, 1 }, { 2, 2, 1, 1 }, { 2, 2, 2, 1 }, { 2, 1, 2, 1 }, { 2, 1, 1, 2 }, { 1, 1, 1, 2 } };
+    const uint8_t *now = walk[turn / 2 % 7];
+    struct pc_observation seen = { now[0], now[1], now[2], now[3], 0, 20000, 6000, 5900 };
+    return face->power_step(&state, seen);
+}
+
+/* Ten seconds of calls with wake off, one with wake on. */
+static uint32_t call_sleep_watch(uint32_t turn) {
+    static uint32_t last_wake, asleep;
+    return face->sleep_watch(&last_wake, &asleep, turn * 100, turn % 150 == 0);
+}
+
+static const struct {
+    const char *name;
+    void (*prepare)(void);
+    uint32_t (*call)(uint32_t);
+} cases[] = {
+    { "book-read-typical", typical_book, call_book_read },
+    { "book-read-full", full_book, call_book_read },
+    { "frame-read-typical", typical_book, call_frame_read },
+    { "frame-read-full", full_book, call_frame_read },
+    { "frame-read-30-bits", thirty_bits, call_frame_read },
+    { "frame-pack-typical", typical_book, call_frame_pack },
+    { "frame-pack-full", full_book, call_frame_pack },
+    { "frame-pack-30-bits", thirty_bits, call_frame_pack },
+    { "class", no_book, call_class },
+    { "spread-typical", typical_book, call_spread },
+    { "spread-full", full_book, call_spread },
+    { "fault-sum", some_faults, call_fault_sum },
+    { "power-step", no_book, call_power_step },
+    { "sleep-watch", no_book, call_sleep_watch },
+};
+enum { CASES = sizeof cases / sizeof *cases };
+
+int main(int argc, char **argv) {
+    if (argc == 2 && strcmp(argv[1], "list") == 0) {
+        for (int i = 0; i < CASES; i++)
+            puts(cases[i].name);
+        return 0;
+    }
+    for (int i = 0; argc == 4 && i < CASES; i++)
+        if (strcmp(argv[2], cases[i].name) == 0) {
+            uint32_t times = (uint32_t)strtoul(argv[3], 0, 10), refused = 0;
+            face = strcmp(argv[1], "library") == 0 ? &library : strcmp(argv[1], "plain") == 0 ? &plain : &nothing;
+            cases[i].prepare();
+            for (uint32_t turn = 0; turn < times; turn++)
+                refused += cases[i].call(turn) != 0;
+            if (refused)
+                fprintf(stderr, "bench: %u calls were refused\n", (unsigned)refused);
+            return refused != 0;
+        }
+    fprintf(stderr, "bench: usage: bench library|plain|nothing CASE TIMES, or bench list\n");
+    return 2;
+}

@@ -1,0 +1,167 @@
+/* Fault sum, power monitor, sleep watch. */
+#include "plain.h"
+
+/* ---- The fault sum, over rows 1 to 27 of table 19. */
+
+enum { FAULTS = 27 };
+
+static int is_level(unsigned row) {
+    return (row >= 2 && row <= 14) || row == 25;
+}
+
+static int is_one_bit_fault(unsigned row) {
+    return (row >= 15 && row <= 21) || row == 24 || row == 26 || row == 27;
+}
+
+static uint32_t largest(unsigned row) {
+    return row <= 14 || row == 25 ? 3 : row == 23 ? 31 : 1;
+}
+
+uint32_t plain_fault_sum(const uint32_t *counts, size_t counts_length, uint32_t sum[PC_FAULT_WORDS]) {
+    uint32_t highest = 0, standing[4] = { 0, 0, 0, 0 }, set = 0;
+    if (counts_length != FAULTS)
+        return PC_NOT_27_FAULTS;
+    for (unsigned row = 1; row <= FAULTS; row++)
+        if (counts[row - 1] > largest(row))
+            return PC_FAULT_TOO_WIDE;
+    for (unsigned row = 1; row <= FAULTS; row++) {
+        uint32_t count = counts[row - 1];
+        if (is_level(row)) {
+            standing[count]++;
+            if (count > highest)
+                highest = count;
+        } else if (is_one_bit_fault(row)) {
+            set += count;
+        }
+    }
+    sum[PC_FAULT_HIGHEST] = highest;
+    sum[PC_FAULT_AT_1] = standing[1];
+    sum[PC_FAULT_AT_2] = standing[2];
+    sum[PC_FAULT_AT_3] = standing[3];
+    sum[PC_FAULT_SET] = set;
+    sum[PC_FAULT_EMERGENCY] = counts[1] == 3 || counts[2] == 3 || counts[4] == 3 || counts[6] == 3 || counts[7] == 3 || counts[20] == 1;
+    sum[PC_FAULT_AGREES] = counts[0] == highest;
+    return PC_DONE;
+}
+
+/* ---- The power monitor. */
+
+enum { OPEN = 1, CLOSED = 2, INVALID_VOLTAGE = 65535 };
+enum { UP = 1, DOWN = 2, URGENT_DOWN = 3 };
+
+static int open_or_closed(uint32_t relay) {
+    return relay == OPEN || relay == CLOSED;
+}
+
+static int shows(const struct pc_observation *seen, uint32_t main_negative, uint32_t precharge, uint32_t main_positive) {
+    return seen->main_negative == main_negative && seen->precharge == precharge && seen->main_positive == main_positive;
+}
+
+static int shows_picture_of(uint32_t state, const struct pc_observation *seen) {
+    switch (state) {
+    case PC_POWER_OFF:
+        return shows(seen, OPEN, OPEN, OPEN);
+    case PC_POWER_RISING:
+    case PC_POWER_FALLING:
+        return shows(seen, CLOSED, OPEN, OPEN);
+    case PC_POWER_PRECHARGE:
+        return shows(seen, CLOSED, CLOSED, OPEN);
+    case PC_POWER_BOTH:
+        return shows(seen, CLOSED, CLOSED, CLOSED);
+    case PC_POWER_ON:
+        return shows(seen, CLOSED, OPEN, CLOSED);
+    default:
+        return 0;
+    }
+}
+
+static int precharge_complete(const struct pc_observation *seen) {
+    return seen->inside != INVALID_VOLTAGE && seen->outside != INVALID_VOLTAGE && seen->inside > 0 &&
+           100 * seen->outside >= 95 * seen->inside;
+}
+
+static int under_10_amps(const struct pc_observation *seen) {
+    return seen->current >= 19901 && seen->current <= 20099;
+}
+
+/* Rules 3 to 5: the step to a state that shows, where it is allowed; else fault. */
+static uint32_t step_from(uint32_t state, const struct pc_observation *seen, int urgent) {
+    int up = seen->command == UP, down = seen->command == DOWN;
+    switch (state) {
+    case PC_POWER_OFF:
+        if (up && shows_picture_of(PC_POWER_RISING, seen))
+            return PC_POWER_RISING;
+        break;
+    case PC_POWER_RISING:
+        if (up && shows_picture_of(PC_POWER_PRECHARGE, seen))
+            return PC_POWER_PRECHARGE;
+        if (down && shows_picture_of(PC_POWER_OFF, seen))
+            return PC_POWER_OFF;
+        break;
+    case PC_POWER_PRECHARGE:
+        if (up && precharge_complete(seen) && shows_picture_of(PC_POWER_BOTH, seen))
+            return PC_POWER_BOTH;
+        if ((down || urgent) && shows_picture_of(PC_POWER_FALLING, seen))
+            return PC_POWER_FALLING;
+        break;
+    case PC_POWER_BOTH:
+        if (shows_picture_of(PC_POWER_ON, seen))
+            return PC_POWER_ON;
+        break;
+    case PC_POWER_ON:
+        if ((urgent || (down && under_10_amps(seen))) && shows_picture_of(PC_POWER_FALLING, seen))
+            return PC_POWER_FALLING;
+        break;
+    case PC_POWER_FALLING:
+        if (shows_picture_of(PC_POWER_OFF, seen))
+            return PC_POWER_OFF;
+        break;
+    }
+    return PC_POWER_FAULT;
+}
+
+static uint32_t next_state(uint32_t state, const struct pc_observation *seen) {
+    int urgent = seen->command == URGENT_DOWN || seen->emergency_off == 1;
+    int all_open = shows(seen, OPEN, OPEN, OPEN);
+    if (state == PC_POWER_FAULT)
+        return all_open && (seen->command == 0 || seen->command == DOWN) ? PC_POWER_OFF : PC_POWER_FAULT;
+    if (shows_picture_of(state, seen))
+        return state;
+    if (urgent && all_open)
+        return PC_POWER_OFF;
+    return step_from(state, seen, urgent);
+}
+
+uint32_t plain_power_step(uint32_t *state, struct pc_observation seen) {
+    if (*state > PC_POWER_FAULT)
+        return PC_NOT_A_POWER_STATE;
+    if (!open_or_closed(seen.main_negative) || !open_or_closed(seen.precharge) || !open_or_closed(seen.main_positive))
+        return PC_RELAY_COUNT;
+    if (seen.command > 3 || seen.emergency_off > 3)
+        return PC_COMMAND_COUNT;
+    if (seen.current > 65535 || seen.inside > 65535 || seen.outside > 65535)
+        return PC_READING_COUNT;
+    *state = next_state(*state, &seen);
+    return PC_DONE;
+}
+
+/* ---- The sleep watch. */
+
+uint32_t plain_sleep_start(uint32_t *last_wake, uint32_t *asleep, uint32_t now) {
+    *last_wake = now;
+    *asleep = 0;
+    return PC_DONE;
+}
+
+uint32_t plain_sleep_watch(uint32_t *last_wake, uint32_t *asleep, uint32_t now, uint32_t wake) {
+    uint32_t age = now - *last_wake;
+    if (*asleep > 1)
+        return PC_NOT_A_SLEEP_STATE;
+    if (!*asleep && age >= (uint32_t)1 << 31)
+        return PC_CLOCK_WENT_BACK;
+    if (wake)
+        return plain_sleep_start(last_wake, asleep, now);
+    if (age >= 10000)
+        *asleep = 1;
+    return PC_DONE;
+}

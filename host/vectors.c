@@ -1,0 +1,259 @@
+/* vectors SUBJECT: runs the cases of tools/SUBJECT_vectors.py from standard input and prints what came out, a line a case.
+   The subjects are catalogue, routes, book, frames, packing, record, faults, power and sleep. For catalogue the
+   input is signal numbers and raw counts, one pair a line. */
+#include "face.h"
+#include <inttypes.h>
+#include <stdio.h>
+#include <stdlib.h>
+#include <string.h>
+
+enum { MOST_BYTES = 1 << 20 };
+static uint8_t input[MOST_BYTES];
+static size_t length, at;
+static uint32_t book[PC_BOOK_WORDS];
+
+static uint32_t hex(int digits) {
+    uint32_t value = 0;
+    for (int i = 0; i < digits; i++) {
+        uint8_t c = at < length ? input[at++] : '0';
+        value = value * 16 + (uint32_t)(c <= '9' ? c - '0' : c - 'A' + 10);
+    }
+    return value;
+}
+
+static void end_of_line(void) {
+    if (at >= length || input[at] != '\n') {
+        fprintf(stderr, "vectors: byte %zu of the input ends no line\n", at);
+        exit(2);
+    }
+    at++;
+}
+
+static void print_refusal(uint32_t refusal) {
+    printf("no\t%" PRIu32 "\n", refusal);
+}
+
+/* A length, a newline, the text, a newline: the text becomes the book. */
+static uint32_t read_book(uint32_t *line) {
+    uint32_t bytes = hex(8);
+    end_of_line();
+    uint32_t refusal = FACE(book_read)(input + at, bytes, book, line);
+    at += bytes;
+    end_of_line();
+    return refusal;
+}
+
+static void catalogue_case(void) {
+    unsigned number, raw;
+    uint32_t class_code;
+    int64_t thousandths;
+    char line[64];
+    size_t bytes = 0;
+    while (at < length && input[at] != '\n' && bytes + 1 < sizeof line)
+        line[bytes++] = (char)input[at++];
+    line[bytes] = 0;
+    end_of_line();
+    if (sscanf(line, "%u\t%u", &number, &raw) != 2) {
+        fprintf(stderr, "vectors: ill-formed pair '%s'\n", line);
+        exit(2);
+    }
+    uint32_t refusal = FACE(class)(number, raw, &class_code, &thousandths);
+    if (refusal)
+        printf("%u\t%u\tno\t%" PRIu32 "\n", number, raw, refusal);
+    else if (class_code == PC_VALUE)
+        printf("%u\t%u\tvalue\t%" PRId64 "\n", number, raw, thousandths);
+    else
+        printf("%u\t%u\t%s\t%u\n", number, raw, class_words[class_code], raw);
+}
+
+static void print_spread(uint32_t bus, uint32_t identifier, uint32_t room, const char *word) {
+    uint32_t places[256], count;
+    uint32_t refusal = FACE(spread)(book, bus, identifier, places, room, &count);
+    if (refusal) {
+        print_refusal(refusal);
+        return;
+    }
+    printf("%s\t%" PRIu32, word, count);
+    for (uint32_t i = 0; i < count; i++)
+        printf("\t%08" PRIX32, places[i]);
+    printf("\n");
+}
+
+/* The routes become a text of R lines, so the book reader judges them. */
+static void routes_case(void) {
+    char text[PC_MOST_ROUTES * 32];
+    size_t bytes = 0;
+    uint32_t count = hex(2), line;
+    for (uint32_t i = 0; i < count; i++) {
+        uint32_t from = hex(8), to = hex(8);
+        bytes += (size_t)sprintf(text + bytes, "R\t%" PRIu32 "\t%08" PRIX32 "\t%" PRIu32 "\t%08" PRIX32 "\n", PC_BUS(from),
+                                 PC_IDENTIFIER(from), PC_BUS(to), PC_IDENTIFIER(to));
+    }
+    uint32_t place = hex(8);
+    end_of_line();
+    uint32_t refusal = FACE(book_read)((const uint8_t *)text, bytes, book, &line);
+    if (refusal == PC_CLOSED_CHAIN)
+        printf("loop\t%" PRIu32 "\n", line - 1);
+    else if (refusal == PC_DOUBLE_CHAIN)
+        printf("doubling\t%" PRIu32 "\n", line - 1);
+    else if (refusal)
+        print_refusal(refusal);
+    else
+        print_spread(PC_BUS(place), PC_IDENTIFIER(place), PC_MOST_ROUTES, "sound");
+}
+
+static void book_case(void) {
+    uint32_t line, refusal = read_book(&line);
+    if (refusal)
+        printf("no\t%" PRIu32 "\t%" PRIu32 "\n", refusal, line);
+    else
+        printf("ok\t%" PRIu32 "\t%" PRIu32 "\t%" PRIu32 "\n", book[PC_BOOK_MESSAGES], book[PC_BOOK_SIGNALS], book[PC_BOOK_ROUTES]);
+}
+
+static void read_case(void) {
+    uint32_t identifier = hex(8), room = hex(2), bytes = hex(2), raws[256], count;
+    uint8_t frame[256], classes[256];
+    int64_t thousandths[256];
+    for (uint32_t i = 0; i < bytes; i++)
+        frame[i] = (uint8_t)hex(2);
+    end_of_line();
+    uint32_t refusal = FACE(frame_read)(book, identifier, frame, bytes, raws, room, classes, room, thousandths, room, &count);
+    if (refusal) {
+        print_refusal(refusal);
+        return;
+    }
+    printf("read\t%" PRIu32, count);
+    for (uint32_t i = 0; i < count; i++)
+        printf("\t%" PRIu32 "\t%s\t%" PRId64, raws[i], class_words[classes[i]], thousandths[i]);
+    printf("\n");
+}
+
+static void pack_case(void) {
+    uint32_t identifier = hex(8), bytes = hex(2), count = hex(2), values[256];
+    uint8_t frame[256];
+    for (uint32_t i = 0; i < count; i++)
+        values[i] = hex(8);
+    end_of_line();
+    uint32_t refusal = FACE(frame_pack)(book, identifier, values, count, frame, bytes);
+    if (refusal) {
+        print_refusal(refusal);
+        return;
+    }
+    printf("packed\t");
+    for (int i = 0; i < PC_FRAME_BYTES; i++)
+        printf("%02X", frame[i]);
+    printf("\n");
+}
+
+static void spread_case(void) {
+    uint32_t bus = hex(8), identifier = hex(8), room = hex(2);
+    end_of_line();
+    print_spread(bus, identifier, room, "spread");
+}
+
+/* Sets one entry of the book: a column's letter, an index, the value. */
+static void damage_book(void) {
+    static const struct { char letter; int first; } columns[] = {
+        { 'M', PC_BOOK_MESSAGES }, { 'S', PC_BOOK_SIGNALS }, { 'R', PC_BOOK_ROUTES }, { 'I', PC_BOOK_IDENTIFIERS },
+        { 'E', PC_BOOK_ENDS }, { 'N', PC_BOOK_NUMBERS }, { 'T', PC_BOOK_STARTS }, { 'F', PC_BOOK_FROM }, { 'G', PC_BOOK_TO },
+    };
+    char letter = (char)input[at++];
+    uint32_t index = hex(2), value = hex(8);
+    end_of_line();
+    for (size_t i = 0; i < sizeof columns / sizeof *columns; i++)
+        if (columns[i].letter == letter)
+            book[(uint32_t)columns[i].first + index] = value;
+}
+
+/* A line of the frames, packing and record streams, by its first byte. */
+static void lent_book_case(void) {
+    uint32_t line;
+    switch (input[at++]) {
+    case 'B':
+        read_book(&line);
+        return;
+    case 'F':
+        read_case();
+        return;
+    case 'P':
+        pack_case();
+        return;
+    case 'S':
+        spread_case();
+        return;
+    case 'X':
+        damage_book();
+        return;
+    default:
+        fprintf(stderr, "vectors: byte %zu begins no case\n", at - 1);
+        exit(2);
+    }
+}
+
+static void faults_case(void) {
+    uint32_t count = hex(2), counts[256], sum[PC_FAULT_WORDS];
+    for (uint32_t i = 0; i < count; i++)
+        counts[i] = hex(8);
+    end_of_line();
+    uint32_t refusal = FACE(fault_sum)(counts, count, sum);
+    if (refusal) {
+        print_refusal(refusal);
+        return;
+    }
+    printf("sum");
+    for (int i = 0; i < PC_FAULT_WORDS; i++)
+        printf("\t%" PRIu32, sum[i]);
+    printf("\n");
+}
+
+static void power_case(void) {
+    uint32_t state = hex(1);
+    struct pc_observation seen;
+    seen.main_negative = hex(8);
+    seen.precharge = hex(8);
+    seen.main_positive = hex(8);
+    seen.command = hex(8);
+    seen.emergency_off = hex(8);
+    seen.current = hex(8);
+    seen.inside = hex(8);
+    seen.outside = hex(8);
+    end_of_line();
+    uint32_t refusal = FACE(power_step)(&state, seen);
+    if (refusal)
+        print_refusal(refusal);
+    else
+        printf("%" PRIu32 "\n", state);
+}
+
+static void sleep_case(void) {
+    static uint32_t last_wake, asleep;
+    char letter = (char)input[at++];
+    uint32_t time = hex(8);
+    end_of_line();
+    if (letter == 'N') {
+        FACE(sleep_start)(&last_wake, &asleep, time);
+        return;
+    }
+    uint32_t refusal = FACE(sleep_watch)(&last_wake, &asleep, time, letter == 'W');
+    if (refusal)
+        print_refusal(refusal);
+    else
+        printf("%s\t%" PRIu32 "\n", asleep ? "asleep" : "awake", last_wake);
+}
+
+int main(int argc, char **argv) {
+    static const struct { const char *subject; void (*run)(void); } subjects[] = {
+        { "catalogue", catalogue_case }, { "routes", routes_case }, { "book", book_case }, { "frames", lent_book_case },
+        { "packing", lent_book_case }, { "record", lent_book_case }, { "faults", faults_case },
+        { "power", power_case }, { "sleep", sleep_case },
+    };
+    length = fread(input, 1, sizeof input, stdin);
+    for (size_t i = 0; argc == 2 && i < sizeof subjects / sizeof *subjects; i++)
+        if (strcmp(argv[1], subjects[i].subject) == 0) {
+            while (at < length)
+                subjects[i].run();
+            return 0;
+        }
+    fprintf(stderr, "vectors: usage: vectors SUBJECT < cases\n");
+    return 2;
+}
