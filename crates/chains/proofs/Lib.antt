@@ -6,3 +6,4 @@ pub mod Forks
 pub mod Tests
 pub mod Longest
 pub mod Spreads
+pub mod Marks

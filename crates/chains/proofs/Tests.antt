@@ -38,6 +38,26 @@ pub record First (P : ℕ → Bool) (n r : ℕ) : Type 0 where
   pub before : (k : ℕ) → k < r → P k ≡ false
   pub found : r < n → P r ≡ true
 
+-- there is such a number
+pub first : (P : ℕ → Bool) (n : ℕ) → (r : ℕ) × First P n r
+first P zero = (0, record { within = omega arith; before = λ k l. absurd (omega arith); found = λ l. absurd (omega arith) })
+first P (suc n) = go (first P n) (P n) refl
+  where
+    go : (r : ℕ) × First P n r → (b : Bool) → P n ≡ b → (r : ℕ) × First P (suc n) r
+    go (r, f) b e = at (eq-or-lt-of-le (f .within)) b e
+      where
+        at : (r ≡ n) ⊎ (r < n) → (b : Bool) → P n ≡ b → (r : ℕ) × First P (suc n) r
+        at (inr l) b e = (r, record { within = omega arith; before = f .before; found = λ _. f .found l })
+        at (inl k) true e = (n, record { within = omega arith; before = λ x l. f .before x (omega arith); found = λ _. e })
+        at (inl k) false e = (
+          suc n,
+          record {
+            within = omega arith;
+            before = λ x l. ⊎-elim (λ h. let y : x ≡ n = omega arith in ap P y ∙ e) (λ h. f .before x (omega arith)) (eq-or-lt-of-le l);
+            found = λ l. absurd (omega arith);
+          },
+        )
+
 module _ (fs ts : List ℕ) where
   unfoldable pub comesTo : ℕ → ℕ → Bool
   comesTo i j = reach fs ts (length fs) i (getD fs j 0) || eqb j i

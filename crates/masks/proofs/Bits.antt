@@ -1,0 +1,107 @@
+-- How the operations on masks act on their bits. Assumes nothing.
+use mathlib.Core.Path.{_≡_, refl, sym, ap, _∙_, subst}
+use Prim.Native.Nat.{ℕ, zero, suc, _+_, _*_, _/_, _%_, _^_, _<_, max, min}
+use mathlib.Core.Bool.{Bool, true, false, not, _||_, _&&_}
+use native.Mathlib.Nat.{mod-lt, zero-lt-suc, max-comm, pow-succ', div-div-eq-div-mul, mod-eq-of-lt, one-mul, div-one}
+use native.Mathlib.Omega.{arith}
+use lib.Bits.{bitOr, bitAnd, or-step, and-step, or-shr, and-shr, shifted-half, shifted-even}
+use lib.Pow.{pow-lt}
+use lib.Dec.{eqb, eqb·zero-suc, eqb·suc-zero, eqb·suc-suc}
+use borrow.Author.Tests.{eqb-true, eqb-false, eq-eqb, not-true, not-false}
+use Rattle.masks.specs.Bit.{bit, meeting, contained}
+
+or-low : (a b : ℕ) → bitOr a b % 2 ≡ max (a % 2) (b % 2)
+or-low a b = omega (arith, or-step a b)
+
+pub bit-or : (a b k : ℕ) → bit (bitOr a b) k ≡ bit a k || bit b k
+unfolding bit
+bit-or a b k = rw (or-shr, or-low) (go (a / 2 ^ k % 2) (b / 2 ^ k % 2) (omega arith) (omega arith))
+  where
+    go : (x y : ℕ) → x < 2 → y < 2 → eqb (max x y) 1 ≡ eqb x 1 || eqb y 1
+    go zero zero h k = refl
+    go zero (suc zero) h k = refl
+    go (suc zero) zero h k = refl
+    go (suc zero) (suc zero) h k = refl
+    go zero (suc (suc y)) h k = absurd (omega arith)
+    go (suc zero) (suc (suc y)) h k = absurd (omega arith)
+    go (suc (suc x)) y h k = absurd (omega arith)
+
+bit-suc : (m k : ℕ) → bit m (suc k) ≡ bit (m / 2) k
+unfolding bit
+bit-suc m k = rw (pow-succ', ← div-div-eq-div-mul)
+
+pub bit-zero : (k : ℕ) → bit 0 k ≡ false
+unfolding bit
+bit-zero zero = refl
+bit-zero (suc k) = bit-suc 0 k ∙ bit-zero k
+
+pub bit-one : (k j : ℕ) → bit (1 * 2 ^ k) j ≡ eqb j k
+unfolding bit
+bit-one zero zero = refl
+bit-one zero (suc j) = bit-suc 1 j ∙ bit-zero j ∙ sym (eqb·suc-zero j)
+bit-one (suc k) zero = ap (λ (n : ℕ). eqb (n % 2) 1) (div-one (1 * 2 ^ suc k)) ∙ ap (λ (n : ℕ). eqb n 1) (shifted-even 1 k) ∙ sym (eqb·zero-suc k)
+bit-one (suc k) (suc j) = bit-suc (1 * 2 ^ suc k) j ∙ ap (λ (n : ℕ). bit n j) (shifted-half 1 k) ∙ bit-one k j ∙ sym (eqb·suc-suc j k)
+
+pub bit-with : (m k j : ℕ) → k < 64 → bit (bitOr m (1 * 2 ^ k % 2 ^ 64)) j ≡ bit m j || eqb j k
+bit-with m k j l =
+    let h : 1 * 2 ^ k < 2 ^ 64 = rw one-mul (pow-lt l) in
+    ap (λ (n : ℕ). bit (bitOr m n) j) (mod-eq-of-lt h) ∙ rw (bit-or, bit-one)
+
+and-low : (a b : ℕ) → bitAnd a b % 2 ≡ min (a % 2) (b % 2)
+and-low a b = omega (arith, and-step a b)
+
+pub bit-and : (a b k : ℕ) → bit (bitAnd a b) k ≡ bit a k && bit b k
+unfolding bit
+bit-and a b k = rw (and-shr, and-low) (go (a / 2 ^ k % 2) (b / 2 ^ k % 2) (omega arith) (omega arith))
+  where
+    go : (x y : ℕ) → x < 2 → y < 2 → eqb (min x y) 1 ≡ eqb x 1 && eqb y 1
+    go zero zero h k = refl
+    go zero (suc zero) h k = refl
+    go (suc zero) zero h k = refl
+    go (suc zero) (suc zero) h k = refl
+    go zero (suc (suc y)) h k = absurd (omega arith)
+    go (suc zero) (suc (suc y)) h k = absurd (omega arith)
+    go (suc (suc x)) y h k = absurd (omega arith)
+
+true-false : {b : Bool} → b ≡ true → b ≡ false → ⊥
+true-false p q = let z : _≡_ {A = ℕ} 0 1 = cc in omega arith
+
+-- a number that is not 0 has a bit
+some-bit : (w n : ℕ) → n < 2 ^ w → (n ≡ 0 → ⊥) → (k : ℕ) × (k < w) × (bit n k ≡ true)
+unfolding bit
+some-bit zero n h nz = absurd (nz (omega arith))
+some-bit (suc w) n h nz = go (eqb (n % 2) 1) refl (λ z. some-bit w (n / 2) (omega (arith, pow-succ' 2 w)) z)
+  where
+    go : (b : Bool) → eqb (n % 2) 1 ≡ b → ((n / 2 ≡ 0 → ⊥) → (k : ℕ) × (k < w) × (bit (n / 2) k ≡ true)) → (k : ℕ) × (k < suc w) × (bit n k ≡ true)
+    go true e rest = (0, omega arith, ap (λ (m : ℕ). eqb (m % 2) 1) (div-one n) ∙ e)
+    go false e rest =
+        let odd = eqb-false (n % 2) 1 e in
+        let r = rest (λ z. nz (omega arith)) in
+        (suc (r .0), omega (arith, r .1), bit-suc n (r .0) ∙ r .2)
+
+and-parts : (a b : Bool) → a && b ≡ true → (a ≡ true) × (b ≡ true)
+and-parts true b e = (refl, e)
+and-parts false b e = (e, (cc))
+
+below-pow : (n : ℕ) → n < 2 ^ n
+below-pow zero = omega arith
+below-pow (suc n) = omega (arith, below-pow n, pow-succ' 2 n)
+
+-- masks that meet have a bit in common
+pub meeting-some : (a b : ℕ) → meeting a b ≡ true → (k : ℕ) × (bit a k ≡ true) × (bit b k ≡ true)
+unfolding meeting
+meeting-some a b e =
+    let r = some-bit (bitAnd a b) (bitAnd a b) (below-pow (bitAnd a b)) (eqb-false (bitAnd a b) 0 (not-true (eqb (bitAnd a b) 0) e)) in
+    let t = and-parts (bit a (r .0)) (bit b (r .0)) (sym (bit-and a b (r .0)) ∙ r .2) in
+    (r .0, t .0, t .1)
+
+-- and those that don't have none
+pub meeting-none : (a b : ℕ) → meeting a b ≡ false → (k : ℕ) → bit a k ≡ true → bit b k ≡ true → ⊥
+unfolding meeting
+meeting-none a b e k x y =
+    let z : bitAnd a b ≡ 0 = eqb-true (bitAnd a b) 0 (not-false (eqb (bitAnd a b) 0) e) in
+    true-false (bit-and a b k ∙ (rw (x, y))) (ap (λ (n : ℕ). bit n k) z ∙ bit-zero k)
+
+pub contained-bit : (a b : ℕ) → contained a b ≡ true → (k : ℕ) → bit a k ≡ true → bit b k ≡ true
+unfolding contained
+contained-bit a b e k x = and-parts (bit a k) (bit b k) (sym (bit-and a b k) ∙ ap (λ (n : ℕ). bit n k) (eqb-true (bitAnd a b) a e) ∙ x) .1

@@ -1,0 +1,39 @@
+-- The loops of the searches. Assumes nothing.
+use mathlib.Core.Path.{_≡_, refl, sym, ap, _∙_}
+use mathlib.Core.Bool.{Bool, true, false, _||_, or-false, or-true}
+use Prim.Native.Nat.{ℕ, zero, suc, _+_, _<_, _≤_}
+use native.Mathlib.Omega.{arith}
+use native.Mathlib.Numerals.{add-one}
+use borrow.Author.Count.{below-more}
+use Rattle.chains.proofs.Tests.{any, First}
+
+-- none of those below i passes
+pub record Passed (P : ℕ → Bool) (n i : ℕ) : Type 0 where
+  pub within : i ≤ n
+  pub none : (k : ℕ) → k < i → P k ≡ false
+
+pub passed-start : (P : ℕ → Bool) (n : ℕ) → Passed P n 0
+passed-start P n = record { within = omega arith; none = λ k l. absurd (omega arith) }
+
+pub passed-more : (P : ℕ → Bool) (n i : ℕ) → Passed P n i → i < n → P i ≡ false → Passed P n (i + 1)
+passed-more P n i h l e = record { within = omega arith; none = below-more (λ (k : ℕ). P k ≡ false) i (h .none) e }
+
+pub first-here : (P : ℕ → Bool) (n i : ℕ) → Passed P n i → P i ≡ true → First P n i
+first-here P n i h e = record { within = h .within; before = h .none; found = λ l. e }
+
+pub first-none : (P : ℕ → Bool) (n i : ℕ) → Passed P n i → n ≤ i → First P n i
+first-none P n i h l = record { within = h .within; before = h .none; found = λ l′. absurd (omega arith) }
+
+-- the bool r says whether one of those below i passes
+pub record Sought (P : ℕ → Bool) (n i : ℕ) (r : Bool) : Type 0 where
+  pub within : i ≤ n
+  pub is : r ≡ any i P
+
+pub sought-hit : (P : ℕ → Bool) (n i : ℕ) (r : Bool) → Sought P n i r → i < n → P i ≡ true → Sought P n (i + 1) true
+sought-hit P n i r h l e = record { within = omega arith; is = rw (add-one, e) (sym (or-true (any i P))) }
+
+pub sought-miss : (P : ℕ → Bool) (n i : ℕ) (r : Bool) → Sought P n i r → i < n → P i ≡ false → Sought P n (i + 1) r
+sought-miss P n i r h l e = record { within = omega arith; is = h .is ∙ (rw (add-one, e) (sym (or-false (any i P)))) }
+
+pub sought-end : (P : ℕ → Bool) (n i : ℕ) (r : Bool) → Sought P n i r → n ≤ i → r ≡ any n P
+sought-end P n i r h l = let e : i ≡ n = omega (arith, h .within) in h .is ∙ ap (λ (k : ℕ). any k P) e
