@@ -1,5 +1,6 @@
 -- A signal's row is the one at its place, and a signal that the catalogue lacks has none. Assumes nothing.
 use mathlib.Core.Path.{_≡_, refl, sym, ap, _∙_, subst}
+use mathlib.Core.Logic.{_⊎_, inl, inr, ⊎-elim}
 use mathlib.Core.Bool.{Bool, true, false, cond}
 use mathlib.Core.List.{List, [], _∷_}
 use mathlib.Core.Option.{Option, none, some}
@@ -13,9 +14,10 @@ use Rattle.catalogue.specs.declared.Row.{Row}
 use Rattle.catalogue.specs.Rows.{rows, blank}
 use Rattle.catalogue.specs.Find.{rowIn, placeIn, rowOf, placeOf, bitsIn, bitsOf}
 use Rattle.catalogue.specs.Rule.{mostBits}
-use Rattle.catalogue.specs.Shapes.{numbers, shapes, widths, shapedRow}
-use Rattle.catalogue.proofs.Whole.{all-kept, count, within-rows, rule-at, numberAt, begin, begin-le, stands, stands-there, table-of}
-use Rattle.catalogue.proofs.Shaped.{row-is, bits-are}
+use Rattle.catalogue.specs.Shapes.{shapes, widths, rowShaped, noShape, shapeOf, begin, rowCount}
+use Rattle.catalogue.proofs.Arms.{past}
+use Rattle.catalogue.proofs.Whole.{all-kept, count, within-rows, rule-at, numberAt, table-end, stands, stands-there, table-of}
+use Rattle.catalogue.proofs.Shaped.{forget, shaped-at, bits-are}
 
 -- ---- in any table
 
@@ -68,17 +70,20 @@ module _ (n : ℕ) where
   pub row-zero : n % 100 ≡ 0 → placeOf n ≡ 199
   row-zero z = place-none n (λ i p e. let w = stands n i p e in omega arith)
 
-  pub inside-table : n / 100 < 20 → (n % 100 ≡ 0 → ⊥) → begin (n / 100) + n % 100 - 1 < begin (n / 100 + 1) → placeOf n ≡ begin (n / 100) + n % 100 - 1
+  pub past-table : rowCount (n / 100) < n % 100 → placeOf n ≡ 199
+  past-table h = place-none n (λ i p e. let w = stands n i p e in omega arith)
+
+  pub inside-rows : n / 100 < 20 → (n % 100 ≡ 0 → ⊥) → n % 100 ≤ rowCount (n / 100) → begin (n / 100) + n % 100 - 1 < 199
+  inside-rows t z h = omega (arith, table-end (n / 100) t)
+
+  pub inside-table : n / 100 < 20 → (n % 100 ≡ 0 → ⊥) → n % 100 ≤ rowCount (n / 100) → placeOf n ≡ begin (n / 100) + n % 100 - 1
   inside-table t z h =
       let i = begin (n / 100) + n % 100 - 1 in
-      let p : i < 199 = omega (arith, begin-le (n / 100 + 1)) in
-      let w = table-of (n / 100) i t p (omega arith) h in
+      let p = inside-rows t z h in
+      let w = table-of (n / 100) i t p (omega arith) (omega arith) in
       let s = stands-there i p .place in
       let k : begin (numberAt i / 100) ≡ begin (n / 100) = ap begin w in
       place-is n i p (omega arith)
-
-  pub past-table : begin (n / 100 + 1) ≤ begin (n / 100) + n % 100 - 1 → placeOf n ≡ 199
-  past-table h = place-none n (λ i p e. let w = stands n i p e in omega arith)
 
 pub row-there : (n : ℕ) → placeOf n < 199 → rowOf n ≡ some (getD rows (placeOf n) blank)
 unfolding placeOf rowOf
@@ -88,26 +93,40 @@ pub row-none : (n : ℕ) → 199 ≤ placeOf n → rowOf n ≡ none
 unfolding placeOf rowOf
 row-none n h = no-row n rows (subst (λ (m : ℕ). m ≤ placeIn n rows) (sym count) h)
 
-pub row-shaped : (n : ℕ) → placeOf n < 199 → rowOf n ≡ some (shapedRow (getD numbers (placeOf n) 0) (getD shapes (placeOf n) 0))
-row-shaped n h = row-there n h ∙ ap some (row-is (placeOf n) h)
+here-or-not : (n : ℕ) → (placeOf n < 199) ⊎ (199 ≤ placeOf n)
+here-or-not n = go (ltb (placeOf n) 199) refl
+  where
+    go : (b : Bool) → ltb (placeOf n) 199 ≡ b → (placeOf n < 199) ⊎ (199 ≤ placeOf n)
+    go true e = inl (ltb-true (placeOf n) 199 e)
+    go false e = inr (ltb-false (placeOf n) 199 e)
+
+-- a signal's row, its number forgotten, is the row of its shape
+pub by-shape : (n : ℕ) → rowShaped (shapeOf n) ≡ forget (rowOf n)
+by-shape n = ⊎-elim there nowhere (here-or-not n)
+  where
+    there : placeOf n < 199 → rowShaped (shapeOf n) ≡ forget (rowOf n)
+    there h = shaped-at (placeOf n) h ∙ sym (ap forget (row-there n h))
+
+    nowhere : 199 ≤ placeOf n → rowShaped (shapeOf n) ≡ forget (rowOf n)
+    nowhere h = ap rowShaped (past shapes (placeOf n) noShape h) ∙ sym (ap forget (row-none n h))
 
 -- ---- its bits
 
-pub bits-none : (n : ℕ) → 199 ≤ placeOf n → bitsOf n ≡ 0
-unfolding bitsOf
-bits-none n h = ap bitsIn (row-none n h)
+same-bits : (o : Option Row) → bitsIn (forget o) ≡ bitsIn o
+same-bits none = refl
+same-bits (some r) = refl
 
-pub bits-there : (n : ℕ) → placeOf n < 199 → bitsOf n ≡ getD widths (getD shapes (placeOf n) 0) 0
+pub bits-by-shape : (n : ℕ) → bitsOf n ≡ getD widths (shapeOf n) 0
 unfolding bitsOf
-bits-there n h = ap bitsIn (row-shaped n h) ∙ sym (bits-are (getD numbers (placeOf n) 0) (getD shapes (placeOf n) 0))
+bits-by-shape n = sym (bits-are (shapeOf n) ∙ ap bitsIn (by-shape n) ∙ same-bits (rowOf n))
 
 -- no signal has more than 32 bits
 pub few-bits : (n : ℕ) → bitsOf n ≤ mostBits
 unfolding bitsOf
-few-bits n = go (ltb (placeOf n) 199) refl
+few-bits n = ⊎-elim there nowhere (here-or-not n)
   where
-    go : (b : Bool) → ltb (placeOf n) 199 ≡ b → bitsIn (rowOf n) ≤ mostBits
-    go true e =
-        let h = ltb-true (placeOf n) 199 e in
-        subst (λ (o : Option Row). bitsIn o ≤ mostBits) (sym (row-there n h)) (rule-at (placeOf n) h .few-bits)
-    go false e = subst (λ (o : Option Row). bitsIn o ≤ mostBits) (sym (row-none n (ltb-false (placeOf n) 199 e))) (omega arith)
+    there : placeOf n < 199 → bitsIn (rowOf n) ≤ mostBits
+    there h = subst (λ (o : Option Row). bitsIn o ≤ mostBits) (sym (row-there n h)) (rule-at (placeOf n) h .few-bits)
+
+    nowhere : 199 ≤ placeOf n → bitsIn (rowOf n) ≤ mostBits
+    nowhere h = subst (λ (o : Option Row). bitsIn o ≤ mostBits) (sym (row-none n h)) (omega arith)

@@ -1,3 +1,4 @@
+pub mod Arms
 pub mod Table
 pub mod Whole
 pub mod Shaped

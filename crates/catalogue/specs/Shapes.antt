@@ -1,9 +1,11 @@
 -- The rows by their shapes: many signals differ in the number alone. This serves the code, which finds a row by its shape
 -- without building the table; proofs/Shaped.antt shows that numbers and shapes together are the table. Assumes nothing.
-use mathlib.Core.List.{List, [], _∷_}
-use Prim.Native.Nat.{ℕ}
+use mathlib.Core.List.{List, [], _∷_, map}
+use mathlib.Core.Option.{Option, none, some}
+use Prim.Native.Nat.{ℕ, _/_, _%_}
 use lib.ListN.{getD}
 use Rattle.catalogue.specs.declared.Row.{Row}
+use Rattle.catalogue.specs.Find.{placeOf}
 use Rattle.catalogue.specs.Rows.{plus, minus, invalid, absent, error, reserved, unmarked, row, blank}
 
 -- the number of each row
@@ -82,6 +84,18 @@ shaped n =
 abbrev pub shapedRow : ℕ → ℕ → Row
 shapedRow n s = getD (shaped n) s blank
 
+-- how many shapes there are; as a shape it is that of no signal
+abbrev pub noShape : ℕ
+noShape = 37
+
+-- the shape of the signal with the number n
+abbrev pub shapeOf : ℕ → ℕ
+shapeOf n = getD shapes (placeOf n) noShape
+
+-- the row with the shape s and no number of its own, if there is such a shape
+abbrev pub rowShaped : ℕ → Option Row
+rowShaped s = getD (map some (shaped 0)) s none
+
 -- the bits of each shape
 abbrev pub widths : List ℕ
 widths =
@@ -89,6 +103,15 @@ widths =
     ∷ 16 ∷ 4 ∷ 8 ∷ 8 ∷ 8 ∷ 8 ∷ 8 ∷ 2 ∷ 3 ∷ 3 ∷ 8 ∷ 2 ∷ 16 ∷ 2 ∷ 16 ∷ 6 ∷ 5
     ∷ []
 
--- where the rows of each table of the document begin; table t has those from its own beginning to that of table t + 1
-abbrev pub begins : List ℕ
-begins = 0 ∷ 0 ∷ 0 ∷ 10 ∷ 39 ∷ 47 ∷ 62 ∷ 67 ∷ 77 ∷ 85 ∷ 92 ∷ 95 ∷ 100 ∷ 126 ∷ 133 ∷ 133 ∷ 139 ∷ 145 ∷ 158 ∷ 172 ∷ 199 ∷ []
+-- for each table of the document, 32 times the place where its rows begin, and how many it has
+abbrev pub spans : List ℕ
+spans =
+    0 ∷ 0 ∷ 10 ∷ 349 ∷ 1256 ∷ 1519 ∷ 1989 ∷ 2154 ∷ 2472 ∷ 2727 ∷ 2947 ∷ 3045 ∷ 3226 ∷ 4039 ∷ 4256 ∷ 4262 ∷ 4454 ∷ 4653 ∷ 5070 ∷ 5531 ∷ []
+
+-- where the rows of table t begin
+abbrev pub begin : ℕ → ℕ
+begin t = getD spans t 0 / 32
+
+-- how many rows table t has
+abbrev pub rowCount : ℕ → ℕ
+rowCount t = getD spans t 0 % 32

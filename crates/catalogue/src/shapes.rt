@@ -3,7 +3,7 @@
 ghost use mathlib.Core.Path.{_≡_};
 ghost use Prim.Native.Nat.{_<_};
 ghost use lib.ListN.{getD};
-ghost use Rattle.catalogue.specs.Shapes.{begins, shapes, widths};
+ghost use Rattle.catalogue.specs.Shapes.{spans, shapes, widths, shapeOf};
 
 const SHAPES: [u8; 199] = [
     0,
@@ -207,108 +207,61 @@ const SHAPES: [u8; 199] = [
     6,
 ];
 
-const WIDTHS: [u32; 37] = [
-    16,
-    16,
-    8,
-    2,
-    16,
-    2,
-    1,
-    32,
-    16,
-    2,
-    2,
-    4,
-    8,
-    16,
-    8,
-    16,
-    8,
-    8,
-    16,
-    8,
-    16,
-    4,
-    8,
-    8,
-    8,
-    8,
-    8,
-    2,
-    3,
-    3,
-    8,
-    2,
-    16,
-    2,
-    16,
-    6,
-    5,
-];
-
-const BEGINS: [u8; 21] = [
-    0,
+const SPANS: [usize; 20] = [
     0,
     0,
     10,
-    39,
-    47,
-    62,
-    67,
-    77,
-    85,
-    92,
-    95,
-    100,
-    126,
-    133,
-    133,
-    139,
-    145,
-    158,
-    172,
-    199,
+    349,
+    1256,
+    1519,
+    1989,
+    2154,
+    2472,
+    2727,
+    2947,
+    3045,
+    3226,
+    4039,
+    4256,
+    4262,
+    4454,
+    4653,
+    5070,
+    5531,
 ];
 
-pub fn wide(x: u8) -> usize
-    ensures { λ r. ⌜ r ≡ x ⌝ }
-{
-    x as usize
-}
-
-// The place of the first row of a table of the document.
-pub fn begin_of(table: usize) -> u8
-    requires { ⌜ table < 21 ⌝ }
-    ensures { λ r. ⌜ r ≡ getD begins table 0 ⌝ }
+// Where the rows of a table of the document begin, times 32, and how many it has.
+fn span_of(table: usize) -> usize
+    requires { ⌜ table < 20 ⌝ }
+    ensures { λ r. ⌜ r ≡ getD spans table 0 ⌝ }
 {
     match table {
         0 => 0,
         1 => 0,
-        2 => 0,
-        3 => 10,
-        4 => 39,
-        5 => 47,
-        6 => 62,
-        7 => 67,
-        8 => 77,
-        9 => 85,
-        10 => 92,
-        11 => 95,
-        12 => 100,
-        13 => 126,
-        14 => 133,
-        15 => 133,
-        16 => 139,
-        17 => 145,
-        18 => 158,
-        19 => 172,
-        _ => BEGINS[table],
+        2 => 10,
+        3 => 349,
+        4 => 1256,
+        5 => 1519,
+        6 => 1989,
+        7 => 2154,
+        8 => 2472,
+        9 => 2727,
+        10 => 2947,
+        11 => 3045,
+        12 => 3226,
+        13 => 4039,
+        14 => 4256,
+        15 => 4262,
+        16 => 4454,
+        17 => 4653,
+        18 => 5070,
+        19 => 5531,
+        _ => SPANS[table],
     }
 }
 
 // The shape of the row at a place.
-pub fn shape_at(place: usize) -> u8
+fn shape_at(place: usize) -> u8
     requires { ⌜ place < 199 ⌝ }
     ensures { λ r. ⌜ r ≡ getD shapes place 0 ⌝ }
 {
@@ -516,9 +469,8 @@ pub fn shape_at(place: usize) -> u8
     }
 }
 
-// The bits of the rows with a shape.
-pub fn bits_by(shape: usize) -> u32
-    requires { ⌜ shape < 37 ⌝ }
+// The bits of the signals with a shape: 0 where the shape is that of no signal.
+pub fn bits_by(shape: u8) -> u32
     ensures { λ r. ⌜ r ≡ getD widths shape 0 ⌝ }
 {
     match shape {
@@ -559,6 +511,25 @@ pub fn bits_by(shape: usize) -> u32
         34 => 16,
         35 => 6,
         36 => 5,
-        _ => WIDTHS[shape],
+        _ => 0,
     }
+}
+
+// The shape of a signal: 37 where the catalogue has no such signal.
+pub fn shape_of(number: u32) -> u8
+    ensures { λ r. ⌜ r ≡ shapeOf number ⌝ }
+{
+    let table = (number / 100) as usize;
+    let row = (number % 100) as usize;
+    if table >= 20 {
+        return 37;
+    }
+    let span = span_of(table);
+    if row == 0 {
+        return 37;
+    }
+    if row > span % 32 {
+        return 37;
+    }
+    shape_at(span / 32 + row - 1)
 }
