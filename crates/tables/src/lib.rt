@@ -1,0 +1,28 @@
+// The lent words of a book: one line more, and the refusal where the line is not taken.
+// The words that are lent to an addition are those of a book within the limits; its `requires` says so.
+mod adding;
+mod judging;
+mod storing;
+
+pub use adding::add_message;
+pub use adding::add_route;
+pub use adding::add_signal;
+
+// What becomes of a line.
+pub enum Added {
+    Taken,
+    // An identifier, a bus or a start is over its limit, or the catalogue does not have the number.
+    OverLimit,
+    // A signal before any message.
+    BeforeAnyMessage,
+    // The message is there already.
+    MessageRepeated,
+    // The signal is in this message already.
+    SignalRepeated,
+    // The signal ends past the frame, or has a start of its own and is not there.
+    Misplaced,
+    // The signal's bits meet those of an earlier one of the message.
+    BitsMeet,
+    // The book has as many lines of this kind as it may have.
+    Full,
+}
