@@ -1,83 +1,130 @@
--- A line's meaning by its kind, the byte before the first tab. Assumes nothing.
+-- What stands after the kind and its tab in a text that starts with a line. Assumes nothing.
 use mathlib.Core.Path.{_≡_, refl, sym, ap, _∙_}
-use mathlib.Core.Bool.{Bool, true, false, cond}
-use mathlib.Core.List.{List, [], _∷_}
-use Prim.Native.Nat.{ℕ, suc, _+_, _≤_, _<_}
+use mathlib.Core.Logic.{_⊎_, inl, inr}
+use mathlib.Core.List.{List, [], _∷_, _++_, append-assoc}
+use Prim.Native.Nat.{ℕ, _+_, _≤_, _<_}
 use native.Mathlib.Omega.{arith}
-use lib.Dec.{eqb}
 use lib.ListN.{length, drop, getD}
-use borrow.Author.Tests.{eq-eqb, ne-eqb, eqb-true}
-use Rattle.parts.specs.Parts.{fields, split, onFirst}
-use Rattle.parts.proofs.Splits.{Some, some}
+use Rattle.numerals.specs.Written.{identifierText, decimalText, identifierLimit, decimalLimit}
+use Rattle.parts.specs.Joined.{join}
 use Rattle.line.specs.declared.Line.{Line}
-use Rattle.line.specs.declared.Line.the-variants.{IllFormed}
-use Rattle.line.specs.Meaning.{ofMessage, ofSignal, ofRoute, ofKind, ofFields, lineMeaning}
+use Rattle.line.specs.declared.Line.the-variants.{Message, Signal, Route, IllFormed}
+use Rattle.line.specs.declared.First.{First}
+use Rattle.line.specs.Written.{fieldsOf, lineText, Writable}
+use Rattle.line.specs.First.{OfKind, illFormed, firstLine}
+use Rattle.line.proofs.Starts.{Starts, Started, first-starts}
 
--- nothing after the kind
-bare : (k : ℕ) → IllFormed ≡ ofKind k []
-unfolding ofKind ofMessage ofSignal ofRoute
-bare k = by (eqb k 77) (eqb k 83) (eqb k 82)
-  where
-    by : (m s r : Bool) → IllFormed ≡ cond m IllFormed (cond s IllFormed (cond r IllFormed IllFormed))
-    by true s r = refl
-    by false true r = refl
-    by false false true = refl
-    by false false false = refl
+-- the numbers of a message, a signal, a route, from the front of a text
+pub record MessageAt (text : List ℕ) : Type 0 where
+  pub id : ℕ
+  pub rest : List ℕ
+  pub small : id < identifierLimit
+  pub same : text ≡ identifierText id ++ 10 ∷ rest
 
-pub short : (l : List ℕ) → length l < 2 → IllFormed ≡ lineMeaning l
-unfolding lineMeaning ofFields split onFirst
-short [] h = refl
-short (a ∷ []) h = by (eqb a 9)
-  where
-    by : (q : Bool) → IllFormed ≡ ofFields (cond q ([] ∷ [] ∷ []) ((a ∷ []) ∷ []))
-    by true = refl
-    by false = bare a
-short (a ∷ b ∷ t) h = absurd (omega arith)
+pub record SignalAt (text : List ℕ) : Type 0 where
+  pub number : ℕ
+  pub start : ℕ
+  pub rest : List ℕ
+  pub small : (number < decimalLimit) × (start < decimalLimit)
+  pub same : text ≡ decimalText number ++ 9 ∷ (decimalText start ++ 10 ∷ rest)
 
--- a first field that is not one byte
-pub no-kind : (l : List ℕ) → 2 ≤ length l → (getD l 1 0 ≡ 9 → ⊥) → IllFormed ≡ lineMeaning l
-unfolding lineMeaning ofFields split onFirst
-no-kind [] h n = absurd (omega arith)
-no-kind (a ∷ []) h n = absurd (omega arith)
-no-kind (a ∷ b ∷ t) h n = rw (ne-eqb b 9 n, some 9 t .same) (by (eqb a 9))
-  where
-    by : (q : Bool) → IllFormed ≡ ofFields (cond q ([] ∷ (b ∷ some 9 t .first) ∷ some 9 t .others) ((a ∷ b ∷ some 9 t .first) ∷ some 9 t .others))
-    by true = refl
-    by false = refl
+pub record RouteAt (text : List ℕ) : Type 0 where
+  pub a : ℕ
+  pub i : ℕ
+  pub b : ℕ
+  pub j : ℕ
+  pub rest : List ℕ
+  pub small : ((a < decimalLimit) × (i < identifierLimit)) × ((b < decimalLimit) × (j < identifierLimit))
+  pub same : text ≡ decimalText a ++ 9 ∷ (identifierText i ++ 9 ∷ (decimalText b ++ 9 ∷ (identifierText j ++ 10 ∷ rest)))
 
--- no kind is a tab
-tab-kind : (k : ℕ) (fs : List (List ℕ)) → k ≡ 9 → IllFormed ≡ ofKind k fs
-unfolding ofKind
-tab-kind k fs e = rw e
+-- the first byte tells the kind
+other : {A : Type 0} {text : List ℕ} {k b : ℕ} {t : List ℕ} → text ≡ b ∷ t → getD text 0 0 ≡ k → (b ≡ k → ⊥) → A
+other e q n = absurd (n (sym (ap (λ (l : List ℕ). getD l 0 0) e) ∙ q))
 
-by-kind : (l : List ℕ) → 2 ≤ length l → getD l 1 0 ≡ 9 → lineMeaning l ≡ ofKind (getD l 0 0) (fields (drop 2 l))
-unfolding lineMeaning ofFields split onFirst
-by-kind [] h e = absurd (omega arith)
-by-kind (a ∷ []) h e = absurd (omega arith)
-by-kind (a ∷ b ∷ t) h e = rw (eq-eqb b 9 e) (by (eqb a 9) refl)
-  where
-    by : (q : Bool) → eqb a 9 ≡ q → ofFields (cond q ([] ∷ [] ∷ split 9 t) ((a ∷ []) ∷ split 9 t)) ≡ ofKind a (split 9 t)
-    by true p = tab-kind a (split 9 t) (eqb-true _ _ p)
-    by false p = refl
+module _ (text fields : List ℕ) (y : fields ≡ drop 2 text) where
+  after : {a b : ℕ} {t : List ℕ} → text ≡ a ∷ b ∷ t → fields ≡ t
+  after e = y ∙ ap (drop 2) e
 
-module _ (l : List ℕ) {rest : List ℕ} (h : 2 ≤ length l) (e : getD l 1 0 ≡ 9) (y : rest ≡ drop 2 l) where
-  kind : lineMeaning l ≡ ofKind (getD l 0 0) (fields rest)
-  kind = by-kind l h e ∙ rw y
+  pub message-or : OfKind 77 text → (illFormed ≡ firstLine text) ⊎ MessageAt fields
+  unfolding lineText fieldsOf join
+  message-or k = by (first-starts text)
+    where
+      at : (l : Line) (rest : List ℕ) → Starts text l rest → MessageAt fields
+      at (Message i) rest s = record { id = i; rest = rest; small = s .writable; same = after (s .same) }
+      at (Signal n t) rest s = other (s .same) (k .kind) (λ e. omega arith)
+      at (Route a i b j) rest s = other (s .same) (k .kind) (λ e. omega arith)
+      at IllFormed rest s = absurd (s .writable)
 
-  pub kind-message : {r : Line} → getD l 0 0 ≡ 77 → r ≡ ofMessage (fields rest) → r ≡ lineMeaning l
-  unfolding ofKind
-  kind-message m q = rw (kind, eq-eqb _ _ m) q
+      by : (illFormed ≡ firstLine text) ⊎ Started text → (illFormed ≡ firstLine text) ⊎ MessageAt fields
+      by (inl e) = inl e
+      by (inr s) = inr (at (s .line) (s .rest) (s .starts))
 
-  module _ (m : getD l 0 0 ≡ 77 → ⊥) where
-    pub kind-signal : {r : Line} → getD l 0 0 ≡ 83 → r ≡ ofSignal (fields rest) → r ≡ lineMeaning l
-    unfolding ofKind
-    kind-signal s q = rw (kind, ne-eqb _ _ m, eq-eqb _ _ s) q
+  pub signal-or : OfKind 83 text → (illFormed ≡ firstLine text) ⊎ SignalAt fields
+  unfolding lineText fieldsOf join
+  signal-or k = by (first-starts text)
+    where
+      at : (l : Line) (rest : List ℕ) → Starts text l rest → SignalAt fields
+      at (Signal n t) rest s =
+          record { number = n; start = t; rest = rest; small = s .writable; same = after (s .same) ∙ simp append-assoc }
+      at (Message i) rest s = other (s .same) (k .kind) (λ e. omega arith)
+      at (Route a i b j) rest s = other (s .same) (k .kind) (λ e. omega arith)
+      at IllFormed rest s = absurd (s .writable)
 
-    module _ (s : getD l 0 0 ≡ 83 → ⊥) where
-      pub kind-route : {r : Line} → getD l 0 0 ≡ 82 → r ≡ ofRoute (fields rest) → r ≡ lineMeaning l
-      unfolding ofKind
-      kind-route t q = rw (kind, ne-eqb _ _ m, ne-eqb _ _ s, eq-eqb _ _ t) q
+      by : (illFormed ≡ firstLine text) ⊎ Started text → (illFormed ≡ firstLine text) ⊎ SignalAt fields
+      by (inl e) = inl e
+      by (inr s) = inr (at (s .line) (s .rest) (s .starts))
 
-      pub kind-none : (getD l 0 0 ≡ 82 → ⊥) → IllFormed ≡ lineMeaning l
-      unfolding ofKind
-      kind-none t = rw (kind, ne-eqb _ _ m, ne-eqb _ _ s, ne-eqb _ _ t)
+  pub route-or : OfKind 82 text → (illFormed ≡ firstLine text) ⊎ RouteAt fields
+  unfolding lineText fieldsOf join
+  route-or k = by (first-starts text)
+    where
+      at : (l : Line) (rest : List ℕ) → Starts text l rest → RouteAt fields
+      at (Route a i b j) rest s =
+          record { a = a; i = i; b = b; j = j; rest = rest; small = s .writable; same = after (s .same) ∙ simp append-assoc }
+      at (Message i) rest s = other (s .same) (k .kind) (λ e. omega arith)
+      at (Signal n t) rest s = other (s .same) (k .kind) (λ e. omega arith)
+      at IllFormed rest s = absurd (s .writable)
+
+      by : (illFormed ≡ firstLine text) ⊎ Started text → (illFormed ≡ firstLine text) ⊎ RouteAt fields
+      by (inl e) = inl e
+      by (inr s) = inr (at (s .line) (s .rest) (s .starts))
+
+-- a line begins with its kind and a tab
+data Kind (k : ℕ) : Type 0 where
+  M : k ≡ 77 → Kind k
+  S : k ≡ 83 → Kind k
+  R : k ≡ 82 → Kind k
+
+record Begun (text : List ℕ) : Type 0 where
+  pub long : 2 ≤ length text
+  pub tab : getD text 1 0 ≡ 9
+  pub kind : Kind (getD text 0 0)
+
+begun : (text : List ℕ) (l : Line) (rest : List ℕ) → Starts text l rest → Begun text
+unfolding lineText fieldsOf join
+begun text (Message i) rest s = rw (s .same) (record { long = omega arith; tab = refl; kind = M refl })
+begun text (Signal n t) rest s = rw (s .same) (record { long = omega arith; tab = refl; kind = S refl })
+begun text (Route a i b j) rest s = rw (s .same) (record { long = omega arith; tab = refl; kind = R refl })
+begun text IllFormed rest s = absurd (s .writable)
+
+module _ (text : List ℕ) where
+  unless-begun : (Begun text → ⊥) → illFormed ≡ firstLine text
+  unless-begun n = by (first-starts text)
+    where
+      by : (illFormed ≡ firstLine text) ⊎ Started text → illFormed ≡ firstLine text
+      by (inl e) = e
+      by (inr s) = absurd (n (begun text (s .line) (s .rest) (s .starts)))
+
+  pub short : length text < 2 → illFormed ≡ firstLine text
+  short h = unless-begun (λ b. omega (arith, b .long))
+
+  pub no-tab : (getD text 1 0 ≡ 9 → ⊥) → illFormed ≡ firstLine text
+  no-tab n = unless-begun (λ b. n (b .tab))
+
+  pub no-kind : (getD text 0 0 ≡ 83 → ⊥) → (getD text 0 0 ≡ 77 → ⊥) → (getD text 0 0 ≡ 82 → ⊥) → illFormed ≡ firstLine text
+  no-kind s m r = unless-begun (λ b. by (b .kind))
+    where
+      by : Kind (getD text 0 0) → ⊥
+      by (M e) = m e
+      by (S e) = s e
+      by (R e) = r e

@@ -1,4 +1,4 @@
--- `read_line`'s contract allows one outcome and no other. Assumes nothing.
+-- `read_first`'s contract allows one outcome and no other. Assumes nothing.
 use mathlib.Core.Path.{_≡_, refl}
 use mathlib.Core.List.{List}
 use Prim.Native.Nat.{ℕ}
@@ -13,10 +13,10 @@ use contract.Monad.{Fun}
 use denote.Ref.{RefT, now}
 use denote.Triple.Clauses.{AtExit}
 use Rattle.only.specs.Only.{Only, only-this}
-use Rattle.line.specs.Meaning.{lineMeaning}
-use Rattle.line.proofs.Line as T
-use Rattle.line.proofs.read_line as read-line
+use Rattle.line.specs.First.{firstLine}
+use Rattle.line.proofs.First as T
+use Rattle.line.proofs.read_first as read-first
 
-module _ {M : Type 1} (𝓤 : URA M) (H : Heap 𝓤) (A : Atoms 𝓤) (mem : Memory → SProp 𝓤) (run : Routine → Fun 𝓤) (κs : Lfts 1) (line : RefT (List ℕ)) where
-  pub one-read-line : (e : AtExit read-line.ended κs) → Only 𝓤 (λ r. read-line.clauses 𝓤 H A mem run κs (line, tt) .ensures tt r e)
-  one-read-line e = only-this 𝓤 _ (T.the-row .coded) (lineMeaning (now line)) (λ r. refl)
+module _ {M : Type 1} (𝓤 : URA M) (H : Heap 𝓤) (A : Atoms 𝓤) (mem : Memory → SProp 𝓤) (run : Routine → Fun 𝓤) (κs : Lfts 1) (text : RefT (List ℕ)) where
+  pub one-read-first : (e : AtExit read-first.ended κs) → Only 𝓤 (λ r. read-first.clauses 𝓤 H A mem run κs (text, tt) .ensures tt r e)
+  one-read-first e = only-this 𝓤 _ (T.the-row .coded) (firstLine (now text)) (λ r. refl)

@@ -14,7 +14,7 @@ use Rattle.line.specs.declared.Line.{Line}
 use Rattle.line.specs.declared.Line.the-variants.{Message, Signal, Route, IllFormed}
 use Rattle.line.specs.Meaning.{messageOf, signalOf, routeOf, ofMessage, ofSignal, ofRoute, ofKind, ofFields, lineMeaning}
 use Rattle.line.specs.Written.{fieldsOf, lineText, Writable}
-use Rattle.line.proofs.Tabless.{identifier-free, decimal-free}
+use Rattle.fields.proofs.Tabless.{identifier-free, decimal-free}
 
 -- no field of a line has a byte below the digits
 kind-free : (s b : ℕ) → s < 48 → 48 ≤ b → Free s (b ∷ [])

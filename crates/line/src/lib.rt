@@ -1,16 +1,18 @@
 // One line of a route book: what it says, by its form alone. Limits, tables and what stood above it are not looked at here.
-// `read_line` answers for every slice, and has no `requires`; the other functions are its rooms.
-use numerals::Number;
-use numerals::read_decimal;
-use numerals::read_identifier;
-use parts::find;
+// `read_first` reads the first line of a text in one pass and answers for every slice; the other functions are its rooms, one for
+// each kind of line.
+use fields::Front;
+use fields::decimal_before;
+use fields::identifier_before;
 use parts::part_after;
-use parts::part_before;
+use parts::part_from;
 ghost use mathlib.Core.Path.{_≡_};
-ghost use Rattle.parts.specs.Parts.{fields};
-ghost use Rattle.line.specs.Meaning.{messageOf, signalOf, routeOf, ofMessage, ofSignal, ofRoute, lineMeaning};
+ghost use Rattle.line.specs.Meaning.{letterM, letterS, letterR};
+ghost use Rattle.line.specs.First.{OfKind, illFormed, firstLine};
 
 const TAB: u8 = b'\t';
+
+const NEWLINE: u8 = b'\n';
 
 // What a line says. A route's numbers: from bus, from identifier, to bus, to identifier.
 pub enum Line {
@@ -20,115 +22,101 @@ pub enum Line {
     IllFormed,
 }
 
-fn message_of(i: Number) -> Line
-    ensures { λ r. ⌜ r ≡ messageOf i ⌝ }
+// A line, and how many bytes it has with its newline; 0 where it is ill formed.
+pub struct First {
+    pub line: Line,
+    pub size: usize,
+}
+
+fn ill_formed() -> First
+    ensures { λ r. ⌜ r ≡ illFormed ⌝ }
 {
-    match i {
-        Number::Is(id) => Line::Message(id),
-        Number::Not => Line::IllFormed,
+    First {
+        line: Line::IllFormed,
+        size: 0,
     }
 }
 
-fn signal_of(n: Number, s: Number) -> Line
-    ensures { λ r. ⌜ r ≡ signalOf n s ⌝ }
+// `M` identifier
+fn message(text: &[u8]) -> First
+    requires { ⌜ OfKind letterM (now text) ⌝ }
+    ensures { λ r. ⌜ r ≡ firstLine (now (text .entry)) ⌝ }
 {
-    let Number::Is(number) = n else {
-        return Line::IllFormed;
+    let fields = part_from(text, 2);
+    let Front::Found(id, _) = identifier_before(fields, NEWLINE) else {
+        return ill_formed();
     };
-    let Number::Is(start) = s else {
-        return Line::IllFormed;
-    };
-    Line::Signal(number, start)
+    First {
+        line: Line::Message(id),
+        size: 11,
+    }
 }
 
-fn route_of(a: Number, i: Number, b: Number, j: Number) -> Line
-    ensures { λ r. ⌜ r ≡ routeOf a i b j ⌝ }
+// `S` signal number, start
+fn signal(text: &[u8]) -> First
+    requires { ⌜ OfKind letterS (now text) ⌝ }
+    ensures { λ r. ⌜ r ≡ firstLine (now (text .entry)) ⌝ }
 {
-    let Number::Is(from_bus) = a else {
-        return Line::IllFormed;
+    let fields = part_from(text, 2);
+    let Front::Found(number, k) = decimal_before(fields, TAB) else {
+        return ill_formed();
     };
-    let Number::Is(from_id) = i else {
-        return Line::IllFormed;
+    let last = part_after(fields, k);
+    let Front::Found(start, m) = decimal_before(last, NEWLINE) else {
+        return ill_formed();
     };
-    let Number::Is(to_bus) = b else {
-        return Line::IllFormed;
-    };
-    let Number::Is(to_id) = j else {
-        return Line::IllFormed;
-    };
-    Line::Route(from_bus, from_id, to_bus, to_id)
+    First {
+        line: Line::Signal(number, start),
+        size: k + m + 4,
+    }
 }
 
-// The field after an M. A tab in it is no digit, so it needs no search.
-fn message(rest: &[u8]) -> Line
-    ensures { λ r. ⌜ r ≡ ofMessage (fields (now (rest .entry))) ⌝ }
+// `R` bus, identifier, bus, identifier: from place, to place
+fn route(text: &[u8]) -> First
+    requires { ⌜ OfKind letterR (now text) ⌝ }
+    ensures { λ r. ⌜ r ≡ firstLine (now (text .entry)) ⌝ }
 {
-    message_of(read_identifier(rest))
+    let fields = part_from(text, 2);
+    let Front::Found(from_bus, k) = decimal_before(fields, TAB) else {
+        return ill_formed();
+    };
+    let after_bus = part_after(fields, k);
+    let Front::Found(from_id, i) = identifier_before(after_bus, TAB) else {
+        return ill_formed();
+    };
+    let to = part_after(after_bus, i);
+    let Front::Found(to_bus, m) = decimal_before(to, TAB) else {
+        return ill_formed();
+    };
+    let last = part_after(to, m);
+    let Front::Found(to_id, j) = identifier_before(last, NEWLINE) else {
+        return ill_formed();
+    };
+    First {
+        line: Line::Route(from_bus, from_id, to_bus, to_id),
+        size: k + i + m + j + 6,
+    }
 }
 
-// The two fields after an S.
-fn signal(rest: &[u8]) -> Line
-    ensures { λ r. ⌜ r ≡ ofSignal (fields (now (rest .entry))) ⌝ }
+// The first line of a text.
+pub fn read_first(text: &[u8]) -> First
+    ensures { λ r. ⌜ r ≡ firstLine (now (text .entry)) ⌝ }
 {
-    let k = find(rest, TAB);
-    if k >= rest.len() {
-        return Line::IllFormed;
+    if text.len() < 2 {
+        return ill_formed();
     }
-    let number = part_before(rest, k);
-    let start = part_after(rest, k);
-    signal_of(read_decimal(number), read_decimal(start))
-}
-
-// The four fields after an R.
-fn route(rest: &[u8]) -> Line
-    ensures { λ r. ⌜ r ≡ ofRoute (fields (now (rest .entry))) ⌝ }
-{
-    let k = find(rest, TAB);
-    if k >= rest.len() {
-        return Line::IllFormed;
+    if text[1] != TAB {
+        return ill_formed();
     }
-    let from_bus = part_before(rest, k);
-    let after_bus = part_after(rest, k);
-    let m = find(after_bus, TAB);
-    if m >= after_bus.len() {
-        return Line::IllFormed;
-    }
-    let from_id = part_before(after_bus, m);
-    let to = part_after(after_bus, m);
-    let n = find(to, TAB);
-    if n >= to.len() {
-        return Line::IllFormed;
-    }
-    let to_bus = part_before(to, n);
-    let to_id = part_after(to, n);
-    route_of(
-        read_decimal(from_bus),
-        read_identifier(from_id),
-        read_decimal(to_bus),
-        read_identifier(to_id),
-    )
-}
-
-// What a line, without its newline, says.
-pub fn read_line(line: &[u8]) -> Line
-    ensures { λ r. ⌜ r ≡ lineMeaning (now (line .entry)) ⌝ }
-{
-    if line.len() < 2 {
-        return Line::IllFormed;
-    }
-    if line[1] != TAB {
-        return Line::IllFormed;
-    }
-    let kind = line[0];
-    let rest = part_after(line, 1);
-    if kind == b'M' {
-        return message(rest);
-    }
+    let kind = text[0];
     if kind == b'S' {
-        return signal(rest);
+        return signal(text);
+    }
+    if kind == b'M' {
+        return message(text);
     }
     if kind == b'R' {
-        return route(rest);
+        return route(text);
     }
-    Line::IllFormed
+    ill_formed()
 }

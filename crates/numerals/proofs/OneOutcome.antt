@@ -1,4 +1,4 @@
--- Each public function's contract allows one outcome and no other. Assumes nothing.
+-- `read_identifier`'s contract allows one outcome and no other. Assumes nothing.
 use mathlib.Core.Path.{_≡_, refl}
 use mathlib.Core.List.{List}
 use Prim.Native.Nat.{ℕ}
@@ -13,14 +13,10 @@ use contract.Monad.{Fun}
 use denote.Ref.{RefT, now}
 use denote.Triple.Clauses.{AtExit}
 use Rattle.only.specs.Only.{Only, only-this}
-use Rattle.numerals.specs.Numeral.{identifier, decimal}
+use Rattle.numerals.specs.Numeral.{identifier}
 use Rattle.numerals.proofs.Number as T
 use Rattle.numerals.proofs.read_identifier as read-identifier
-use Rattle.numerals.proofs.read_decimal as read-decimal
 
 module _ {M : Type 1} (𝓤 : URA M) (H : Heap 𝓤) (A : Atoms 𝓤) (mem : Memory → SProp 𝓤) (run : Routine → Fun 𝓤) (κs : Lfts 1) (s : RefT (List ℕ)) where
   pub one-read-identifier : (e : AtExit read-identifier.ended κs) → Only 𝓤 (λ r. read-identifier.clauses 𝓤 H A mem run κs (s, tt) .ensures tt r e)
   one-read-identifier e = only-this 𝓤 _ (T.the-row .coded) (identifier (now s)) (λ r. refl)
-
-  pub one-read-decimal : (e : AtExit read-decimal.ended κs) → Only 𝓤 (λ r. read-decimal.clauses 𝓤 H A mem run κs (s, tt) .ensures tt r e)
-  one-read-decimal e = only-this 𝓤 _ (T.the-row .coded) (decimal (now s)) (λ r. refl)

@@ -1,9 +1,9 @@
-// The numbers of a route book as they are read: an identifier of exactly 8 digits 0-9 A-F, or 1 to 5 decimal digits without a
-// needless leading zero. The two public functions answer for every slice and have no `requires`.
+// The digits of a route book's numbers, and an identifier of exactly 8 of them. Both public functions answer for every input.
+// specs/ says what all numbers of a book are, as they are read and as they are written.
 ghost use mathlib.Core.Path.{_≡_};
 ghost use Prim.Native.Nat.{_≤_, _<_, _^_};
 ghost use lib.ListN.{length};
-ghost use Rattle.numerals.specs.Numeral.{digitValue, numeralFrom, identifier, needlessZero, decimal};
+ghost use Rattle.numerals.specs.Numeral.{digitValue, numeralFrom, identifier};
 
 // What a field is read as: a number, or none.
 pub enum Number {
@@ -12,7 +12,7 @@ pub enum Number {
 }
 
 // The value of a digit 0-9 A-F; 16 for a byte that is none.
-fn digit(b: u8) -> u64
+pub fn digit(b: u8) -> u64
     ensures { λ r. ⌜ r ≡ digitValue b ⌝ }
 {
     if b < 48 {
@@ -56,30 +56,4 @@ pub fn read_identifier(s: &[u8]) -> Number
         return Number::Not;
     }
     numeral(s, 16)
-}
-
-// More than one digit, and the first is 0.
-fn needless_zero(s: &[u8]) -> bool
-    ensures { λ r. ⌜ r ≡ needlessZero (now (s .entry)) ⌝ }
-{
-    if 1 < s.len() {
-        return s[0] == 48;
-    }
-    false
-}
-
-// 1 to 5 decimal digits, no needless leading zero.
-pub fn read_decimal(s: &[u8]) -> Number
-    ensures { λ r. ⌜ r ≡ decimal (now (s .entry)) ⌝ }
-{
-    if s.len() < 1 {
-        return Number::Not;
-    }
-    if s.len() > 5 {
-        return Number::Not;
-    }
-    if needless_zero(s) {
-        return Number::Not;
-    }
-    numeral(s, 10)
 }

@@ -18,7 +18,7 @@ fn digit_byte(d: u64) -> u8
 }
 
 // k digits of n in a base, at a place of out; the lowest is written first.
-fn put_digits(out: &mut [u8], at: usize, k: usize, n: u64, base: u64)
+pub fn put_digits(out: &mut [u8], at: usize, k: usize, n: u64, base: u64)
     requires { ⌜ Room (now out) at k n base ⌝ }
     ensures { λ r. ⌜ now (out .exit) ≡ sets (now (out .entry)) at (digitsOf base k n) ⌝ }
 {

@@ -1,0 +1,4 @@
+pub mod Run
+pub mod Tabless
+pub mod Eight
+pub mod Written
