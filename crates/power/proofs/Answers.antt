@@ -1,0 +1,34 @@
+-- When a step is refused, by document 01's numbers; a refused step keeps the state, and every other follows the rules. Assumes nothing.
+use mathlib.Core.Path.{_≡_, refl}
+use mathlib.Core.Bool.{Bool, true, false, cond}
+use lib.Dec.{eqb}
+use Rattle.power.specs.declared.Observation.{Observation}
+use Rattle.power.specs.declared.State.{State}
+use Rattle.power.specs.declared.Answer.the-variants.{Taken, NeitherOpenNorClosed, CommandTooHigh, ReadingTooHigh}
+use Rattle.power.specs.Rules.{nextState}
+use Rattle.power.specs.Refusals.{refusal, relaysFit, commandsFit, readingsFit, outcome, stepOf}
+
+module _ (s : State) (seen : Observation) where
+  pub refused : refusal (stepOf s seen .answer) ≡ cond (relaysFit seen) (cond (commandsFit seen) (cond (readingsFit seen) 0 43) 42) 41
+  unfolding stepOf
+  refused = go (relaysFit seen) (commandsFit seen) (readingsFit seen)
+    where
+      go : (a b c : Bool)
+          → refusal (cond a (cond b (cond c (outcome (nextState s seen) Taken) (outcome s ReadingTooHigh)) (outcome s CommandTooHigh)) (outcome s NeitherOpenNorClosed) .answer)
+          ≡ cond a (cond b (cond c 0 43) 42) 41
+      go true true true = refl
+      go true true false = refl
+      go true false c = refl
+      go false b c = refl
+
+  pub kept-or-next : stepOf s seen .state ≡ cond (eqb (refusal (stepOf s seen .answer)) 0) (nextState s seen) s
+  unfolding stepOf
+  kept-or-next = go (relaysFit seen) (commandsFit seen) (readingsFit seen)
+    where
+      go : (a b c : Bool)
+          → cond a (cond b (cond c (outcome (nextState s seen) Taken) (outcome s ReadingTooHigh)) (outcome s CommandTooHigh)) (outcome s NeitherOpenNorClosed) .state
+          ≡ cond (eqb (refusal (cond a (cond b (cond c (outcome (nextState s seen) Taken) (outcome s ReadingTooHigh)) (outcome s CommandTooHigh)) (outcome s NeitherOpenNorClosed) .answer)) 0) (nextState s seen) s
+      go true true true = refl
+      go true true false = refl
+      go true false c = refl
+      go false b c = refl

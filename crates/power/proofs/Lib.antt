@@ -1,0 +1,7 @@
+pub mod OneOutcome
+pub mod Numbers
+pub mod Answers
+pub mod Leading
+pub mod Urgent
+pub mod Currents
+pub mod Worked

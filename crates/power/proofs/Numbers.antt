@@ -1,0 +1,19 @@
+-- Numbers and states go together: a state's number names it again, and tells it from every other. Assumes nothing.
+use mathlib.Core.Path.{_≡_, refl, ap}
+use Rattle.power.specs.declared.State.{State}
+use Rattle.power.specs.declared.State.the-variants.{Off, Rising, Precharge, Both, On, Falling, Fault}
+use Rattle.power.specs.declared.Numbered.the-variants as N
+use Rattle.power.specs.States.{number, numbered}
+
+pub named-again : (s : State) → numbered (number s) ≡ N.State s
+unfolding numbered
+named-again Off = refl
+named-again Rising = refl
+named-again Precharge = refl
+named-again Both = refl
+named-again On = refl
+named-again Falling = refl
+named-again Fault = refl
+
+pub number-tells : (a b : State) → number a ≡ number b → a ≡ b
+number-tells a b e = cc (named-again a, named-again b, ap numbered e)

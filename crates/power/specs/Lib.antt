@@ -1,0 +1,5 @@
+pub mod Observed
+pub mod Pictures
+pub mod States
+pub mod Rules
+pub mod Refusals

@@ -1,0 +1,44 @@
+-- One step: refusals 41, 42 and 43, in that order, each with the state kept; otherwise the rules. Assumes nothing.
+use Prim.Native.Nat.{ℕ}
+use mathlib.Core.Bool.{Bool, cond, _&&_, _||_}
+use lib.Dec.{eqb, leb}
+use Rattle.power.specs.declared.Observation.{Observation}
+use Rattle.power.specs.declared.State.{State}
+use Rattle.power.specs.declared.Answer.{Answer}
+use Rattle.power.specs.declared.Answer.the-variants.{Taken, NeitherOpenNorClosed, CommandTooHigh, ReadingTooHigh}
+use Rattle.power.specs.declared.Stepped.{Stepped}
+use Rattle.power.specs.Observed.{o, c}
+use Rattle.power.specs.Rules.{nextState}
+
+-- document 01's number of each answer; 0 is no refusal
+abbrev pub refusal : Answer → ℕ
+refusal Taken = 0
+refusal NeitherOpenNorClosed = 41
+refusal CommandTooHigh = 42
+refusal ReadingTooHigh = 43
+
+-- 41: "a relay count other than 1 or 2"
+abbrev pub openOrClosed : ℕ → Bool
+openOrClosed relay = eqb relay o || eqb relay c
+
+abbrev pub relaysFit : Observation → Bool
+relaysFit seen = openOrClosed (seen .«main_negative») && openOrClosed (seen .precharge) && openOrClosed (seen .«main_positive»)
+
+-- 42: "command or 1604 over 3"
+abbrev pub commandsFit : Observation → Bool
+commandsFit seen = leb (seen .command) 3 && leb (seen .«emergency_off») 3
+
+-- 43: "current or voltage over 65,535"
+abbrev pub readingsFit : Observation → Bool
+readingsFit seen = leb (seen .current) 65535 && leb (seen .inside) 65535 && leb (seen .outside) 65535
+
+abbrev pub outcome : State → Answer → Stepped
+outcome state answer = record { state = state; answer = answer }
+
+unfoldable pub stepOf : State → Observation → Stepped
+stepOf state seen =
+    cond (relaysFit seen)
+    (cond (commandsFit seen)
+    (cond (readingsFit seen) (outcome (nextState state seen) Taken) (outcome state ReadingTooHigh))
+    (outcome state CommandTooHigh))
+    (outcome state NeitherOpenNorClosed)

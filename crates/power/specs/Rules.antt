@@ -1,0 +1,63 @@
+-- Document 01's rules of the power monitor. Assumes nothing.
+use mathlib.Core.Bool.{Bool, true, cond, _&&_, _||_}
+use mathlib.Core.List.{List, [], _∷_, _++_}
+use Rattle.power.specs.declared.Observation.{Observation}
+use Rattle.power.specs.declared.State.{State}
+use Rattle.power.specs.declared.State.the-variants.{Off, Rising, Precharge, Both, On, Falling, Fault}
+use Rattle.power.specs.Observed.{allOpen, commanded, urgent, prechargeComplete, under10A}
+use Rattle.power.specs.Pictures.{picture}
+use Rattle.power.specs.States.{same}
+
+pub record Step : Type 0 where
+  pub from : State
+  pub to : State
+  pub when : Observation → Bool
+
+abbrev pub step : State → State → (Observation → Bool) → Step
+step from to when = record { from = from; to = to; when = when }
+
+abbrev always : Observation → Bool
+always seen = true
+
+-- 3. "off to rising, rising to precharge: command 1; precharge to both: command 1 and precharge complete; both to on; falling to off"
+unfoldable pub rule3 : List Step
+rule3 =
+    step Off Rising (commanded 1)
+    ∷ step Rising Precharge (commanded 1)
+    ∷ step Precharge Both (λ seen. commanded 1 seen && prechargeComplete (seen .inside) (seen .outside))
+    ∷ step Both On always
+    ∷ step Falling Off always
+    ∷ []
+
+-- 4. "rising to off: command 2; precharge to falling: command 2 or urgent; on to falling: urgent, or command 2 with current raw 19,901 to 20,099"
+unfoldable pub rule4 : List Step
+rule4 =
+    step Rising Off (commanded 2)
+    ∷ step Precharge Falling (λ seen. commanded 2 seen || urgent seen)
+    ∷ step On Falling (λ seen. urgent seen || (commanded 2 seen && under10A (seen .current)))
+    ∷ []
+
+abbrev pub steps : List Step
+steps = rule3 ++ rule4
+
+-- "the first that applies, where a step in 3 or 4 needs its new state's picture"; 5. "else fault"
+unfoldable pub firstStep : List Step → State → Observation → State
+firstStep [] state seen = Fault
+firstStep (s ∷ more) state seen = cond (same (s .from) state && (picture (s .to) seen && s .when seen)) (s .to) (firstStep more state seen)
+
+-- 1. "the state's own picture: stays"; 2. "urgent and ooo: off"; else 3 to 5
+abbrev pub byRules : State → Observation → State
+byRules state seen = cond (picture state seen) state (cond (urgent seen && allOpen seen) Off (firstStep steps state seen))
+
+-- "In fault, ooo with command 0 or 2 gives off, anything else stays fault"
+abbrev pub fromFault : Observation → State
+fromFault seen = cond (allOpen seen && (commanded 0 seen || commanded 2 seen)) Off Fault
+
+unfoldable pub nextState : State → Observation → State
+nextState Off = byRules Off
+nextState Rising = byRules Rising
+nextState Precharge = byRules Precharge
+nextState Both = byRules Both
+nextState On = byRules On
+nextState Falling = byRules Falling
+nextState Fault = fromFault
