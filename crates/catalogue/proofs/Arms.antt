@@ -1,4 +1,4 @@
--- What `_` knows in a `match` on a number whose other arms are 0, 1, .. n - 1: the number is n or more. Assumes nothing.
+-- What `_` knows in a `match` on a number: it is none of the numbers of the other arms. Assumes nothing.
 use mathlib.Core.Path.{_≡_, refl, sym}
 use mathlib.Core.List.{List, [], _∷_}
 use Prim.Native.Nat.{ℕ, zero, suc, _≤_, _<_}
@@ -6,6 +6,10 @@ use native.Mathlib.Nat.{le-of-suc-le-suc, not-suc-le-zero}
 use native.Mathlib.Omega.{arith}
 use lib.Arith.{lt-of-le-ne}
 use lib.ListN.{length, getD}
+use borrow.Author.Tests.{ne-eqb}
+use Rattle.catalogue.specs.Shapes.{shapeIn, noShape}
+
+-- ---- arms 0, 1, .. n - 1: the number is n or more
 
 abbrev pub Others : ℕ → ℕ → Type 0
 Others zero x = Unit
@@ -26,3 +30,20 @@ pub past : {A : Type 0} (xs : List A) (i : ℕ) (d : A) → length xs ≤ i → 
 past [] i d h = refl
 past (x ∷ xs) zero d h = absurd (not-suc-le-zero h)
 past (x ∷ xs) (suc i) d h = past xs i d (le-of-suc-le-suc h)
+
+-- ---- an arm for each signal: the number is no signal's
+
+-- R, and x is none of the numbers
+abbrev pub NoneOf : Type 0 → ℕ → List (ℕ × ℕ) → Type 0
+NoneOf R x [] = R
+NoneOf R x (p ∷ ps) = NoneOf (R × (x ≡ p .0 → ⊥)) x ps
+
+known : (R : Type 0) (x : ℕ) (ps : List (ℕ × ℕ)) → NoneOf R x ps → R
+known R x [] r = r
+known R x (p ∷ ps) r = known (R × (x ≡ p .0 → ⊥)) x ps r .0
+
+pub no-signal : (R : Type 0) (x : ℕ) (ps : List (ℕ × ℕ)) → NoneOf R x ps → noShape ≡ shapeIn x ps
+no-signal R x [] r = refl
+no-signal R x (p ∷ ps) r =
+    let other = known (R × (x ≡ p .0 → ⊥)) x ps r .1 in
+    simp (ne-eqb (p .0) x (λ e. other (sym e))) (no-signal (R × (x ≡ p .0 → ⊥)) x ps r)

@@ -2,4 +2,3 @@ pub mod Arms
 pub mod Table
 pub mod Whole
 pub mod Shaped
-pub mod Found

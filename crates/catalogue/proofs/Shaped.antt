@@ -1,71 +1,66 @@
--- Each row is the row of its number and its shape: one equation of lists, which is computed. Assumes nothing.
+-- Numbers and shapes together are the catalogue: one equation of lists, which is computed. So a signal's row, its number
+-- forgotten, is the row of its shape. Assumes nothing.
 use mathlib.Core.Path.{_≡_, refl, sym, ap, _∙_}
-use mathlib.Core.Bool.{Bool, true, _&&_}
+use mathlib.Core.Bool.{Bool, true, false, _&&_, cond}
 use mathlib.Core.List.{List, [], _∷_, map}
 use mathlib.Core.Option.{Option, none, some}
-use Prim.Native.Nat.{ℕ, zero, suc, _<_}
-use native.Mathlib.Nat.{le-of-suc-le-suc, not-suc-le-zero}
-use lib.Dec.{T, ltb, ltb→lt}
+use Prim.Native.Nat.{ℕ, _<_}
+use lib.Dec.{T, ltb, eqb, ltb→lt}
 use lib.Ieee.Fits.{and-l, and-r}
-use lib.ListN.{length, getD, List·getD-map}
+use lib.ListN.{getD, List·getD-map}
 use Rattle.catalogue.specs.declared.Row.{Row}
 use Rattle.catalogue.specs.Rows.{rows, row, blank}
-use Rattle.catalogue.specs.Find.{bitsIn}
-use Rattle.catalogue.specs.Shapes.{numbers, shapes, widths, shaped, shapedRow, rowShaped, noShape}
+use Rattle.catalogue.specs.Find.{rowIn, rowOf, bitsIn, bitsOf}
+use Rattle.catalogue.specs.Shapes.{shapes, noShape, signals, shapeIn, shapeOf, rowShaped, widths}
 use Rattle.catalogue.proofs.Arms.{within}
 
--- the rows that numbers and shapes say
-abbrev together : List ℕ → List ℕ → List Row
-together [] ss = []
-together (n ∷ ns) [] = []
-together (n ∷ ns) (s ∷ ss) = shapedRow n s ∷ together ns ss
-
-at : (ns ss : List ℕ) (i : ℕ) → i < length ns → i < length ss → getD (together ns ss) i blank ≡ shapedRow (getD ns i 0) (getD ss i 0)
-at [] ss i h k = absurd (not-suc-le-zero h)
-at (n ∷ ns) [] i h k = absurd (not-suc-le-zero k)
-at (n ∷ ns) (s ∷ ss) zero h k = refl
-at (n ∷ ns) (s ∷ ss) (suc i) h k = at ns ss i (le-of-suc-le-suc h) (le-of-suc-le-suc k)
-
-all : rows ≡ together numbers shapes
-unfolding rows
-all = refl
-
-row-is : (i : ℕ) → i < 199 → getD rows i blank ≡ shapedRow (getD numbers i 0) (getD shapes i 0)
-row-is i h = ap (λ (l : List Row). getD l i blank) all ∙ at numbers shapes i h h
-
--- ---- without the number
-
--- a row with its number forgotten
-abbrev pub nameless : Row → Row
-nameless r = row 0 (r .bits) (r .resolution) (r .offset) (r .lowest) (r .highest) (r .mark1) (r .mark2) (r .mark3)
+-- the row with another number
+abbrev pub numbered : ℕ → Row → Row
+numbered n r = row n (r .bits) (r .resolution) (r .offset) (r .lowest) (r .highest) (r .mark1) (r .mark2) (r .mark3)
 
 abbrev pub forget : Option Row → Option Row
 forget none = none
-forget (some r) = some (nameless r)
+forget (some r) = some (numbered 0 r)
 
-nameless-shaped : (n s : ℕ) → shapedRow 0 s ≡ nameless (shapedRow n s)
-nameless-shaped n s = List·getD-map nameless (shaped n) s blank
+abbrev signal : ℕ × ℕ → Row
+signal p = numbered (p .0) (getD shapes (p .1) blank)
 
-abbrev small : List ℕ → Bool
+all : rows ≡ map signal signals
+unfolding rows
+all = refl
+
+-- the row of a shape has no number to forget
+of-shape : (s : ℕ) → s < noShape → some (numbered 0 (getD shapes s blank)) ≡ rowShaped s
+of-shape s h =
+    ap some (sym (List·getD-map (numbered 0) shapes s blank))
+    ∙ sym (within (map some shapes) s none (some blank) h ∙ List·getD-map some shapes s blank)
+
+abbrev small : List (ℕ × ℕ) → Bool
 small [] = true
-small (x ∷ xs) = ltb x noShape && small xs
+small (p ∷ ps) = ltb (p .1) noShape && small ps
 
-low : (xs : List ℕ) → T (small xs) → (i : ℕ) → i < length xs → getD xs i noShape < noShape
-low [] t i h = absurd (not-suc-le-zero h)
-low (x ∷ xs) t zero h = ltb→lt x noShape (and-l (ltb x noShape) (small xs) t)
-low (x ∷ xs) t (suc i) h = low xs (and-r (ltb x noShape) (small xs) t) i (le-of-suc-le-suc h)
+in-signals : (n : ℕ) (ps : List (ℕ × ℕ)) → T (small ps) → forget (rowIn n (map signal ps)) ≡ rowShaped (shapeIn n ps)
+in-signals n [] t = refl
+in-signals n (p ∷ ps) t =
+    first (eqb (p .0) n) (of-shape (p .1) (ltb→lt (p .1) noShape (and-l (ltb (p .1) noShape) (small ps) t)))
+    (in-signals n ps (and-r (ltb (p .1) noShape) (small ps) t))
+  where
+    first : (b : Bool) → forget (some (signal p)) ≡ rowShaped (p .1) → forget (rowIn n (map signal ps)) ≡ rowShaped (shapeIn n ps) → forget (cond b (some (signal p)) (rowIn n (map signal ps))) ≡ rowShaped (cond b (p .1) (shapeIn n ps))
+    first true here there = here
+    first false here there = there
 
--- the row at a place, its number forgotten, is the row of its shape
-pub shaped-at : (i : ℕ) → i < 199 → rowShaped (getD shapes i noShape) ≡ forget (some (getD rows i blank))
-shaped-at i h =
-    let s = getD shapes i noShape in
-    let n = getD numbers i 0 in
-    within (map some (shaped 0)) s none (some blank) (low shapes tt i h)
-    ∙ List·getD-map some (shaped 0) s blank
-    ∙ ap some (nameless-shaped n s)
-    ∙ ap (λ (k : ℕ). forget (some (shapedRow n k))) (within shapes i noShape 0 h)
-    ∙ sym (ap (λ (r : Row). forget (some r)) (row-is i h))
+-- a signal's row, its number forgotten, is the row of its shape
+pub by-shape : (n : ℕ) → forget (rowOf n) ≡ rowShaped (shapeOf n)
+unfolding rowOf
+by-shape n = ap (λ (rs : List Row). forget (rowIn n rs)) all ∙ in-signals n signals tt
 
--- the bits of a shape
-pub bits-are : (s : ℕ) → getD widths s 0 ≡ bitsIn (rowShaped s)
-bits-are s = List·getD-map bitsIn (map some (shaped 0)) s none
+-- ---- its bits
+
+same-bits : (o : Option Row) → bitsIn o ≡ bitsIn (forget o)
+same-bits none = refl
+same-bits (some r) = refl
+
+pub bits-by-shape : (n : ℕ) → bitsOf n ≡ getD widths (shapeOf n) 0
+unfolding bitsOf
+bits-by-shape n =
+    same-bits (rowOf n) ∙ ap bitsIn (by-shape n) ∙ sym (List·getD-map bitsIn (map some shapes) (shapeOf n) none)

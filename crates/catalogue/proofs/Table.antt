@@ -1,14 +1,12 @@
 -- The rule, from a test that is computed over a whole table, and a lemma that turns it into the rule at each row.
 -- Assumes nothing.
-use mathlib.Core.Path.{_≡_, refl, sym, subst}
 use mathlib.Core.Logic.{_⊎_, inl, inr}
 use mathlib.Core.Bool.{Bool, true, false, _&&_, _||_}
 use mathlib.Core.List.{List, [], _∷_}
 use Prim.Native.Nat.{ℕ, zero, suc, _+_, _*_, _^_, _≤_, _<_}
-use native.Mathlib.Nat.{le-of-suc-le-suc, not-suc-le-zero, lt-trans, add-zero, zero-add}
+use native.Mathlib.Nat.{le-of-suc-le-suc, not-suc-le-zero, lt-trans}
 use native.Mathlib.Omega.{arith}
 use lib.Dec.{T, leb, ltb, leb→le, ltb→lt}
-use borrow.Author.Tests.{ltb-true, ltb-false}
 use lib.Ieee.Fits.{and-l, and-r}
 use lib.IntN.{natAbs}
 use lib.ListN.{length, getD}
@@ -105,36 +103,3 @@ rise m (r ∷ rs) t (suc i) (suc j) p h = rise (r .number) rs (and-r (ltb m (r .
 -- a table that passes the test keeps the rule
 pub at : (rs : List Row) → T (kept 0 rs) → Kept rs
 at rs t = record { rule = every 0 rs t; rising = rise 0 rs t }
-
--- ---- any test of each row and its place
-
-abbrev pub every-at : (ℕ → Row → Bool) → ℕ → List Row → Bool
-every-at f i [] = true
-every-at f i (r ∷ rs) = f i r && every-at f (i + 1) rs
-
-from : (f : ℕ → Row → Bool) (rs : List Row) (i : ℕ) → T (every-at f i rs) → (k : ℕ) → k < length rs → T (f (i + k) (getD rs k blank))
-from f [] i t k h = absurd (not-suc-le-zero h)
-from f (r ∷ rs) i t zero h = subst (λ (m : ℕ). T (f m r)) (sym (add-zero i)) (and-l (f i r) (every-at f (i + 1) rs) t)
-from f (r ∷ rs) i t (suc k) h =
-    let e : i + 1 + k ≡ i + suc k = omega arith in
-    subst (λ (m : ℕ). T (f m (getD rs k blank))) e (from f rs (i + 1) (and-r (f i r) (every-at f (i + 1) rs) t) k (le-of-suc-le-suc h))
-
-pub at-each : (f : ℕ → Row → Bool) (rs : List Row) → T (every-at f 0 rs) → (k : ℕ) → k < length rs → T (f k (getD rs k blank))
-at-each f rs t k h = subst (λ (m : ℕ). T (f m (getD rs k blank))) (zero-add k) (from f rs 0 t k h)
-
--- ---- and of each number below another
-
-abbrev pub below : (ℕ → Bool) → ℕ → Bool
-below f zero = true
-below f (suc n) = f n && below f n
-
-one-less : (f : ℕ → Bool) (n k : ℕ) → k < suc n → T (f n) → (k < n → T (f k)) → T (f k)
-one-less f n k h last rest = go (ltb k n) refl
-  where
-    go : (b : Bool) → ltb k n ≡ b → T (f k)
-    go true e = rest (ltb-true k n e)
-    go false e = let p = ltb-false k n e in let q : n ≡ k = omega arith in subst (λ (m : ℕ). T (f m)) q last
-
-pub at-below : (f : ℕ → Bool) (n : ℕ) → T (below f n) → (k : ℕ) → k < n → T (f k)
-at-below f zero t k h = absurd (not-suc-le-zero h)
-at-below f (suc n) t k h = one-less f n k h (and-l (f n) (below f n) t) (λ p. at-below f n (and-r (f n) (below f n) t) k p)

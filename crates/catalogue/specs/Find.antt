@@ -1,8 +1,8 @@
 -- Looking a signal up by its number. Assumes nothing.
-use mathlib.Core.Bool.{Bool, cond}
+use mathlib.Core.Bool.{cond}
 use mathlib.Core.List.{List, [], _∷_}
 use mathlib.Core.Option.{Option, none, some}
-use Prim.Native.Nat.{ℕ, suc}
+use Prim.Native.Nat.{ℕ}
 use lib.Dec.{eqb}
 use Rattle.catalogue.specs.declared.Row.{Row}
 use Rattle.catalogue.specs.Rows.{rows}
@@ -12,17 +12,9 @@ abbrev pub rowIn : ℕ → List Row → Option Row
 rowIn n [] = none
 rowIn n (r ∷ rs) = cond (eqb (r .number) n) (some r) (rowIn n rs)
 
--- how many rows of a table stand before the first that has the number n: all, where none has it
-abbrev pub placeIn : ℕ → List Row → ℕ
-placeIn n [] = 0
-placeIn n (r ∷ rs) = cond (eqb (r .number) n) 0 (suc (placeIn n rs))
-
 -- the row of the signal with the number n, if the catalogue has that signal
 unfoldable pub rowOf : ℕ → Option Row
 rowOf n = rowIn n rows
-
-unfoldable pub placeOf : ℕ → ℕ
-placeOf n = placeIn n rows
 
 abbrev pub bitsIn : Option Row → ℕ
 bitsIn none = 0

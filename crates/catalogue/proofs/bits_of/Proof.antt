@@ -5,7 +5,7 @@ use Prim.Native.Nat.{ℕ}
 use borrow.Author.Needs.{needs}
 use lib.ListN.{getD}
 use Rattle.catalogue.specs.Shapes.{widths}
-use Rattle.catalogue.proofs.Found.{bits-by-shape}
+use Rattle.catalogue.proofs.Shaped.{bits-by-shape}
 use Rattle.catalogue.proofs.bits_of.Statement.{statement}
 use Rattle.catalogue.proofs.bits_of.Tie as tie
 

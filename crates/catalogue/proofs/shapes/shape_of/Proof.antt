@@ -1,70 +1,220 @@
--- `catalogue::shapes::shape_of` meets its contract: a row with the number stands where the code looks, and nowhere else.
--- Assumes nothing.
-use mathlib.Core.Path.{_≡_, sym, ap, _∙_}
-use Prim.Native.Nat.{ℕ, _+_, _-_, _/_, _%_, _≤_}
-use native.Mathlib.Omega.{arith}
-use borrow.Author.Needs.{needs}
-use lib.ListN.{getD}
-use Rattle.catalogue.specs.Find.{placeOf}
-use Rattle.catalogue.specs.Shapes.{shapes, shapeOf, noShape, begin, rowCount}
-use Rattle.catalogue.proofs.Arms.{within}
-use Rattle.catalogue.proofs.Found.{no-table, row-zero, inside-table, past-table, inside-rows}
+-- `catalogue::shapes::shape_of` meets its contract: each arm has the shape of its number, and what is left for `_` is no
+-- signal's number. Assumes nothing.
+use mathlib.Core.Path.{_≡_, sym, ap}
+use Prim.Native.Nat.{ℕ}
+use Rattle.catalogue.specs.Shapes.{signals, shapeOf}
+use Rattle.catalogue.proofs.Arms.{no-signal}
 use Rattle.catalogue.proofs.shapes.shape_of.Statement.{statement}
 use Rattle.catalogue.proofs.shapes.shape_of.Tie as tie
 
--- where no row has the number, the shape is that of no signal
-none : (n : ℕ) → placeOf n ≡ 199 → noShape ≡ shapeOf n
-none n e = sym (ap (λ (i : ℕ). getD shapes i noShape) e)
+-- the shape of the arm's number is that of the number, which is the same
+arm : {x k : ℕ} → x ≡ k → shapeOf k ≡ shapeOf x
+arm e = ap shapeOf (sym e)
 
-cast-table : tie.Need-cast-table
-cast-table c = search needs
-
-cast-row : tie.Need-cast-row
-cast-row c = search needs
-
-returns : tie.Need-returns
-returns c = let n = c .before .args .number in none n (no-table n (c .if1 .taken))
-
-span-of-requires : tie.Need-span-of-requires
-span-of-requires c κs = search needs
-
-returns-2 : tie.Need-returns-2
-returns-2 c = let n = c .before .before .before .args .number in none n (row-zero n (c .if2 .taken))
-
-returns-3 : tie.Need-returns-3
-returns-3 c =
-    let b = c .before .before in
-    let n = b .before .before .args .number in
-    none n (past-table n (omega (arith, ap (λ (k : ℕ). k % 32) (b .span-of .ensures), c .if3 .taken)))
-
-add-shape-at : tie.Need-add-shape-at
-add-shape-at c = search needs
-
-sub-shape-at : tie.Need-sub-shape-at
-sub-shape-at c = search needs
-
-shape-at-requires : tie.Need-shape-at-requires
-shape-at-requires c κs =
-    let b = c .before .before in
-    let n = b .before .before .args .number in
-    let s = b .span-of .ensures in
-    omega (arith, ap (λ (k : ℕ). k / 32) s, inside-rows n (b .before .if1 .left) (c .before .if2 .left) (omega (arith, ap (λ (k : ℕ). k % 32) s, c .if3 .left)))
-
-returns-4 : tie.Need-returns-4
-returns-4 c =
-    let b = c .before .before .before in
-    let n = b .before .before .args .number in
-    let s = b .span-of .ensures in
-    let t = b .before .if1 .left in
-    let z = c .before .before .if2 .left in
-    let r : n % 100 ≤ rowCount (n / 100) = omega (arith, ap (λ (k : ℕ). k % 32) s, c .before .if3 .left) in
-    let p = begin (n / 100) + n % 100 - 1 in
-    c .shape-at .ensures
-    ∙ ap (λ (k : ℕ). getD shapes (k / 32 + n % 100 - 1) 0) s
-    ∙ within shapes p 0 noShape (inside-rows n t z r)
-    ∙ ap (λ (i : ℕ). getD shapes i noShape) (sym (inside-table n t z r))
+none : tie.Need-returns-200
+none c = no-signal Unit (c .before .args .number) signals (c .match .rest)
 
 pub shape-of-spec : {M : Type 1} → statement M
 shape-of-spec =
     tie.close
-    (tie.spec cast-table cast-row returns span-of-requires returns-2 returns-3 add-shape-at sub-shape-at shape-at-requires returns-4)
+    (tie.spec
+    (λ c. arm (c .match .keys1))
+    (λ c. arm (c .match .keys2))
+    (λ c. arm (c .match .keys3))
+    (λ c. arm (c .match .keys4))
+    (λ c. arm (c .match .keys5))
+    (λ c. arm (c .match .keys6))
+    (λ c. arm (c .match .keys7))
+    (λ c. arm (c .match .keys8))
+    (λ c. arm (c .match .keys9))
+    (λ c. arm (c .match .keys10))
+    (λ c. arm (c .match .keys11))
+    (λ c. arm (c .match .keys12))
+    (λ c. arm (c .match .keys13))
+    (λ c. arm (c .match .keys14))
+    (λ c. arm (c .match .keys15))
+    (λ c. arm (c .match .keys16))
+    (λ c. arm (c .match .keys17))
+    (λ c. arm (c .match .keys18))
+    (λ c. arm (c .match .keys19))
+    (λ c. arm (c .match .keys20))
+    (λ c. arm (c .match .keys21))
+    (λ c. arm (c .match .keys22))
+    (λ c. arm (c .match .keys23))
+    (λ c. arm (c .match .keys24))
+    (λ c. arm (c .match .keys25))
+    (λ c. arm (c .match .keys26))
+    (λ c. arm (c .match .keys27))
+    (λ c. arm (c .match .keys28))
+    (λ c. arm (c .match .keys29))
+    (λ c. arm (c .match .keys30))
+    (λ c. arm (c .match .keys31))
+    (λ c. arm (c .match .keys32))
+    (λ c. arm (c .match .keys33))
+    (λ c. arm (c .match .keys34))
+    (λ c. arm (c .match .keys35))
+    (λ c. arm (c .match .keys36))
+    (λ c. arm (c .match .keys37))
+    (λ c. arm (c .match .keys38))
+    (λ c. arm (c .match .keys39))
+    (λ c. arm (c .match .keys40))
+    (λ c. arm (c .match .keys41))
+    (λ c. arm (c .match .keys42))
+    (λ c. arm (c .match .keys43))
+    (λ c. arm (c .match .keys44))
+    (λ c. arm (c .match .keys45))
+    (λ c. arm (c .match .keys46))
+    (λ c. arm (c .match .keys47))
+    (λ c. arm (c .match .keys48))
+    (λ c. arm (c .match .keys49))
+    (λ c. arm (c .match .keys50))
+    (λ c. arm (c .match .keys51))
+    (λ c. arm (c .match .keys52))
+    (λ c. arm (c .match .keys53))
+    (λ c. arm (c .match .keys54))
+    (λ c. arm (c .match .keys55))
+    (λ c. arm (c .match .keys56))
+    (λ c. arm (c .match .keys57))
+    (λ c. arm (c .match .keys58))
+    (λ c. arm (c .match .keys59))
+    (λ c. arm (c .match .keys60))
+    (λ c. arm (c .match .keys61))
+    (λ c. arm (c .match .keys62))
+    (λ c. arm (c .match .keys63))
+    (λ c. arm (c .match .keys64))
+    (λ c. arm (c .match .keys65))
+    (λ c. arm (c .match .keys66))
+    (λ c. arm (c .match .keys67))
+    (λ c. arm (c .match .keys68))
+    (λ c. arm (c .match .keys69))
+    (λ c. arm (c .match .keys70))
+    (λ c. arm (c .match .keys71))
+    (λ c. arm (c .match .keys72))
+    (λ c. arm (c .match .keys73))
+    (λ c. arm (c .match .keys74))
+    (λ c. arm (c .match .keys75))
+    (λ c. arm (c .match .keys76))
+    (λ c. arm (c .match .keys77))
+    (λ c. arm (c .match .keys78))
+    (λ c. arm (c .match .keys79))
+    (λ c. arm (c .match .keys80))
+    (λ c. arm (c .match .keys81))
+    (λ c. arm (c .match .keys82))
+    (λ c. arm (c .match .keys83))
+    (λ c. arm (c .match .keys84))
+    (λ c. arm (c .match .keys85))
+    (λ c. arm (c .match .keys86))
+    (λ c. arm (c .match .keys87))
+    (λ c. arm (c .match .keys88))
+    (λ c. arm (c .match .keys89))
+    (λ c. arm (c .match .keys90))
+    (λ c. arm (c .match .keys91))
+    (λ c. arm (c .match .keys92))
+    (λ c. arm (c .match .keys93))
+    (λ c. arm (c .match .keys94))
+    (λ c. arm (c .match .keys95))
+    (λ c. arm (c .match .keys96))
+    (λ c. arm (c .match .keys97))
+    (λ c. arm (c .match .keys98))
+    (λ c. arm (c .match .keys99))
+    (λ c. arm (c .match .keys100))
+    (λ c. arm (c .match .keys101))
+    (λ c. arm (c .match .keys102))
+    (λ c. arm (c .match .keys103))
+    (λ c. arm (c .match .keys104))
+    (λ c. arm (c .match .keys105))
+    (λ c. arm (c .match .keys106))
+    (λ c. arm (c .match .keys107))
+    (λ c. arm (c .match .keys108))
+    (λ c. arm (c .match .keys109))
+    (λ c. arm (c .match .keys110))
+    (λ c. arm (c .match .keys111))
+    (λ c. arm (c .match .keys112))
+    (λ c. arm (c .match .keys113))
+    (λ c. arm (c .match .keys114))
+    (λ c. arm (c .match .keys115))
+    (λ c. arm (c .match .keys116))
+    (λ c. arm (c .match .keys117))
+    (λ c. arm (c .match .keys118))
+    (λ c. arm (c .match .keys119))
+    (λ c. arm (c .match .keys120))
+    (λ c. arm (c .match .keys121))
+    (λ c. arm (c .match .keys122))
+    (λ c. arm (c .match .keys123))
+    (λ c. arm (c .match .keys124))
+    (λ c. arm (c .match .keys125))
+    (λ c. arm (c .match .keys126))
+    (λ c. arm (c .match .keys127))
+    (λ c. arm (c .match .keys128))
+    (λ c. arm (c .match .keys129))
+    (λ c. arm (c .match .keys130))
+    (λ c. arm (c .match .keys131))
+    (λ c. arm (c .match .keys132))
+    (λ c. arm (c .match .keys133))
+    (λ c. arm (c .match .keys134))
+    (λ c. arm (c .match .keys135))
+    (λ c. arm (c .match .keys136))
+    (λ c. arm (c .match .keys137))
+    (λ c. arm (c .match .keys138))
+    (λ c. arm (c .match .keys139))
+    (λ c. arm (c .match .keys140))
+    (λ c. arm (c .match .keys141))
+    (λ c. arm (c .match .keys142))
+    (λ c. arm (c .match .keys143))
+    (λ c. arm (c .match .keys144))
+    (λ c. arm (c .match .keys145))
+    (λ c. arm (c .match .keys146))
+    (λ c. arm (c .match .keys147))
+    (λ c. arm (c .match .keys148))
+    (λ c. arm (c .match .keys149))
+    (λ c. arm (c .match .keys150))
+    (λ c. arm (c .match .keys151))
+    (λ c. arm (c .match .keys152))
+    (λ c. arm (c .match .keys153))
+    (λ c. arm (c .match .keys154))
+    (λ c. arm (c .match .keys155))
+    (λ c. arm (c .match .keys156))
+    (λ c. arm (c .match .keys157))
+    (λ c. arm (c .match .keys158))
+    (λ c. arm (c .match .keys159))
+    (λ c. arm (c .match .keys160))
+    (λ c. arm (c .match .keys161))
+    (λ c. arm (c .match .keys162))
+    (λ c. arm (c .match .keys163))
+    (λ c. arm (c .match .keys164))
+    (λ c. arm (c .match .keys165))
+    (λ c. arm (c .match .keys166))
+    (λ c. arm (c .match .keys167))
+    (λ c. arm (c .match .keys168))
+    (λ c. arm (c .match .keys169))
+    (λ c. arm (c .match .keys170))
+    (λ c. arm (c .match .keys171))
+    (λ c. arm (c .match .keys172))
+    (λ c. arm (c .match .keys173))
+    (λ c. arm (c .match .keys174))
+    (λ c. arm (c .match .keys175))
+    (λ c. arm (c .match .keys176))
+    (λ c. arm (c .match .keys177))
+    (λ c. arm (c .match .keys178))
+    (λ c. arm (c .match .keys179))
+    (λ c. arm (c .match .keys180))
+    (λ c. arm (c .match .keys181))
+    (λ c. arm (c .match .keys182))
+    (λ c. arm (c .match .keys183))
+    (λ c. arm (c .match .keys184))
+    (λ c. arm (c .match .keys185))
+    (λ c. arm (c .match .keys186))
+    (λ c. arm (c .match .keys187))
+    (λ c. arm (c .match .keys188))
+    (λ c. arm (c .match .keys189))
+    (λ c. arm (c .match .keys190))
+    (λ c. arm (c .match .keys191))
+    (λ c. arm (c .match .keys192))
+    (λ c. arm (c .match .keys193))
+    (λ c. arm (c .match .keys194))
+    (λ c. arm (c .match .keys195))
+    (λ c. arm (c .match .keys196))
+    (λ c. arm (c .match .keys197))
+    (λ c. arm (c .match .keys198))
+    (λ c. arm (c .match .keys199))
+    none)
