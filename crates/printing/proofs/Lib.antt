@@ -1,0 +1,4 @@
+pub mod Puts
+pub mod Counting
+pub mod Signs
+pub mod Spelling

@@ -1,0 +1,49 @@
+-- Texts written one after another, and a text written byte by byte. Assumes nothing.
+use mathlib.Core.Path.{_≡_, refl, sym, ap, _∙_}
+use mathlib.Core.List.{List, [], _∷_, _++_}
+use Prim.Native.Nat.{ℕ, suc, _+_, _≤_, _<_}
+use native.Mathlib.Nat.{add-zero, add-suc, suc-add}
+use native.Mathlib.Numerals.{add-one}
+use native.Mathlib.Omega.{arith}
+use lib.ListN.{length, drop, set, getD, length-append, length-set, drop-of-length-le}
+use lib.Seq.{sets, length-sets, drop-cons}
+use Rattle.printing.specs.Put.{Put}
+
+pub sets-append : (l : List ℕ) (at : ℕ) (a b : List ℕ) → sets (sets l at a) (at + length a) b ≡ sets l at (a ++ b)
+sets-append l at [] b = ap (λ (n : ℕ). sets l n b) (add-zero at)
+sets-append l at (x ∷ a) b = ap (λ (n : ℕ). sets (sets (set l at x) (suc at) a) n b) (add-suc at (length a) ∙ sym (suc-add at (length a))) ∙ sets-append (set l at x) (suc at) a b
+
+pub put-length : {old : List ℕ} {at : ℕ} {text new : List ℕ} {next : ℕ} → Put old at text new next → length new ≡ length old
+put-length {old} {at} {text} p = ap length (p .now-there) ∙ length-sets old at text
+
+pub put-nothing : (old : List ℕ) (at : ℕ) → Put old at [] old at
+put-nothing old at = record { now-there = refl; now-at = sym (add-zero at) }
+
+-- one text after another is both
+pub and-then : {old : List ℕ} {at : ℕ} {a mid : List ℕ} {m : ℕ} {b new : List ℕ} {next : ℕ} → Put old at a mid m → Put mid m b new next → Put old at (a ++ b) new next
+and-then {old} {at} {a} {mid} {m} {b} p q =
+    record {
+      now-there = q .now-there ∙ ap (λ (l : List ℕ). sets l m b) (p .now-there) ∙ ap (λ (n : ℕ). sets (sets old at a) n b) (p .now-at) ∙ sets-append old at a b;
+      now-at = omega (arith, p .now-at, q .now-at, length-append a b);
+    }
+
+-- i bytes of a text are written: writing what is left gives the final list
+pub record Written (old : List ℕ) (at : ℕ) (text out : List ℕ) (i : ℕ) : Type 0 where
+  pub rest : sets out (at + i) (drop i text) ≡ sets old at text
+  pub within : i ≤ length text
+  pub size : length out ≡ length old
+
+pub none-written : (old : List ℕ) (at : ℕ) (text : List ℕ) → Written old at text old 0
+none-written old at text = record { rest = ap (λ (n : ℕ). sets old n text) (add-zero at); within = omega arith; size = refl }
+
+module _ {old : List ℕ} {at : ℕ} {text out : List ℕ} {i : ℕ} (w : Written old at text out i) where
+  pub byte-written : i < length text → Written old at text (set out (at + i) (getD text i 0)) (i + 1)
+  byte-written h =
+      record {
+        rest = rw (add-one i, add-suc at i) (rw (drop-cons text i 0 h) at (w .rest));
+        within = omega arith;
+        size = length-set out (at + i) (getD text i 0) ∙ w .size;
+      }
+
+  pub all-written : length text ≤ i → Put old at text out (at + i)
+  all-written h = record { now-there = rw (drop-of-length-le text h) at (w .rest); now-at = omega (arith, w .within) }
