@@ -1,4 +1,5 @@
 pub mod Arms
-pub mod Table
+pub mod Ruled
 pub mod Whole
+pub mod Found
 pub mod Shaped

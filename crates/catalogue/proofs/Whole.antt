@@ -1,17 +1,10 @@
--- The catalogue keeps its rule, at each row and so at the row of each signal. Assumes nothing.
+-- The catalogue keeps its rule, at each row. Assumes nothing.
 use mathlib.Core.Path.{_≡_, refl, sym, subst}
-use mathlib.Core.Bool.{Bool, true, false, cond}
-use mathlib.Core.List.{List, [], _∷_}
-use mathlib.Core.Option.{Option, none, some}
-use Prim.Native.Nat.{ℕ, zero, suc, _≤_, _<_}
-use native.Mathlib.Omega.{arith}
-use lib.Dec.{eqb}
+use Prim.Native.Nat.{ℕ, _<_}
 use lib.ListN.{length, getD}
-use Rattle.catalogue.specs.declared.Row.{Row}
 use Rattle.catalogue.specs.Rows.{rows, blank}
-use Rattle.catalogue.specs.Rule.{Rule, Kept, mostBits}
-use Rattle.catalogue.specs.Find.{rowIn, rowOf, bitsIn, bitsOf}
-use Rattle.catalogue.proofs.Table.{at}
+use Rattle.catalogue.specs.Rule.{Rule, Kept}
+use Rattle.catalogue.proofs.Ruled.{at}
 
 pub all-kept : Kept rows
 unfolding rows
@@ -23,31 +16,3 @@ count = refl
 
 pub rule-at : (i : ℕ) → i < 199 → Rule (getD rows i blank)
 rule-at i h = all-kept .rule i (subst (λ (n : ℕ). i < n) (sym count) h)
-
--- ---- the row of a signal
-
--- the rule, where there is a row
-abbrev pub RuleOf : Option Row → Type 0
-RuleOf none = Unit
-RuleOf (some r) = Rule r
-
-either : (b : Bool) (r : Row) (o : Option Row) → Rule r → RuleOf o → RuleOf (cond b (some r) o)
-either true r o p q = p
-either false r o p q = q
-
-in-table : (n : ℕ) (rs : List Row) → ((i : ℕ) → i < length rs → Rule (getD rs i blank)) → RuleOf (rowIn n rs)
-in-table n [] rule = tt
-in-table n (r ∷ rs) rule = either (eqb (r .number) n) r (rowIn n rs) (rule 0 (omega arith)) (in-table n rs (λ i h. rule (suc i) (omega arith)))
-
-pub rule-of : (n : ℕ) → RuleOf (rowOf n)
-unfolding rowOf
-rule-of n = in-table n rows (all-kept .rule)
-
-few : (o : Option Row) → RuleOf o → bitsIn o ≤ mostBits
-few none rule = omega arith
-few (some r) rule = rule .few-bits
-
--- no signal has more than 32 bits
-pub few-bits : (n : ℕ) → bitsOf n ≤ mostBits
-unfolding bitsOf
-few-bits n = few (rowOf n) (rule-of n)

@@ -1,8 +1,10 @@
 // The signal catalogue: the 199 signals of QC/T 1201.5-2023, and the width of each by its number.
 mod shapes;
+mod table;
 
 use shapes::bits_by;
 pub use shapes::shape_of;
+pub use table::row_at;
 ghost use mathlib.Core.Path.{_≡_};
 ghost use Rattle.catalogue.specs.Find.{bitsOf};
 
