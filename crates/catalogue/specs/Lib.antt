@@ -2,3 +2,4 @@ pub mod Rows
 pub mod Rule
 pub mod Find
 pub mod Shapes
+pub mod Class

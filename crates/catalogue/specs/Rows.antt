@@ -16,20 +16,32 @@ abbrev pub minus : ℕ → ℤ
 minus n = negℤ (pos n)
 
 -- the kinds of marks, by their codes in the table
+abbrev pub invalidKind : ℕ
+invalidKind = 1
+
+abbrev pub absentKind : ℕ
+absentKind = 2
+
+abbrev pub errorKind : ℕ
+errorKind = 3
+
+abbrev pub reservedKind : ℕ
+reservedKind = 4
+
 abbrev pub mark : ℕ → ℕ → ℕ → Mark
 mark kind first last = record { kind = kind; first = first; last = last }
 
 abbrev pub invalid : ℕ → ℕ → Mark
-invalid first last = mark 1 first last
+invalid first last = mark invalidKind first last
 
 abbrev pub absent : ℕ → ℕ → Mark
-absent first last = mark 2 first last
+absent first last = mark absentKind first last
 
 abbrev pub error : ℕ → ℕ → Mark
-error first last = mark 3 first last
+error first last = mark errorKind first last
 
 abbrev pub reserved : ℕ → ℕ → Mark
-reserved first last = mark 4 first last
+reserved first last = mark reservedKind first last
 
 -- no mark: an interval with no code in it
 abbrev pub unmarked : Mark

@@ -1,7 +1,9 @@
 // The signal catalogue: the 199 signals of QC/T 1201.5-2023, and the width of each by its number.
+mod classes;
 mod shapes;
 mod table;
 
+pub use classes::class_of;
 use shapes::bits_by;
 pub use shapes::shape_of;
 pub use table::row_at;
@@ -32,6 +34,22 @@ pub struct Row {
     pub mark1: Mark,
     pub mark2: Mark,
     pub mark3: Mark,
+}
+
+// What a raw count of a signal stands for: one of six classes, or one of the refusals 3 and 26.
+pub enum Class {
+    // Within the raw limits and no mark: the reading.
+    Value(Thousandths),
+    Invalid(Raw),
+    // Not detected, or no port.
+    Absent(Raw),
+    Error(Raw),
+    Reserved(Raw),
+    // No mark, and beyond the raw limits.
+    Outside(Raw),
+    NotInCatalogue,
+    // More bits than the signal has.
+    TooWide,
 }
 
 // The bits of a signal: 0 where the catalogue has no such signal.

@@ -1,0 +1,73 @@
+-- What a raw count of a signal stands for. Assumes nothing.
+use mathlib.Core.Bool.{Bool, cond, _&&_}
+use mathlib.Core.Option.{Option, none, some}
+use Prim.Native.Nat.{ℕ, _*_, _^_}
+use lib.Dec.{leb, eqb}
+use lib.IntN.{ℤ, pos, _+ℤ_}
+use Rattle.catalogue.specs.declared.Mark.{Mark}
+use Rattle.catalogue.specs.declared.Row.{Row}
+use Rattle.catalogue.specs.declared.Raw.{Raw}
+use Rattle.catalogue.specs.declared.Thousandths.{Thousandths}
+use Rattle.catalogue.specs.declared.Class.{Class}
+use Rattle.catalogue.specs.declared.Class.the-variants.{Value, Invalid, Absent, Error, Reserved, Outside, NotInCatalogue, TooWide}
+use Rattle.catalogue.specs.Rows.{invalidKind, absentKind, errorKind}
+use Rattle.catalogue.specs.Find.{rowOf}
+
+-- first <= count <= last
+unfoldable pub between : ℕ → ℕ → ℕ → Bool
+between first last count = leb first count && leb count last
+
+-- the class that a mark gives, by its kind
+abbrev pub markClass : ℕ → Raw → Class
+markClass kind raw =
+    cond (eqb kind invalidKind) (Invalid raw) (cond (eqb kind absentKind) (Absent raw) (cond (eqb kind errorKind) (Error raw) (Reserved raw)))
+
+-- raw x resolution + offset, exactly
+abbrev pub readingOf : Row → Raw → Thousandths
+readingOf r raw = record { 0 = pos (raw .0 * r .resolution) +ℤ r .offset }
+
+-- the mark has the count
+abbrev pub has : Mark → Raw → Bool
+has m raw = between (m .first) (m .last) (raw .0)
+
+-- a mark wins over the range; then value if within the raw limits; else outside
+abbrev pub classIn : Row → Raw → Class
+classIn r raw =
+    cond (has (r .mark1) raw) (markClass (r .mark1 .kind) raw)
+    (cond (has (r .mark2) raw) (markClass (r .mark2 .kind) raw)
+    (cond (has (r .mark3) raw) (markClass (r .mark3 .kind) raw)
+    (cond (between (r .lowest) (r .highest) (raw .0)) (Value (readingOf r raw))
+    (Outside raw))))
+
+-- no such signal; or too wide for it; or its class in the signal's row
+abbrev pub classFor : Option Row → Raw → Class
+classFor none raw = NotInCatalogue
+classFor (some r) raw = cond (leb (2 ^ r .bits) (raw .0)) TooWide (classIn r raw)
+
+-- the class of a raw count of the signal with a number
+unfoldable pub classOf : ℕ → Raw → Class
+classOf number raw = classFor (rowOf number) raw
+
+-- ---- what document 01 says for each case
+
+-- the refusal's number, 0 where nothing is refused
+abbrev pub refusalOf : Class → ℕ
+refusalOf (Value t) = 0
+refusalOf (Invalid raw) = 0
+refusalOf (Absent raw) = 0
+refusalOf (Error raw) = 0
+refusalOf (Reserved raw) = 0
+refusalOf (Outside raw) = 0
+refusalOf NotInCatalogue = 3
+refusalOf TooWide = 26
+
+-- the number that goes with it: the thousandths of a value, the raw count of any other class
+abbrev pub carriedBy : Class → ℤ
+carriedBy (Value t) = t .0
+carriedBy (Invalid raw) = pos (raw .0)
+carriedBy (Absent raw) = pos (raw .0)
+carriedBy (Error raw) = pos (raw .0)
+carriedBy (Reserved raw) = pos (raw .0)
+carriedBy (Outside raw) = pos (raw .0)
+carriedBy NotInCatalogue = pos 0
+carriedBy TooWide = pos 0
