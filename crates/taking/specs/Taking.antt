@@ -1,0 +1,57 @@
+-- What taking lines into lent words answers, and what the words are then. Assumes nothing: these are definitions.
+use mathlib.Core.Path.{_≡_}
+use Prim.Native.Nat.{ℕ}
+use mathlib.Core.Bool.{Bool, true, false}
+use mathlib.Core.List.{List, [], _∷_}
+use Rattle.answers.specs.Numbers.{number}
+use Rattle.line.specs.declared.Line.{Line}
+use Rattle.line.specs.declared.Line.the-variants as line
+use Rattle.books.specs.Book.{Book, noBook}
+use Rattle.books.specs.Words.{wordsOf}
+use Rattle.reading.specs.Reading.{Outcome, passed, refused, refusalOf, withLine, linesRead}
+use Rattle.tables.specs.declared.Added.{Added}
+use Rattle.tables.specs.Adding.{Holds, unless}
+use Rattle.tables.specs.Adding as adding
+use Rattle.taking.specs.declared.Step.{Step}
+use Rattle.taking.specs.declared.Step.the-variants as step
+use Rattle.taking.specs.declared.Lines.{Lines}
+use Rattle.taking.specs.declared.Lines.the-variants as came
+
+-- document 01's number of what refused a line, 0 where it is taken
+abbrev pub stepNumber : Step → ℕ
+stepNumber step.Taken = 0
+stepNumber (step.Refused why) = number why
+
+abbrev pub addedNumber : Added → ℕ
+addedNumber added = adding.refusalOf added
+
+-- the line is judged after the book b, and is in the words where it is taken
+pub record Took (b : Book) (l : Line) (r : Step) (w : List ℕ) : Type 0 where
+  pub answer : stepNumber r ≡ refusalOf b l
+  pub words : w ≡ wordsOf (unless (refusalOf b l) b (withLine b l))
+
+-- the words of the empty book
+abbrev pub Empty : List ℕ → Type 0
+Empty w = w ≡ wordsOf noBook
+
+-- the lines of the text pass, and the words are those of the book that they give
+pub record PassedTo (text w : List ℕ) : Type 0 where
+  pub book : Book
+  pub numbers : List ℕ
+  pub read : linesRead text ≡ passed book numbers
+  pub holds : Holds w book
+
+abbrev pub Came : List ℕ → Lines → List ℕ → Type 0
+Came text came.Passed w = PassedTo text w
+Came text (came.Refused why n) w = linesRead text ≡ refused (number why) n
+
+abbrev pub isRoute : Line → Bool
+isRoute (line.Message i) = false
+isRoute (line.Signal n s) = false
+isRoute (line.Route a i b j) = true
+isRoute line.IllFormed = false
+
+-- none of the lines is ill formed
+pub data Well : List Line → Type 0 where
+  none : Well []
+  more : {l : Line} {ls : List Line} → (l ≡ line.IllFormed → ⊥) → Well ls → Well (l ∷ ls)

@@ -1,0 +1,114 @@
+// The lines of a text, one after the other, into the lent words of a book: up to the first line that is refused. And the number of
+// the line that a route was read from. For the crate `book`; what a line adds is done by `tables`.
+use answers::Refusal;
+use line::Line;
+use line::read_first;
+use parts::part_from;
+use record::BOOK_WORDS;
+use tables::Added;
+ghost use mathlib.Core.Path.{_≡_};
+ghost use Prim.Native.Nat.{_≤_};
+ghost use lib.ListN.{length, getD};
+ghost use Rattle.record.specs.Limits.{textLimit};
+ghost use Rattle.books.specs.Book.{Book};
+ghost use Rattle.reading.specs.Reading.{meanings};
+ghost use Rattle.reading.specs.Taken.{rLinesFrom};
+ghost use Rattle.tables.specs.Adding.{OfBook, Holds};
+ghost use Rattle.taking.specs.Taking.{stepNumber, addedNumber, isRoute, Took, Empty, Came, Well};
+
+// What came of one line.
+pub enum Step {
+    Taken,
+    Refused(Refusal),
+}
+
+// What came of the lines: all passed, or one was refused, with its number.
+pub enum Lines {
+    Passed,
+    Refused(Refusal, u32),
+}
+
+fn step_of(added: Added) -> Step
+    ensures { λ r. ⌜ stepNumber r ≡ addedNumber added ⌝ }
+{
+    match added {
+        Added::Taken => Step::Taken,
+        Added::OverLimit => Step::Refused(Refusal::OverLimit),
+        Added::BeforeAnyMessage => Step::Refused(Refusal::BeforeAnyMessage),
+        Added::MessageRepeated => Step::Refused(Refusal::MessageRepeated),
+        Added::SignalRepeated => Step::Refused(Refusal::SignalRepeated),
+        Added::Misplaced => Step::Refused(Refusal::Misplaced),
+        Added::BitsMeet => Step::Refused(Refusal::BitsMeet),
+        Added::Full => Step::Refused(Refusal::Full),
+    }
+}
+
+// One line more: the words are then those of the book with the line, or stay where the line is refused.
+fn take_line(book: &mut [u32; BOOK_WORDS], line: Line) -> Step
+    requires { ⌜ OfBook (now book) ⌝ }
+    ensures { λ r. ⌜ ((b : Book) → Holds (now (book .entry)) b → Took b line r (now (book .exit))) ⌝ }
+{
+    match line {
+        Line::Message(id) => step_of(tables::add_message(book, id)),
+        Line::Signal(number, start) => step_of(tables::add_signal(book, number, start)),
+        Line::Route(from_bus, from_id, to_bus, to_id) => {
+            step_of(tables::add_route(book, from_bus, from_id, to_bus, to_id))
+        }
+        Line::IllFormed => Step::Refused(Refusal::IllFormed),
+    }
+}
+
+// The lines of a text into an empty book.
+pub fn take_lines(text: &[u8], book: &mut [u32; BOOK_WORDS]) -> Lines
+    requires { ⌜ (length (now text) ≤ textLimit) × Empty (now book) ⌝ }
+    ensures { λ r. ⌜ Came (now (text .entry)) r (now (book .exit)) ⌝ }
+{
+    let mut at: usize = 0;
+    let mut n: u32 = 1;
+    while at < text.len() {
+        let first = read_first(part_from(text, at));
+        let size = first.size;
+        let line = first.line;
+        if let Step::Refused(why) = take_line(&mut *book, line) {
+            return Lines::Refused(why, n);
+        }
+        at += size;
+        n += 1;
+    }
+    Lines::Passed
+}
+
+fn is_route(line: Line) -> bool
+    ensures { λ r. ⌜ r ≡ isRoute line ⌝ }
+{
+    match line {
+        Line::Message(_) => false,
+        Line::Signal(_, _) => false,
+        Line::Route(_, _, _, _) => true,
+        Line::IllFormed => false,
+    }
+}
+
+// The number of the line that a route of the text stands on, routes counted from 0; 0 where there are not so many.
+pub fn route_line(text: &[u8], route: usize) -> u32
+    requires { ⌜ (length (now text) ≤ textLimit) × Well (meanings (now text)) ⌝ }
+    ensures { λ r. ⌜ r ≡ getD (rLinesFrom 1 (meanings (now (text .entry)))) route 0 ⌝ }
+{
+    let mut at: usize = 0;
+    let mut n: u32 = 1;
+    let mut left: usize = route;
+    while at < text.len() {
+        let first = read_first(part_from(text, at));
+        let size = first.size;
+        let line = first.line;
+        if is_route(line) {
+            if left == 0 {
+                return n;
+            }
+            left -= 1;
+        }
+        at += size;
+        n += 1;
+    }
+    0
+}
