@@ -1,0 +1,1 @@
+// No code: the worked examples of document 01 ("Proved table"), one list under one proof.
