@@ -12,7 +12,7 @@ use Rattle.chains.specs.Chain.{Walk, OnClosed, LoopFree, Doubling, BeginsDoubli
 use Rattle.chains.proofs.Walks.{chain-walk}
 use Rattle.chains.proofs.Loops.{comesBack, closed-back, back-closed, loop-free, true-false}
 use Rattle.chains.proofs.Tests.{First, first, begins, begins-is, is-begins}
-use Rattle.verdict.specs.Verdicts.{Lowest, Judged}
+use Rattle.verdict.specs.Verdicts.{Lowest, IsSound, Judged}
 use Rattle.verdict.specs.declared.Verdict.{Verdict}
 use Rattle.verdict.specs.declared.Verdict.the-variants as verdict
 
@@ -37,7 +37,7 @@ module _ (fs ts : List ℕ) where
     doubling-found l = (free, (begins-is fs ts r l (f .found l), λ k h b. true-false (is-begins fs ts free k b) (f .before k h)))
 
     pub no-doubling : length fs ≤ r → Judged fs ts verdict.Sound
-    no-doubling l = (free, single (λ i h b. true-false (is-begins fs ts free i b) (f .before i (omega arith))))
+    no-doubling l = record { loop-free = free; single = single (λ i h b. true-false (is-begins fs ts free i b) (f .before i (omega arith))) }
 
   -- there is a verdict
   pub judged : (v : Verdict) × Judged fs ts v
@@ -68,10 +68,17 @@ module _ (fs ts : List ℕ) where
   pub judged-once : (v w : Verdict) → Judged fs ts v → Judged fs ts w → v ≡ w
   judged-once (verdict.Loop i) (verdict.Loop j) a b = ap verdict.Loop (lowest-once (OnClosed fs ts) i j a b)
   judged-once (verdict.Loop i) (verdict.Doubling j) a b = absurd (b .0 (a .0 .0) (a .0 .1) (a .0 .2))
-  judged-once (verdict.Loop i) verdict.Sound a b = absurd (b .0 (a .0 .0) (a .0 .1) (a .0 .2))
+  judged-once (verdict.Loop i) verdict.Sound a b = absurd (b .loop-free (a .0 .0) (a .0 .1) (a .0 .2))
   judged-once (verdict.Doubling i) (verdict.Loop j) a b = absurd (a .0 (b .0 .0) (b .0 .1) (b .0 .2))
   judged-once (verdict.Doubling i) (verdict.Doubling j) a b = ap verdict.Doubling (lowest-once (BeginsDoubling fs ts) i j (a .1) (b .1))
-  judged-once (verdict.Doubling i) verdict.Sound a b = let t = a .1 .0 in absurd (b .1 (t .0) (t .1) (i ∷ t .2) (t .3) (t .4))
-  judged-once verdict.Sound (verdict.Loop j) a b = absurd (a .0 (b .0 .0) (b .0 .1) (b .0 .2))
-  judged-once verdict.Sound (verdict.Doubling j) a b = let t = b .1 .0 in absurd (a .1 (t .0) (t .1) (j ∷ t .2) (t .3) (t .4))
+  judged-once (verdict.Doubling i) verdict.Sound a b = let t = a .1 .0 in absurd (b .single (t .0) (t .1) (i ∷ t .2) (t .3) (t .4))
+  judged-once verdict.Sound (verdict.Loop j) a b = absurd (a .loop-free (b .0 .0) (b .0 .1) (b .0 .2))
+  judged-once verdict.Sound (verdict.Doubling j) a b = let t = b .1 .0 in absurd (a .single (t .0) (t .1) (j ∷ t .2) (t .3) (t .4))
   judged-once verdict.Sound verdict.Sound a b = refl
+
+  -- a table with another verdict is not sound
+  pub loop-unsound : (i : ℕ) → Judged fs ts (verdict.Loop i) → IsSound fs ts → ⊥
+  loop-unsound i a b = b .loop-free (a .0 .0) (a .0 .1) (a .0 .2)
+
+  pub doubling-unsound : (i : ℕ) → Judged fs ts (verdict.Doubling i) → IsSound fs ts → ⊥
+  doubling-unsound i a b = let t = a .1 .0 in b .single (t .0) (t .1) (i ∷ t .2) (t .3) (t .4)

@@ -1,13 +1,24 @@
 -- The verdict on a table of routes, over its chains. Assumes nothing: these are definitions.
+use mathlib.Core.Bool.{Bool, true, false}
 use Prim.Native.Nat.{ℕ, _<_}
 use mathlib.Core.List.{List}
 use Rattle.chains.specs.Chain.{OnClosed, LoopFree, BeginsDoubling, Single}
 use Rattle.verdict.specs.declared.Verdict.{Verdict}
 use Rattle.verdict.specs.declared.Verdict.the-variants.{Loop, Doubling, Sound}
 
+-- r says whether P holds
+abbrev pub Tells : Type 0 → Bool → Type 0
+Tells P true = P
+Tells P false = P → ⊥
+
 -- P holds of route i and of no lower one
 abbrev pub Lowest : (ℕ → Type 0) → ℕ → Type 0
 Lowest P i = P i × ((k : ℕ) → k < i → P k → ⊥)
+
+-- no closed chain, and no two different chains that join the same two places
+pub record IsSound (froms tos : List ℕ) : Type 0 where
+  pub loop-free : LoopFree froms tos
+  pub single : Single froms tos
 
 -- 10: a closed chain exists, and the route is the lowest on one
 -- 11: none does, but two different chains join the same two places, and the route is the lowest that begins one of such a pair
@@ -15,7 +26,7 @@ Lowest P i = P i × ((k : ℕ) → k < i → P k → ⊥)
 abbrev pub Judged : List ℕ → List ℕ → Verdict → Type 0
 Judged froms tos (Loop i) = Lowest (OnClosed froms tos) i
 Judged froms tos (Doubling i) = LoopFree froms tos × Lowest (BeginsDoubling froms tos) i
-Judged froms tos Sound = LoopFree froms tos × Single froms tos
+Judged froms tos Sound = IsSound froms tos
 
 -- the refusal's number, 0 where there is none
 abbrev pub refusal : Verdict → ℕ

@@ -6,7 +6,7 @@ ghost use lib.ListN.{length, getD};
 ghost use Rattle.chains.proofs.Tests.{any, First};
 ghost use Rattle.reach.specs.Table.{Holds};
 ghost use Rattle.verdict.specs.Searches.{ownBit, forkBy, forksBy, beginsBy};
-ghost use Rattle.verdict.specs.Verdicts.{Judged};
+ghost use Rattle.verdict.specs.Verdicts.{IsSound, Judged, Tells};
 
 // Routes are named by their index in the table.
 pub enum Verdict {
@@ -112,4 +112,16 @@ pub fn judge(froms: &[u32], tos: &[u32]) -> Verdict
         return Verdict::Doubling(j);
     }
     Verdict::Sound
+}
+
+// Whether the verdict is sound.
+pub fn sound(froms: &[u32], tos: &[u32]) -> bool
+    requires { ⌜ (length (now froms) ≤ 64) × (length (now froms) ≡ length (now tos)) ⌝ }
+    ensures { λ r. ⌜ Tells (IsSound (now (froms .entry)) (now (tos .entry))) r ⌝ }
+{
+    match judge(froms, tos) {
+        Verdict::Loop(_) => false,
+        Verdict::Doubling(_) => false,
+        Verdict::Sound => true,
+    }
 }

@@ -1,0 +1,5 @@
+pub mod Front
+pub mod Taken
+pub mod Gathering
+pub mod Decided
+pub mod OneOutcome

@@ -1,0 +1,70 @@
+use Prim.Native.Nat.{ℕ}
+use lib.ListN.{take}
+-- `routes::routes_taken` meets its contract: each test that fails is one that a taken book passes. Assumes nothing.
+use mathlib.Core.Path.{_≡_, sym, _∙_, subst}
+use mathlib.Core.Bool.{Bool, true, false}
+use mathlib.Core.List.{List}
+use native.Mathlib.Omega.{arith}
+use borrow.Author.Tests.{not-true, not-false}
+use Rattle.chains.proofs.Loops.{true-false}
+use Rattle.verdict.specs.Verdicts.{IsSound, Tells}
+use Rattle.routes.proofs.Taken.{froms-past, tos-past, tells}
+use borrow.Author.Needs.{needs}
+use Rattle.routes.proofs.routes_taken.Statement.{statement}
+use Rattle.routes.proofs.routes_taken.Tie as tie
+
+count-requires : tie.Need-count-requires
+count-requires c κs = search needs
+
+returns : tie.Need-returns
+returns c = search needs
+
+froms-requires : tie.Need-froms-requires
+froms-requires c κs = search needs
+
+tos-requires : tie.Need-tos-requires
+tos-requires c κs = search needs
+
+no-more-requires : tie.Need-no-more-requires
+no-more-requires c κs = search needs
+
+returns-2 : tie.Need-returns-2
+returns-2 c = λ t. true-false (c .before .no-more .ensures ∙ froms-past _ _ _ _ (c .before .before .before .before .before .count .ensures) (c .before .before .before .froms .ensures .0) (c .before .before .tos .ensures .0) t) (not-true _ (c .if2 .taken))
+
+no-more-requires-2 : tie.Need-no-more-requires-2
+no-more-requires-2 c κs = search needs
+
+returns-3 : tie.Need-returns-3
+returns-3 c = λ t. true-false (c .before .no-more2 .ensures ∙ tos-past _ _ _ _ (c .before .before .before .before .before .before .before .count .ensures) (c .before .before .before .before .before .froms .ensures .0) (c .before .before .before .before .tos .ensures .0) t) (not-true _ (c .if3 .taken))
+
+first-requires : tie.Need-first-requires
+first-requires c κs = search needs
+
+first-requires-2 : tie.Need-first-requires-2
+first-requires-2 c κs = search needs
+
+sound-requires : tie.Need-sound-requires
+sound-requires c κs = search needs
+
+returns-4 : tie.Need-returns-4
+returns-4 c =
+    let s = subst (λ (fs : List ℕ). Tells (IsSound fs (c .before .first2 .result .now)) (c .sound .result)) (c .before .before .first .ensures .0) (c .sound .ensures) in
+    let s′ = subst (λ (ts : List ℕ). Tells (IsSound (take (c .before .before .before .before .before .before .before .before .before .before .count .result) (c .before .before .before .before .before .before .before .before .froms .result .now)) ts) (c .sound .result)) (c .before .first2 .ensures .0) s in
+    tells _ _ _ _ (c .before .before .before .before .before .before .before .before .before .before .count .ensures) (c .before .before .before .before .before .before .before .before .froms .ensures .0) (c .before .before .before .before .before .before .before .tos .ensures .0) (omega (arith, c .before .before .before .before .before .before .before .before .before .if1 .left)) (c .before .before .before .before .before .before .before .before .froms .ensures .1) (c .before .before .before .before .before .before .before .tos .ensures .1) (sym (c .before .before .before .before .before .before .no-more .ensures) ∙ not-false _ (c .before .before .before .before .before .if2 .left)) (sym (c .before .before .before .before .no-more2 .ensures) ∙ not-false _ (c .before .before .before .if3 .left)) (c .sound .result) s′
+
+pub routes-taken-spec : {M : Type 1} → statement M
+routes-taken-spec =
+    tie.close
+    (tie.spec
+    count-requires
+    returns
+    froms-requires
+    tos-requires
+    no-more-requires
+    returns-2
+    no-more-requires-2
+    returns-3
+    first-requires
+    first-requires-2
+    sound-requires
+    returns-4)

@@ -1,0 +1,122 @@
+// The spread of a place by the routes of a lent book, and the test that those routes are such as a taken book can have.
+// For network tools and gateways: `spread` is the call. It has no `requires`, writes nothing where it refuses, and what it
+// writes is stated over chains (specs/Answers.antt). `routes_taken` is for the crates above.
+ghost use mathlib.Core.Path.{_≡_};
+ghost use mathlib.Core.List.{_++_};
+ghost use Prim.Native.Nat.{_≤_};
+ghost use lib.ListN.{length, take, drop};
+ghost use Rattle.record.specs.Limits.{routes};
+ghost use Rattle.record.specs.Columns.{routeCountOf};
+ghost use Rattle.zeros.specs.Zeros.{zeros};
+ghost use Rattle.verdict.specs.Verdicts.{Tells};
+ghost use Rattle.routes.specs.Answers.{RoutesTaken, spreadBy, Answer};
+ghost use Rattle.routes.specs.Gathered.{Gathered};
+use record::BOOK_WORDS;
+use record::BUSES;
+use record::IDENTIFIER_LIMIT;
+use record::ROUTES;
+
+// What came of a call for a spread.
+pub enum Sent {
+    // this many places stand at the front of the room
+    Places(usize),
+    // the routes are those of no taken book
+    NotABook,
+    // the bus or the identifier is over its limit
+    NoSuchPlace,
+    // the room has fewer entries than the spread
+    NoRoom,
+}
+
+fn wide(x: u32) -> usize
+    ensures { λ r. ⌜ r ≡ x ⌝ }
+{
+    x as usize
+}
+
+// Copies the first n entries.
+fn copy(from: &[u32], n: usize, room: &mut [u32])
+    requires { ⌜ (n ≤ length (now from)) × (n ≤ length (now room)) ⌝ }
+    ensures { λ _. ⌜ now (room .exit) ≡ take n (now (from .entry)) ++ drop n (now (room .entry)) ⌝ }
+{
+    let mut i: usize = 0;
+    while i < n {
+        room[i] = from[i];
+        i += 1;
+    }
+}
+
+// How many routes the book says it has.
+fn count(book: &[u32; BOOK_WORDS]) -> usize
+    ensures { λ r. ⌜ r ≡ routeCountOf (now (book .entry)) ⌝ }
+{
+    wide(record::route_count(book))
+}
+
+// The first n entries of a column.
+fn first(column: &[u32], n: usize) -> &[u32]
+    requires { ⌜ n ≤ length (now column) ⌝ }
+    ensures { λ r. ⌜ (now r ≡ take n (now (column .entry))) × (length (now r) ≡ n) ⌝ }
+{
+    &column[..n]
+}
+
+// Whether a column has nothing but 0 past its first n entries.
+fn no_more(column: &[u32], n: usize) -> bool
+    requires { ⌜ n ≤ length (now column) ⌝ }
+    ensures { λ r. ⌜ r ≡ zeros (drop n (now (column .entry))) ⌝ }
+{
+    zeros::all_zero(&column[n..])
+}
+
+// Whether the route columns are those of a taken book.
+pub fn routes_taken(book: &[u32; BOOK_WORDS]) -> bool
+    ensures { λ r. ⌜ Tells (RoutesTaken (now (book .entry))) r ⌝ }
+{
+    let n = count(book);
+    if n > ROUTES {
+        return false;
+    }
+    let froms = record::froms(book);
+    let tos = record::tos(book);
+    if !no_more(froms, n) {
+        return false;
+    }
+    if !no_more(tos, n) {
+        return false;
+    }
+    verdict::sound(first(froms, n), first(tos, n))
+}
+
+// Writes the spread of `place` by the routes of the book to the front of `places`.
+fn gather(book: &[u32; BOOK_WORDS], place: u32, places: &mut [u32]) -> usize
+    requires { ⌜ RoutesTaken (now book) × (length (now places) ≡ routes) ⌝ }
+    ensures { λ r. ⌜ Gathered (spreadBy (now (book .entry)) place) (now (places .exit)) r ⌝ }
+{
+    let n = count(book);
+    let froms = record::froms(book);
+    let tos = record::tos(book);
+    sending::send(first(froms, n), first(tos, n), place, places, 0)
+}
+
+// Writes the spread of the place that is `identifier` on `bus` to the front of the room.
+pub fn spread(book: &[u32; BOOK_WORDS], bus: u32, identifier: u32, room: &mut [u32]) -> Sent
+    ensures { λ r. ⌜ Answer (now (book .entry)) bus identifier (now (room .entry)) r (now (room .exit)) ⌝ }
+{
+    if !routes_taken(book) {
+        return Sent::NotABook;
+    }
+    if bus >= BUSES {
+        return Sent::NoSuchPlace;
+    }
+    if identifier >= IDENTIFIER_LIMIT {
+        return Sent::NoSuchPlace;
+    }
+    let mut places = [0u32; ROUTES];
+    let written = gather(book, record::place(bus, identifier), &mut places);
+    if written > room.len() {
+        return Sent::NoRoom;
+    }
+    copy(&places, written, room);
+    Sent::Places(written)
+}
