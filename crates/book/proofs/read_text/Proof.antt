@@ -1,0 +1,52 @@
+-- `book::read_text` meets its contract: too long, a line refused, or by the verdict on the routes. Assumes nothing.
+use mathlib.Core.Path.{_∙_}
+use Rattle.book.proofs.Answers.{empty-too-long, empty-words, refused-line, all-passed}
+use borrow.Author.Needs.{needs}
+use Rattle.book.proofs.read_text.Statement.{statement}
+use Rattle.book.proofs.read_text.Tie as tie
+use Rattle.book.proofs.read_text.Reads as reads
+use Rattle.book.proofs.read_text.Lts as lts
+use Rattle.book.proofs.answer_passed.Reads as answer-passed-reads
+use Rattle.record.proofs.clear.Reads as clear-reads
+use Rattle.taking.proofs.take_lines.Reads as take-lines-reads
+
+clear-requires : tie.Need-clear-requires
+clear-requires c κs = search needs
+
+returns : tie.Need-returns
+returns c = empty-too-long (c .before .clear .ensures) (c .if1 .taken)
+
+take-lines-requires : tie.Need-take-lines-requires
+take-lines-requires c κs = (c .before .if1 .left, c .before .before .clear .ensures ∙ empty-words)
+
+enum-known-why : tie.Need-enum-known-why
+enum-known-why c = search needs
+
+clear-requires-2 : tie.Need-clear-requires-2
+clear-requires-2 c κs = search needs
+
+returns-2 : tie.Need-returns-2
+returns-2 c = refused-line _ _ _ (c .before .before .before .before .before .take-lines .ensures) _ _ (c .before .before .before .why .given .1) (c .before .before .before .before .before .before .before .if1 .left) (c .clear2 .ensures)
+
+enum-told : tie.Need-enum-told
+enum-told c = search needs
+
+answer-passed-requires : tie.Need-answer-passed-requires
+answer-passed-requires c κs = (c .before .before .before .before .before .if1 .left, all-passed _ _ _ (c .before .before .before .take-lines .ensures) (c .before .enum-told .given .1))
+
+returns-3 : tie.Need-returns-3
+returns-3 c = c .answer-passed .ensures
+
+pub read-text-spec : {M : Type 1} → statement M
+read-text-spec =
+    tie.close
+    (tie.spec
+    clear-requires
+    returns
+    take-lines-requires
+    enum-known-why
+    clear-requires-2
+    returns-2
+    enum-told
+    answer-passed-requires
+    returns-3)

@@ -1,0 +1,78 @@
+// The reader of a route book: a text to the words of a book, or to a refusal with its line. `read` is the call for users; it has no
+// `requires`, and whatever text and words are lent it says what it answers and what the words are then (specs/Answered.antt).
+use answers::Answer;
+use answers::Refusal;
+use columns::part;
+use record::BOOK_WORDS;
+use record::TEXT_LIMIT;
+use taking::Lines;
+use taking::route_line;
+use taking::take_lines;
+use verdict::Verdict;
+ghost use mathlib.Core.Path.{_≡_};
+ghost use Prim.Native.Nat.{_≤_};
+ghost use lib.ListN.{length};
+ghost use Rattle.record.specs.Limits.{textLimit};
+ghost use Rattle.answers.specs.Numbers.{said};
+ghost use Rattle.books.specs.Book.{Book};
+ghost use Rattle.reading.specs.Taken.{froms, tos};
+ghost use Rattle.tables.specs.Adding.{OfBook, Holds};
+ghost use Rattle.taking.specs.Taking.{PassedTo};
+ghost use Rattle.verdict.specs.Verdicts.{Judged};
+ghost use Rattle.book.specs.Answered.{Answered};
+
+fn wide(x: u32) -> usize
+    ensures { λ r. ⌜ r ≡ x ⌝ }
+{
+    x as usize
+}
+
+// The verdict on the routes of a book.
+fn verdict_on(book: &[u32; BOOK_WORDS]) -> Verdict
+    requires { ⌜ OfBook (now book) ⌝ }
+    ensures { λ r. ⌜ ((b : Book) → Holds (now (book .entry)) b → Judged (froms (b .routes)) (tos (b .routes)) r) ⌝ }
+{
+    let count = wide(record::route_count(book));
+    let froms = record::froms(book);
+    let tos = record::tos(book);
+    verdict::judge(part(froms, 0, count), part(tos, 0, count))
+}
+
+// The answer to a text whose lines have passed: by the verdict on its routes.
+fn answer_passed(text: &[u8], book: &mut [u32; BOOK_WORDS]) -> Answer
+    requires { ⌜ (length (now text) ≤ textLimit) × PassedTo (now text) (now book) ⌝ }
+    ensures { λ r. ⌜ Answered (now (text .entry)) (said r) (now (book .exit)) ⌝ }
+{
+    match verdict_on(&*book) {
+        Verdict::Loop(i) => {
+            record::clear(book);
+            Answer::Refused(Refusal::ClosedChain, route_line(text, i))
+        }
+        Verdict::Doubling(i) => {
+            record::clear(book);
+            Answer::Refused(Refusal::TwoChains, route_line(text, i))
+        }
+        Verdict::Sound => {
+            Answer::Taken(
+                record::message_count(&*book),
+                record::signal_count(&*book),
+                record::route_count(&*book),
+            )
+        }
+    }
+}
+
+// A text into the words, whatever they were: those of its book, or the empty book where it is refused.
+pub fn read_text(text: &[u8], book: &mut [u32; BOOK_WORDS]) -> Answer
+    ensures { λ r. ⌜ Answered (now (text .entry)) (said r) (now (book .exit)) ⌝ }
+{
+    record::clear(&mut *book);
+    if text.len() > TEXT_LIMIT {
+        return Answer::Refused(Refusal::TooLong, 0);
+    }
+    if let Lines::Refused(why, n) = take_lines(text, &mut *book) {
+        record::clear(book);
+        return Answer::Refused(why, n);
+    }
+    answer_passed(text, book)
+}
