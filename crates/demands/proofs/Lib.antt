@@ -1,0 +1,4 @@
+pub mod Refusals
+pub mod RouteTables
+pub mod Spreading
+pub mod LineNumbers

@@ -1,0 +1,180 @@
+-- Refusal 12 of the spread call, exactly: the route tables of a lent book are those of a taken book exactly when some text is taken with them.
+-- Assumes nothing.
+use mathlib.Core.Path.{_≡_, refl, sym, ap, _∙_, subst}
+use Prim.Native.Nat.{ℕ, zero, suc, _+_, _-_, _≤_, _<_}
+use native.Mathlib.Omega.{arith}
+use mathlib.Core.Bool.{true}
+use mathlib.Core.List.{List, [], _∷_, _++_, map}
+use lib.ListN.{length, getD, take, drop, replicate, length-append, length-map, length-take, length-drop, take-append-drop}
+use lib.Seq.{take-at, drop-at, take-all, take-take, drop-drop, take-add, length-take-le, getD-take, getD-drop}
+use Rattle.record.specs.Limits.{routes}
+use Rattle.record.specs.Columns.{routeCountOf, fromsOf, tosOf}
+use Rattle.chains.specs.Chain.{LoopFree, Single}
+use Rattle.verdict.specs.Verdicts.{IsSound}
+use Rattle.routes.specs.Answers.{startPlaces, endPlaces, RoutesTaken}
+use Rattle.books.specs.Book.{Book, Route}
+use Rattle.books.specs.Good.{good}
+use Rattle.books.specs.Words.{column, messageColumns, routeColumns, wordsOf}
+use Rattle.books.proofs.Columns.{length-column, take-column, part-of, columns-long, Within, within}
+use Rattle.reading.specs.Written.{Places, no-route, route}
+use Rattle.reading.specs.Taken.{froms, tos, Sound, TakenWith, RoutesStand}
+use Rattle.reading.proofs.Counts.{Routed, text-routed}
+use Rattle.reading.proofs.Exact.{RoutesIn, RoutesFrom, from-routes, routes-from}
+
+-- a column past its entries
+past-column : (n k : ℕ) (l : List ℕ) → length l ≡ k → drop k (column n l) ≡ replicate (n - k) 0
+unfolding column
+past-column n k l e = drop-at l (replicate (n - length l) 0) k e ∙ ap (λ (j : ℕ). replicate (n - j) 0) e
+
+-- routes that stand in the words
+module _ (w : List ℕ) (rs : List Route) (few : length rs ≤ routes) (s : RoutesStand w rs) where
+  from-count : length (froms rs) ≡ routeCountOf w
+  from-count = length-map rs (λ (r : Route). r .from) ∙ sym (s .count)
+
+  to-count : length (tos rs) ≡ routeCountOf w
+  to-count = length-map rs (λ (r : Route). r .to) ∙ sym (s .count)
+
+  froms-long : length (column 64 (froms rs)) ≡ 64
+  froms-long = length-column 64 (froms rs) (omega (arith, length-map rs (λ (r : Route). r .from)))
+
+  froms-stand : fromsOf w ≡ column 64 (froms rs)
+  unfolding routeColumns
+  froms-stand = sym (part-of 64 0 128 (drop 643 w) (omega arith)) ∙ ap (take 64) (s .columns) ∙ take-at (column 64 (froms rs)) (column 64 (tos rs)) 64 froms-long
+
+  tos-stand : tosOf w ≡ column 64 (tos rs)
+  unfolding routeColumns
+  tos-stand =
+      ap (take 64) (sym (drop-drop 64 643 w)) ∙ sym (part-of 64 64 128 (drop 643 w) (omega arith)) ∙ ap (λ (l : List ℕ). take 64 (drop 64 l)) (s .columns) ∙
+      ap (take 64) (drop-at (column 64 (froms rs)) (column 64 (tos rs)) 64 froms-long) ∙
+      take-all 64 (column 64 (tos rs)) (omega (arith, length-column 64 (tos rs) (omega (arith, length-map rs (λ (r : Route). r .to)))))
+
+  pub starts-are : startPlaces w ≡ froms rs
+  starts-are = ap (take (routeCountOf w)) froms-stand ∙ take-column 64 (routeCountOf w) (froms rs) from-count
+
+  pub ends-are : endPlaces w ≡ tos rs
+  ends-are = ap (take (routeCountOf w)) tos-stand ∙ take-column 64 (routeCountOf w) (tos rs) to-count
+
+  pub stand-taken : Sound rs → RoutesTaken w
+  stand-taken h = record {
+    few = omega (arith, s .count);
+    no-more-froms = ap (drop (routeCountOf w)) froms-stand ∙ past-column 64 (routeCountOf w) (froms rs) from-count;
+    no-more-tos = ap (drop (routeCountOf w)) tos-stand ∙ past-column 64 (routeCountOf w) (tos rs) to-count;
+    sound = rw (starts-are, ends-are) (record { loop-free = h .loop-free; single = h .single });
+  }
+
+-- the words of a book have its routes
+pub words-routes : (b : Book) → good (b .messages) ≡ true → length (b .routes) ≤ routes → RoutesStand (wordsOf b) (b .routes)
+unfolding wordsOf routeColumns
+words-routes b g few = record {
+  count = refl;
+  columns =
+      ap (take 128) (drop-at (messageColumns (b .messages)) (routeColumns (b .routes)) 640 (columns-long (b .messages) (within (b .messages) g .few) (within (b .messages) g .room))) ∙
+      take-all 128 (routeColumns (b .routes)) (omega (arith, length-append (column 64 (froms (b .routes))) (column 64 (tos (b .routes))), length-column 64 (froms (b .routes)) (omega (arith, length-map (b .routes) (λ (r : Route). r .from))), length-column 64 (tos (b .routes)) (omega (arith, length-map (b .routes) (λ (r : Route). r .to)))));
+}
+
+-- routes of two columns in step
+pairs : List ℕ → List ℕ → List Route
+pairs [] ts = []
+pairs (f ∷ fs) [] = []
+pairs (f ∷ fs) (t ∷ ts) = record { from = f; to = t } ∷ pairs fs ts
+
+pair-froms : (fs ts : List ℕ) → length fs ≡ length ts → froms (pairs fs ts) ≡ fs
+unfolding pairs
+pair-froms [] ts e = refl
+pair-froms (f ∷ fs) [] e = absurd (omega arith)
+pair-froms (f ∷ fs) (t ∷ ts) e = ap (_∷_ f) (pair-froms fs ts (omega arith))
+
+pair-tos : (fs ts : List ℕ) → length fs ≡ length ts → tos (pairs fs ts) ≡ ts
+unfolding pairs
+pair-tos [] [] e = refl
+pair-tos [] (t ∷ ts) e = absurd (omega arith)
+pair-tos (f ∷ fs) [] e = absurd (omega arith)
+pair-tos (f ∷ fs) (t ∷ ts) e = ap (_∷_ t) (pair-tos fs ts (omega arith))
+
+-- every entry is a number of 32 bits
+Small : List ℕ → Type 0
+Small l = (k : ℕ) → getD l k 0 < 4294967296
+
+pair-places : (fs ts : List ℕ) → Small fs → Small ts → Places (pairs fs ts)
+unfolding pairs Small
+pair-places [] ts a b = no-route
+pair-places (f ∷ fs) [] a b = no-route
+pair-places (f ∷ fs) (t ∷ ts) a b = route (a 0) (b 0) (pair-places fs ts (λ k. a (suc k)) (λ k. b (suc k)))
+
+small-drop : (n : ℕ) (l : List ℕ) → Small l → Small (drop n l)
+unfolding Small
+small-drop n l h k = rw getD-drop (h (n + k))
+
+small-take : (n : ℕ) (l : List ℕ) → Small l → Small (take n l)
+unfolding Small
+small-take zero l h k = omega arith
+small-take (suc n) [] h k = h k
+small-take (suc n) (x ∷ l) h zero = h 0
+small-take (suc n) (x ∷ l) h (suc k) = small-take n l (λ j. h (suc j)) k
+
+-- a column that has 0 past its first entries is those entries, filled up with 0
+filled : (n k : ℕ) (c : List ℕ) → length c ≡ n → k ≤ n → drop k c ≡ replicate (n - k) 0 → c ≡ column n (take k c)
+unfolding column
+filled n k c l h z =
+    sym (take-append-drop k c) ∙ ap (λ (x : List ℕ). take k c ++ x) (z ∙ ap (λ (j : ℕ). replicate (n - j) 0) (sym (length-take-le k c (omega arith))))
+
+-- words of a record: 771 entries of 32 bits each
+pub record Record (w : List ℕ) : Type 0 where
+  pub long : length w ≡ 771
+  pub small : (k : ℕ) → getD w k 0 < 4294967296
+
+module _ (w : List ℕ) (r : Record w) (t : RoutesTaken w) where
+  f-long : length (fromsOf w) ≡ 64
+  f-long = length-take-le 64 (drop 643 w) (omega (arith, length-drop 643 w, r .long))
+
+  t-long : length (tosOf w) ≡ 64
+  t-long = length-take-le 64 (drop 707 w) (omega (arith, length-drop 707 w, r .long))
+
+  start-count : length (startPlaces w) ≡ routeCountOf w
+  start-count = length-take-le (routeCountOf w) (fromsOf w) (omega (arith, f-long, t .few))
+
+  end-count : length (endPlaces w) ≡ routeCountOf w
+  end-count = length-take-le (routeCountOf w) (tosOf w) (omega (arith, t-long, t .few))
+
+  in-step : length (startPlaces w) ≡ length (endPlaces w)
+  in-step = start-count ∙ sym end-count
+
+  shown : List Route
+  shown = pairs (startPlaces w) (endPlaces w)
+
+  shown-count : length shown ≡ routeCountOf w
+  unfolding shown
+  shown-count = sym (length-map (pairs (startPlaces w) (endPlaces w)) (λ (r : Route). r .from)) ∙ ap length (pair-froms (startPlaces w) (endPlaces w) in-step) ∙ start-count
+
+  -- the route tables of a record, exactly
+  pub taken-in : RoutesIn w
+  unfolding shown routeColumns Small
+  taken-in = record {
+    routes = shown;
+    routed = record {
+      few = omega (arith, shown-count, t .few);
+      places =
+          pair-places (startPlaces w) (endPlaces w)
+          (small-take (routeCountOf w) (fromsOf w) (small-take 64 (drop 643 w) (small-drop 643 w (r .small))))
+          (small-take (routeCountOf w) (tosOf w) (small-take 64 (drop 707 w) (small-drop 707 w (r .small))));
+    };
+    sound =
+        let a = pair-froms (startPlaces w) (endPlaces w) in-step in
+        let b = pair-tos (startPlaces w) (endPlaces w) in-step in
+        record { loop-free = rw (a, b) (t .sound .loop-free); single = rw (a, b) (t .sound .single) };
+    stand = record {
+      count = sym shown-count;
+      columns =
+          take-add 64 64 (drop 643 w) ∙
+          ap (λ (x : List ℕ). fromsOf w ++ x) (ap (take 64) (drop-drop 64 643 w)) ∙
+          ap (λ (x : List ℕ). x ++ tosOf w) (filled 64 (routeCountOf w) (fromsOf w) f-long (t .few) (t .no-more-froms) ∙ ap (column 64) (sym (pair-froms (startPlaces w) (endPlaces w) in-step))) ∙
+          ap (λ (x : List ℕ). column 64 (froms shown) ++ x) (filled 64 (routeCountOf w) (tosOf w) t-long (t .few) (t .no-more-tos) ∙ ap (column 64) (sym (pair-tos (startPlaces w) (endPlaces w) in-step)));
+    };
+  }
+
+-- some text is taken with the route tables of a record exactly when the test behind 12 says so
+pub routes-from-text : (w : List ℕ) → Record w → RoutesTaken w → RoutesFrom w
+routes-from-text w r t = from-routes w (taken-in w r t)
+
+pub text-to-routes : (w : List ℕ) → RoutesFrom w → RoutesTaken w
+text-to-routes w f = let i = routes-from w f in stand-taken w (i .routes) (i .routed .few) (i .stand) (i .sound)
