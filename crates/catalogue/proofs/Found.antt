@@ -6,11 +6,11 @@ use Prim.Native.Nat.{ℕ, suc, _≤_, _<_}
 use native.Mathlib.Omega.{arith}
 use lib.Dec.{eqb}
 use lib.ListN.{length, getD}
-use Rattle.catalogue.specs.declared.Row.{Row}
-use Rattle.catalogue.specs.Rows.{rows, blank}
-use Rattle.catalogue.specs.Rule.{Rule, mostBits}
+use Rattle.rows.specs.declared.Row.{Row}
+use Rattle.rows.specs.Rows.{rows, blank}
+use Rattle.rows.specs.Rule.{Rule, mostBits}
 use Rattle.catalogue.specs.Find.{rowIn, rowOf, bitsIn, bitsOf}
-use Rattle.catalogue.proofs.Whole.{all-kept}
+use Rattle.rows.proofs.Whole.{all-kept}
 
 -- the rule, where there is a row
 abbrev pub RuleOf : Option Row → Type 0

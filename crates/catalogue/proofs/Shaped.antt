@@ -8,8 +8,8 @@ use Prim.Native.Nat.{ℕ, _<_}
 use lib.Dec.{T, ltb, eqb, ltb→lt}
 use lib.Ieee.Fits.{and-l, and-r}
 use lib.ListN.{getD, List·getD-map}
-use Rattle.catalogue.specs.declared.Row.{Row}
-use Rattle.catalogue.specs.Rows.{rows, row, blank}
+use Rattle.rows.specs.declared.Row.{Row}
+use Rattle.rows.specs.Rows.{rows, row, blank}
 use Rattle.catalogue.specs.Find.{rowIn, rowOf, bitsIn, bitsOf}
 use Rattle.catalogue.specs.Shapes.{shapes, noShape, signals, shapeIn, shapeOf, rowShaped, widths}
 use Rattle.catalogue.proofs.Arms.{within}

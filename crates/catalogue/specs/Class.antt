@@ -4,13 +4,13 @@ use mathlib.Core.Option.{Option, none, some}
 use Prim.Native.Nat.{ℕ, _*_, _^_}
 use lib.Dec.{leb, eqb}
 use lib.IntN.{ℤ, pos, _+ℤ_}
-use Rattle.catalogue.specs.declared.Mark.{Mark}
-use Rattle.catalogue.specs.declared.Row.{Row}
+use Rattle.rows.specs.declared.Mark.{Mark}
+use Rattle.rows.specs.declared.Row.{Row}
 use Rattle.catalogue.specs.declared.Raw.{Raw}
 use Rattle.catalogue.specs.declared.Thousandths.{Thousandths}
 use Rattle.catalogue.specs.declared.Class.{Class}
 use Rattle.catalogue.specs.declared.Class.the-variants.{Value, Invalid, Absent, Error, Reserved, Outside, NotInCatalogue, TooWide}
-use Rattle.catalogue.specs.Rows.{invalidKind, absentKind, errorKind}
+use Rattle.rows.specs.Rows.{invalidKind, absentKind, errorKind}
 use Rattle.catalogue.specs.Find.{rowOf}
 
 -- first <= count <= last

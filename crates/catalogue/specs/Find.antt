@@ -4,8 +4,8 @@ use mathlib.Core.List.{List, [], _∷_}
 use mathlib.Core.Option.{Option, none, some}
 use Prim.Native.Nat.{ℕ}
 use lib.Dec.{eqb}
-use Rattle.catalogue.specs.declared.Row.{Row}
-use Rattle.catalogue.specs.Rows.{rows}
+use Rattle.rows.specs.declared.Row.{Row}
+use Rattle.rows.specs.Rows.{rows}
 
 -- the first row of a table that has the number n, if one has it
 abbrev pub rowIn : ℕ → List Row → Option Row

@@ -1,5 +1,4 @@
-pub mod Rows
-pub mod Rule
 pub mod Find
 pub mod Shapes
 pub mod Class
+pub mod Belongs

@@ -7,8 +7,8 @@ use mathlib.Core.Option.{Option, none, some}
 use Prim.Native.Nat.{ℕ}
 use lib.Dec.{eqb}
 use lib.ListN.{getD}
-use Rattle.catalogue.specs.declared.Row.{Row}
-use Rattle.catalogue.specs.Rows.{plus, minus, invalid, absent, error, reserved, unmarked, row}
+use Rattle.rows.specs.declared.Row.{Row}
+use Rattle.rows.specs.Rows.{plus, minus, invalid, absent, error, reserved, unmarked, row}
 
 -- the shapes: rows with no number of their own
 abbrev pub shapes : List Row

@@ -9,8 +9,8 @@ ghost use mathlib.Core.Option.{some};
 ghost use Prim.Native.Nat.{_*_, _^_, _≤_};
 ghost use lib.Dec.{leb};
 ghost use lib.IntN.{pos, _+ℤ_};
-ghost use Rattle.catalogue.specs.Rows.{row, mark};
-ghost use Rattle.catalogue.specs.Rule.{mostBits};
+ghost use Rattle.rows.specs.Rows.{row, mark};
+ghost use Rattle.rows.specs.Rule.{mostBits};
 ghost use Rattle.catalogue.specs.Shapes.{rowShaped};
 ghost use Rattle.catalogue.specs.Class.{between, markClass, classFor, classOf};
 

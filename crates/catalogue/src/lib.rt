@@ -1,12 +1,10 @@
 // The signal catalogue: the 199 signals of QC/T 1201.5-2023, and the width of each by its number.
 mod classes;
 mod shapes;
-mod table;
 
 pub use classes::class_of;
 use shapes::bits_by;
 pub use shapes::shape_of;
-pub use table::row_at;
 ghost use mathlib.Core.Path.{_≡_};
 ghost use Rattle.catalogue.specs.Find.{bitsOf};
 
@@ -15,26 +13,6 @@ pub struct Raw(pub u32);
 
 // A reading in thousandths of the printed unit.
 pub struct Thousandths(pub i64);
-
-// Codes of a signal that are no values, from the first to the last; none where the last is below the first.
-pub struct Mark {
-    pub kind: u8,
-    pub first: u32,
-    pub last: u32,
-}
-
-// A signal of the catalogue.
-pub struct Row {
-    pub number: u32,
-    pub bits: u32,
-    pub resolution: u16,
-    pub offset: i32,
-    pub lowest: u32,
-    pub highest: u32,
-    pub mark1: Mark,
-    pub mark2: Mark,
-    pub mark3: Mark,
-}
 
 // What a raw count of a signal stands for: one of six classes, or one of the refusals 3 and 26.
 pub enum Class {
