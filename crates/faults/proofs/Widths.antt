@@ -3,7 +3,9 @@ use mathlib.Core.Path.{_≡_, refl}
 use mathlib.Core.Bool.{_&&_}
 use mathlib.Core.List.{List, _++_}
 use Prim.Native.Nat.{ℕ, _^_}
-use Rattle.faults.specs.Rows.{counted, rows, faultRows, bits}
+use Rattle.catalogue.specs.Find.{bitsOf, rowOf}
+use Rattle.catalogue.specs.Rows.{rows as catalogue}
+use Rattle.faults.specs.Rows.{counted, rows, faultRows}
 use Rattle.faults.specs.Counts.{below, every}
 use Rattle.faults.specs.Sum.{allFit}
 use Rattle.faults.proofs.Parts.{every-parts}
@@ -15,10 +17,10 @@ runs = refl
 module _ (counts : List ℕ) where
   -- each count of a run is below 2 to the run's width
   abbrev Below : ℕ → ℕ → ℕ → Type 0
-  Below limit from to = every (λ row. below counts (2 ^ bits row) row) (rows from to) ≡ every (below counts limit) (rows from to)
+  Below limit from to = every (λ row. below counts (2 ^ bitsOf row) row) (rows from to) ≡ every (below counts limit) (rows from to)
 
   widths : Below 4 1901 1914 × (Below 2 1915 1922 × (Below 32 1923 1923 × (Below 2 1924 1924 × (Below 4 1925 1925 × Below 2 1926 1927))))
-  unfolding every counted
+  unfolding every counted bitsOf rowOf catalogue
   widths = (refl, (refl, (refl, (refl, (refl, refl)))))
 
   pub all-fit : allFit counts

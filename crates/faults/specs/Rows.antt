@@ -1,9 +1,7 @@
 -- The rows of table 19, by number, as document 01 sorts them. Assumes nothing.
 use Prim.Native.Nat.{ℕ, zero, suc, _-_, _≤_}
 use mathlib.Core.Path.{_≡_}
-use mathlib.Core.Bool.{cond, _||_}
 use mathlib.Core.List.{List, [], _∷_, _++_}
-use lib.Dec.{eqb, leb}
 
 -- numbers in a row, from one on
 unfoldable pub counted : ℕ → ℕ → List ℕ
@@ -31,7 +29,3 @@ pub record InTable (size from to : ℕ) : Type 0 where
   pub whole : size ≡ 27
   pub first : 1901 ≤ from
   pub last : to ≤ 1927
-
--- the bits of a row: two for the levels, 1901 to 1914 and 1925; five for 1923; one for each other
-abbrev pub bits : ℕ → ℕ
-bits row = cond (leb row 1914 || eqb row 1925) 2 (cond (eqb row 1923) 5 1)

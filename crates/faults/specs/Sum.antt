@@ -4,10 +4,11 @@ use mathlib.Core.Bool.{Bool, cond, _||_}
 use mathlib.Core.List.{List, [], _∷_}
 use lib.Dec.{eqb}
 use lib.ListN.{length}
+use Rattle.catalogue.specs.Find.{bitsOf}
 use Rattle.faults.specs.declared.FaultSum.{FaultSum}
 use Rattle.faults.specs.declared.Answer.{Answer}
 use Rattle.faults.specs.declared.Answer.the-variants.{Summed, NotTwentySeven, TooWide}
-use Rattle.faults.specs.Rows.{faultRows, levelRows, oneBitRows, bits}
+use Rattle.faults.specs.Rows.{faultRows, levelRows, oneBitRows}
 use Rattle.faults.specs.Counts.{at, standsAt, below, howMany, every, some, highestOf}
 
 -- document 01's number of each answer; 0 is no refusal
@@ -16,9 +17,9 @@ refusal (Summed s) = 0
 refusal NotTwentySeven = 31
 refusal TooWide = 32
 
--- no count is too wide for its signal
+-- no count is too wide for its signal, as the catalogue has it
 unfoldable pub allFit : List ℕ → Bool
-allFit counts = every (λ row. below counts (2 ^ bits row) row) faultRows
+allFit counts = every (λ row. below counts (2 ^ bitsOf row) row) faultRows
 
 -- "emergency, if 1902, 1903, 1905, 1907 or 1908 is 3 or 1921 is 1"
 unfoldable pub isEmergency : List ℕ → Bool
