@@ -1,5 +1,5 @@
 -- Texts written one after another, and a text written byte by byte. Assumes nothing.
-use mathlib.Core.Path.{_≡_, refl, sym, ap, _∙_}
+use mathlib.Core.Path.{_≡_, refl, sym, ap, _∙_, subst}
 use mathlib.Core.List.{List, [], _∷_, _++_}
 use Prim.Native.Nat.{ℕ, suc, _+_, _≤_, _<_}
 use native.Mathlib.Nat.{add-zero, add-suc, suc-add}
@@ -7,7 +7,7 @@ use native.Mathlib.Numerals.{add-one}
 use native.Mathlib.Omega.{arith}
 use lib.ListN.{length, drop, set, getD, length-append, length-set, drop-of-length-le}
 use lib.Seq.{sets, length-sets, drop-cons}
-use Rattle.printing.specs.Put.{Put}
+use Rattle.printing.specs.Put.{Put, PutWithin}
 
 pub sets-append : (l : List ℕ) (at : ℕ) (a b : List ℕ) → sets (sets l at a) (at + length a) b ≡ sets l at (a ++ b)
 sets-append l at [] b = ap (λ (n : ℕ). sets l n b) (add-zero at)
@@ -26,6 +26,12 @@ and-then {old} {at} {a} {mid} {m} {b} p q =
       now-there = q .now-there ∙ ap (λ (l : List ℕ). sets l m b) (p .now-there) ∙ ap (λ (n : ℕ). sets (sets old at a) n b) (p .now-at) ∙ sets-append old at a b;
       now-at = omega (arith, p .now-at, q .now-at, length-append a b);
     }
+
+pub put-as : {old : List ℕ} {at : ℕ} {a b new : List ℕ} {next : ℕ} → a ≡ b → Put old at a new next → Put old at b new next
+put-as {old} {at} {a} {b} {new} {next} e p = subst (λ (l : List ℕ). Put old at l new next) e p
+
+pub put-within : (most : ℕ) {old : List ℕ} {at : ℕ} {text new : List ℕ} {next : ℕ} → Put old at text new next → next ≤ at + most → PutWithin old at most text new next
+put-within most p h = record { put = p; short = omega (arith, p .now-at) }
 
 -- i bytes of a text are written: writing what is left gives the final list
 pub record Written (old : List ℕ) (at : ℕ) (text out : List ℕ) (i : ℕ) : Type 0 where

@@ -1,21 +1,31 @@
 -- Numbers as they are written: their digits, and a minus sign before those below 0. Assumes nothing.
 use mathlib.Core.Path.{_≡_, refl, sym, ap, _∙_, subst⁻¹}
 use mathlib.Core.List.{List, [], _∷_, _++_}
-use Prim.Native.Nat.{ℕ, suc, _+_}
+use Prim.Native.Nat.{ℕ, suc, _+_, _^_, _≤_, _<_}
 use native.Mathlib.Omega.{arith}
 use lib.IntN.{ℤ, pos, negsuc, natAbs}
 use lib.ListN.{length}
 use lib.Seq.{sets}
+use mir.Syntax.{w64}
+use mir.Val.{SFits}
 use Rattle.numerals.specs.Written.{digitsOf}
 use Rattle.numerals.proofs.Digits.{length-digits}
 use Rattle.printing.specs.Put.{Put}
 use Rattle.printing.specs.Decimal.{digitCount, naturalText, signedText, minusSign}
 use Rattle.printing.proofs.Puts.{and-then}
+use Rattle.printing.proofs.Counting.{count-few}
 use Rattle.printing.proofs.Signs.{Negative, Positive}
 
 pub natural-long : (n : ℕ) → length (naturalText n) ≡ digitCount n
 unfolding naturalText
 natural-long n = length-digits 10 (digitCount n) n
+
+pub natural-few : (n : ℕ) → n < 2 ^ 64 → length (naturalText n) ≤ 20
+natural-few n h = omega (arith, natural-long n, count-few n h)
+
+pub signed-few : (z : ℤ) → SFits w64 z → length (signedText z) ≤ 21
+signed-few (pos n) f = omega (arith, natural-few n (omega (arith, f .sfits)))
+signed-few (negsuc n) f = omega (arith, natural-few (suc n) (omega (arith, f .sfits)))
 
 pub natural-put : {old new : List ℕ} {at k : ℕ} (n : ℕ) → k ≡ digitCount n → new ≡ sets old at (digitsOf 10 k n) → Put old at (naturalText n) new (at + k)
 unfolding naturalText

@@ -1,7 +1,7 @@
 -- What writing a text into a lent list at a place leaves behind. Assumes nothing.
 use mathlib.Core.Path.{_≡_}
 use mathlib.Core.List.{List}
-use Prim.Native.Nat.{ℕ, _+_}
+use Prim.Native.Nat.{ℕ, _+_, _≤_}
 use lib.ListN.{length}
 use lib.Seq.{sets}
 
@@ -9,3 +9,8 @@ use lib.Seq.{sets}
 pub record Put (old : List ℕ) (at : ℕ) (text new : List ℕ) (next : ℕ) : Type 0 where
   pub now-there : new ≡ sets old at text
   pub now-at : next ≡ at + length text
+
+-- and the text is no longer than this
+pub record PutWithin (old : List ℕ) (at most : ℕ) (text new : List ℕ) (next : ℕ) : Type 0 where
+  pub put : Put old at text new next
+  pub short : length text ≤ most

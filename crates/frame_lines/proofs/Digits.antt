@@ -1,0 +1,85 @@
+-- Digits one by one, and the bytes that pairs of them write. Assumes nothing.
+use mathlib.Core.Path.{_≡_, refl, sym, ap, _∙_}
+use mathlib.Core.Bool.{Bool, true, false, cond, _&&_}
+use mathlib.Core.List.{List, [], _∷_}
+use Prim.Native.Nat.{ℕ, zero, suc, _+_, _*_, _%_, _≤_, _<_}
+use native.Mathlib.Numerals.{add-one}
+use native.Mathlib.Omega.{arith}
+use lib.Dec.{ltb}
+use lib.ListN.{length, drop, getD, drop-of-length-le}
+use lib.Seq.{drop-cons}
+use borrow.Author.Tests.{lt-ltb, le-ltb, ltb-true}
+use Rattle.numerals.specs.Numeral.{digitValue}
+use Rattle.parts.specs.Joined.{Free, none, more}
+use Rattle.frame_lines.specs.Meaning.{allDigits, bytesIn}
+
+-- the first of two tests that both hold, and the second
+pub both : (a b : Bool) → a && b ≡ true → (a ≡ true) × (b ≡ true)
+both true b e = (refl, e)
+both false b e = (e, absurd (let z : _≡_ {A = ℕ} 0 1 = cc in omega arith))
+
+-- i digits are passed: the answer for the rest is the answer for the whole
+module _ (l : List ℕ) (i : ℕ) (e : allDigits (drop i l) ≡ allDigits l) where
+  pub all-passed : length l ≤ i → true ≡ allDigits l
+  unfolding allDigits
+  all-passed h = rw (drop-of-length-le l h) at e
+
+  module _ (h : i < length l) {d : ℕ} (v : d ≡ digitValue (getD l i 0)) where
+    pub no-digit : 16 ≤ d → false ≡ allDigits l
+    unfolding allDigits
+    no-digit t = rw (drop-cons l i 0 h, ← v, le-ltb _ _ t) at e
+
+    pub digit-passed : d < 16 → allDigits (drop (i + 1) l) ≡ allDigits l
+    unfolding allDigits
+    digit-passed t = rw add-one (rw (drop-cons l i 0 h, ← v, lt-ltb _ _ t) at e)
+
+module _ (b : ℕ) (t : List ℕ) (e : allDigits (b ∷ t) ≡ true) where
+  first-digit : digitValue b < 16
+  unfolding allDigits
+  first-digit = ltb-true (digitValue b) 16 (both (ltb (digitValue b) 16) (allDigits t) e .0)
+
+  other-digits : allDigits t ≡ true
+  unfolding allDigits
+  other-digits = both (ltb (digitValue b) 16) (allDigits t) e .1
+
+pub digit-small : (l : List ℕ) (i : ℕ) → allDigits l ≡ true → i < length l → digitValue (getD l i 0) < 16
+digit-small [] i e h = absurd (omega arith)
+digit-small (b ∷ t) zero e h = first-digit b t e
+digit-small (b ∷ t) (suc i) e h = digit-small t i (other-digits b t e) (omega arith)
+
+-- a tab is no digit
+no-tab : (b : ℕ) → digitValue b < 16 → b ≡ 9 → ⊥
+unfolding digitValue
+no-tab b h e = let v : 16 < 16 = rw e at h in omega arith
+
+pub digits-free : (l : List ℕ) → allDigits l ≡ true → Free 9 l
+digits-free [] e = none
+digits-free (b ∷ t) e = more {b = b} {t = t} (no-tab b (first-digit b t e)) (digits-free t (other-digits b t e))
+
+-- the byte that two digits write
+pub byte-in : (l : List ℕ) (i : ℕ) → 2 * i + 1 < length l
+    → getD (bytesIn l) i 0 ≡ 16 * digitValue (getD l (2 * i) 0) + digitValue (getD l (2 * i + 1) 0)
+unfolding bytesIn
+byte-in [] i h = absurd (omega arith)
+byte-in (a ∷ []) i h = absurd (omega arith)
+byte-in (a ∷ b ∷ t) zero h = refl
+byte-in (a ∷ b ∷ t) (suc i) h =
+    let e : suc (suc (2 * i)) ≡ 2 * suc i = omega arith in
+    let f : suc (suc (2 * i + 1)) ≡ 2 * suc i + 1 = omega arith in
+    byte-in t i (omega arith)
+    ∙ ap (λ (n : ℕ). 16 * digitValue (getD (a ∷ b ∷ t) n 0) + digitValue (getD t (2 * i + 1) 0)) e
+    ∙ ap (λ (n : ℕ). 16 * digitValue (getD (a ∷ b ∷ t) (2 * suc i) 0) + digitValue (getD (a ∷ b ∷ t) n 0)) f
+
+pub length-bytes : (l : List ℕ) → length l % 2 ≡ 0 → 2 * length (bytesIn l) ≡ length l
+unfolding bytesIn
+length-bytes [] h = refl
+length-bytes (a ∷ []) h = absurd (omega arith)
+length-bytes (a ∷ b ∷ t) h = omega (arith, length-bytes t (omega arith))
+
+-- every byte is one
+pub bytes-small : (l : List ℕ) → allDigits l ≡ true → (k : ℕ) → getD (bytesIn l) k 0 < 256
+unfolding bytesIn
+bytes-small [] e k = omega arith
+bytes-small (a ∷ []) e k = omega arith
+bytes-small (a ∷ b ∷ t) e zero = omega (arith, first-digit a (b ∷ t) e, first-digit b t (other-digits a (b ∷ t) e))
+bytes-small (a ∷ b ∷ t) e (suc k) = bytes-small t (other-digits b t (other-digits a (b ∷ t) e)) k

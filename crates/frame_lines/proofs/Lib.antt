@@ -1,0 +1,5 @@
+pub mod Digits
+pub mod Cuts
+pub mod Bytes
+pub mod Behind
+pub mod OneOutcome
