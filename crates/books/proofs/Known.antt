@@ -7,8 +7,8 @@ use Prim.Native.Nat.{ℕ, _<_}
 use native.Mathlib.Omega.{arith}
 use lib.Dec.{ltb, eqb}
 use borrow.Author.Tests.{ltb-true, eqb-true}
-use Rattle.catalogue.specs.declared.Row.{Row}
-use Rattle.catalogue.specs.Rows.{rows}
+use Rattle.rows.specs.declared.Row.{Row}
+use Rattle.rows.specs.Rows.{rows}
 use Rattle.catalogue.specs.Find.{rowIn, rowOf, bitsIn, bitsOf}
 use Rattle.books.proofs.Tests.{both}
 

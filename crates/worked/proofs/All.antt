@@ -3,7 +3,7 @@ use mathlib.Core.Path.{_≡_, refl}
 use mathlib.Core.Bool.{true, false}
 use mathlib.Core.List.{List, [], _∷_, map}
 use lib.IntN.{pos, negℤ}
-use Rattle.catalogue.specs.Rows.{rows}
+use Rattle.rows.specs.Rows.{rows}
 use Rattle.catalogue.specs.Find.{rowOf}
 use Rattle.catalogue.specs.Class.{classOf, between}
 use Rattle.power.specs.Observed.{prechargeComplete}
