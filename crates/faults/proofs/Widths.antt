@@ -4,7 +4,7 @@ use mathlib.Core.Bool.{_&&_}
 use mathlib.Core.List.{List, _++_}
 use Prim.Native.Nat.{ℕ, _^_}
 use Rattle.catalogue.specs.Find.{bitsOf, rowOf}
-use Rattle.catalogue.specs.Rows.{rows as catalogue}
+use Rattle.rows.specs.Rows.{rows as catalogue}
 use Rattle.faults.specs.Rows.{counted, rows, faultRows}
 use Rattle.faults.specs.Counts.{below, every}
 use Rattle.faults.specs.Sum.{allFit}
