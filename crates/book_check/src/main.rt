@@ -1,0 +1,24 @@
+// The book checker: a route book on standard input; on standard output `ok` and its counts, or `no`, the refusal and its line. It
+// reads no more of its input than tells that a text is too long.
+use libc::STDIN_FILENO;
+use libc::STDOUT_FILENO;
+
+// One byte more than the longest text.
+const ENOUGH: usize = 32769;
+
+// The front of a line.
+fn send(line: &[u8], length: usize) {
+    if length <= line.len() {
+        io::write_all(STDOUT_FILENO, parts::part_before(line, length));
+    }
+}
+
+fn main() {
+    let mut text = [0u8; ENOUGH];
+    let size = io::read_full(STDIN_FILENO, &mut text);
+    let mut words = [0u32; record::BOOK_WORDS];
+    let answer = book::read_text(&text[..size], &mut words);
+    let mut line = [0u8; answer_line::LINE_ROOM];
+    let length = answer_line::print(answer, &mut line);
+    send(&line, length);
+}
