@@ -4,4 +4,5 @@ pub mod Answers
 pub mod Leading
 pub mod Urgent
 pub mod Currents
+pub mod Readings
 pub mod Worked

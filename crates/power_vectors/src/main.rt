@@ -1,0 +1,71 @@
+// Runs the power monitor over the observations on standard input. A line is a state's digit and the eight raw counts in
+// eight hex digits each, in the order of `Observation`. Each gives a line: the next state's digit, or `no` and the refusal.
+use libc::STDIN_FILENO;
+use libc::STDOUT_FILENO;
+use numerals::Number;
+use power::Answer;
+use power::Numbered;
+use power::Observation;
+use power::State;
+
+const MOST_LINES: u32 = 1000000;
+
+fn hex(digits: &[u8]) -> u32 {
+    match numerals::read_identifier(digits) {
+        Number::Is(n) => n,
+        Number::Not => 0,
+    }
+}
+
+fn digit(byte: u8) -> u32 {
+    if byte < b'0' {
+        return 9;
+    }
+    (byte - b'0') as u32
+}
+
+fn step(state: State, seen: Observation) {
+    let after = power::step(state, seen);
+    let answer = after.answer;
+    match answer {
+        Answer::Taken => {
+            let next = after.state;
+            io::print_decimal(STDOUT_FILENO, next.number() as u64);
+            io::write_all(STDOUT_FILENO, b"\n");
+        }
+        Answer::NeitherOpenNorClosed => {
+            io::write_all(STDOUT_FILENO, b"no\t41\n");
+        }
+        Answer::CommandTooHigh => {
+            io::write_all(STDOUT_FILENO, b"no\t42\n");
+        }
+        Answer::ReadingTooHigh => {
+            io::write_all(STDOUT_FILENO, b"no\t43\n");
+        }
+    }
+}
+
+fn main() {
+    let mut line = [0u8; 66];
+    let mut lines: u32 = 0;
+    while lines < MOST_LINES {
+        lines += 1;
+        if io::read_full(STDIN_FILENO, &mut line) < 66 {
+            return;
+        }
+        let seen = Observation {
+            main_negative: hex(&line[1..9]),
+            precharge: hex(&line[9..17]),
+            main_positive: hex(&line[17..25]),
+            command: hex(&line[25..33]),
+            emergency_off: hex(&line[33..41]),
+            current: hex(&line[41..49]),
+            inside: hex(&line[49..57]),
+            outside: hex(&line[57..65]),
+        };
+        match State::numbered(digit(line[0])) {
+            Numbered::State(state) => step(state, seen),
+            Numbered::NoState => return,
+        }
+    }
+}
