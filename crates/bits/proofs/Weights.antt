@@ -172,3 +172,8 @@ count-bit f small s b j h hj =
     ∙ field (W / 2 ^ s) 1 j
     ∙ ap (λ (m : ℕ). m % 2) (shr-shr W s j)
     ∙ frame-bit f small (s + j) (omega arith)
+
+-- a frame bit of the bytes of a number is that bit of it
+pub bytes-bit : (w k : ℕ) → w < 2 ^ 64 → k < 64 → frameBit (bytesOf w) k ≡ fieldOf w k 1
+unfolding wordOf fieldOf
+bytes-bit w k hw h = sym (frame-bit (bytesOf w) (bytes-small 8 w) k h) ∙ ap (λ (x : ℕ). x / 2 ^ k % 2) (bytes-word 8 w hw)

@@ -1,0 +1,7 @@
+pub mod Sound
+pub mod Putting
+pub mod Summing
+pub mod Sent
+pub mod Answers
+pub mod ReadBack
+pub mod PackAgain

@@ -1,0 +1,107 @@
+-- A packed frame holds every count at its place, the checksum where the message places it, and 1 in every other bit.
+-- Assumes nothing.
+use mathlib.Core.Path.{_≡_, refl, sym, ap, _∙_}
+use mathlib.Core.Bool.{Bool, true, false, _||_}
+use mathlib.Core.Logic.{_⊎_, inl, inr, ⊎-elim}
+use mathlib.Core.List.{List, [], _∷_}
+use Prim.Native.Nat.{ℕ, _+_, _-_, _^_, _≤_, _<_}
+use native.Mathlib.Omega.{arith}
+use lib.Dec.{eqb, lit<, lit≤}
+use borrow.Author.Tests.{eqb-true}
+use Rattle.bits.specs.Word.{fieldOf, bytesOf}
+use Rattle.bits.specs.Frame.{frameBit, countAt}
+use Rattle.bits.specs.Checksum.{checksumOf}
+use Rattle.bits.proofs.Placing.{ones}
+use Rattle.bits.proofs.Weights.{read-bytes, bytes-bit, of-bytes}
+use Rattle.books.specs.Book.{Placement, Message, numbers}
+use Rattle.books.specs.Lines.{isIn}
+use Rattle.catalogue.specs.Find.{bitsOf}
+use Rattle.framing.specs.Messages.{checksumNumber, checksumStart, checksumBits, placesChecksum}
+use Rattle.framing.specs.Packing.{allOnes, put, summed, packedFrame}
+use Rattle.framing.specs.Packed.{Carries, Summed, Unplaced, IsPacked}
+use Rattle.framing.proofs.Sound.{Sound}
+use Rattle.framing.proofs.Putting.{Accepted, Off, put-keeps, put-lt, Has, put-has}
+use Rattle.framing.proofs.Summing.{check-bits, clear, placed-there, summed-lt, summed-keeps, summed-sum, summed-has}
+
+-- what a word has, its bytes carry
+carries : (w : ℕ) → w < 2 ^ 64 → {ps : List Placement} {vs : List ℕ} → Sound ps → Has w ps vs → Carries (bytesOf w) ps vs
+unfolding Carries
+carries w hw Sound.none Has.none = tt
+carries w hw (Sound.more sits b s) (Has.more {p} {ps} {v} {vs} e h) =
+    (λ n. read-bytes w (p .start) (bitsOf (p .number)) hw (sits .fits .inside) ∙ e n, carries w hw s h)
+
+-- a message that places 503 after one more placement still places it
+places-more : (p : Placement) (ps : List Placement) → placesChecksum ps ≡ true → placesChecksum (p ∷ ps) ≡ true
+unfolding isIn
+places-more p ps e = go (eqb checksumNumber (p .number)) (isIn checksumNumber (numbers ps)) e
+  where
+    go : (a b : Bool) → b ≡ true → a || b ≡ true
+    go true b e = refl
+    go false b e = e
+
+carries-sum : (w sum : ℕ) → w < 2 ^ 64 → {ps : List Placement} → Sound ps → (placesChecksum ps ≡ true → fieldOf w checksumStart checksumBits ≡ sum) → Summed (bytesOf w) sum ps
+unfolding Summed
+carries-sum w sum hw Sound.none h = tt
+carries-sum w sum hw (Sound.more {p} {ps} sits b s) h = (
+  λ e.
+      read-bytes w (p .start) (bitsOf (p .number)) hw (sits .fits .inside)
+      ∙ ap (λ (k : ℕ). fieldOf w k (bitsOf (p .number))) (sits .check e)
+      ∙ ap (λ (k : ℕ). fieldOf w checksumStart k) (check-bits p e)
+      ∙ h (placed-there p ps e),
+  carries-sum w sum hw s (λ e. h (places-more p ps e)),
+)
+
+unplaced-off : (k : ℕ) (ps : List Placement) → Unplaced k ps → Off k 1 ps
+unfolding Unplaced
+unplaced-off k [] u = Off.none
+unplaced-off k (p ∷ ps) u = Off.more (λ _. ⊎-elim (λ h. inr (omega arith)) inl (u .0)) (unplaced-off k ps (u .1))
+
+-- a bit of no placement is none of 503's
+unplaced-check : (k : ℕ) {ps : List Placement} → Sound ps → Unplaced k ps → placesChecksum ps ≡ true → (k + 1 ≤ checksumStart) ⊎ (64 ≤ k)
+unfolding Unplaced isIn
+unplaced-check k Sound.none u h = let z : _≡_ {A = ℕ} 0 1 = cc in absurd (omega arith)
+unplaced-check k (Sound.more {p} {ps} sits b s) u h = go (eqb checksumNumber (p .number)) refl h (unplaced-check k s (u .1))
+  where
+    here : p .number ≡ checksumNumber → (k + 1 ≤ checksumStart) ⊎ (64 ≤ k)
+    here e =
+        let a : p .start ≡ checksumStart = sits .check e in
+        let c : bitsOf (p .number) ≡ checksumBits = check-bits p e in
+        ⊎-elim (λ x. inl (omega arith)) (λ x. inr (omega arith)) (u .0)
+
+    go : (t : Bool) → eqb checksumNumber (p .number) ≡ t → t || isIn checksumNumber (numbers ps) ≡ true
+        → (isIn checksumNumber (numbers ps) ≡ true → (k + 1 ≤ checksumStart) ⊎ (64 ≤ k)) → (k + 1 ≤ checksumStart) ⊎ (64 ≤ k)
+    go true e h rest = here (sym (eqb-true checksumNumber (p .number) e))
+    go false e h rest = rest h
+
+module _ (m : Message) (vs : List ℕ) (s : Sound (m .placements)) (a : Accepted (m .placements) vs) where
+  abbrev Filled : ℕ
+  Filled = put allOnes (m .placements) vs
+
+  abbrev Whole : ℕ
+  Whole = summed (m .identifier) (m .placements) Filled
+
+  whole-lt : Whole < 2 ^ 64
+  whole-lt = summed-lt (m .identifier) Filled (m .placements) (put-lt allOnes s a (lit< tt))
+
+  bit-one : (k : ℕ) → k < 64 → Unplaced k (m .placements) → frameBit (bytesOf Whole) k ≡ 1
+  bit-one k h u =
+      bytes-bit Whole k whole-lt h
+      ∙ summed-keeps (m .identifier) Filled (m .placements) k 1 (unplaced-check k s u)
+      ∙ put-keeps allOnes k 1 a (unplaced-off k (m .placements) u)
+      ∙ ones k 1 (omega arith)
+
+  pub is-packed : IsPacked m vs (packedFrame m vs)
+  unfolding packedFrame
+  is-packed =
+      record {
+        bytes = of-bytes Whole .many;
+        small = of-bytes Whole .small;
+        counts = carries Whole whole-lt s (summed-has (m .identifier) Filled (m .placements) (clear s) (put-has allOnes s a));
+        checksum = carries-sum Whole (checksumOf (m .identifier) (bytesOf Whole)) whole-lt s (summed-sum (m .identifier) Filled (m .placements));
+        ones = bit-one;
+      }
+
+  -- the field at 503's place is the checksum of the frame
+  pub own-checksum : placesChecksum (m .placements) ≡ true → countAt (packedFrame m vs) checksumStart checksumBits ≡ checksumOf (m .identifier) (packedFrame m vs)
+  unfolding packedFrame
+  own-checksum e = read-bytes Whole checksumStart checksumBits whole-lt (lit≤ tt) ∙ summed-sum (m .identifier) Filled (m .placements) e

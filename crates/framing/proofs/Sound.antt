@@ -1,0 +1,137 @@
+-- What the book's rules make of a message's placements: each lies within the frame, 503 at its start, and no two meet.
+-- Assumes nothing.
+use mathlib.Core.Path.{_≡_, refl, sym, ap, _∙_, subst}
+use mathlib.Core.Bool.{Bool, true, false, cond, _&&_, _||_, not}
+use mathlib.Core.Logic.{_⊎_, inl, inr}
+use mathlib.Core.List.{List, [], _∷_, _++_}
+use mathlib.Core.Option.{Option, some}
+use Prim.Native.Nat.{ℕ, _+_, _≤_}
+use native.Mathlib.Omega.{arith}
+use lib.Dec.{eqb, ltb, leb}
+use borrow.Author.Tests.{ltb-false, eqb-true, eqb-false, eq-eqb}
+use Rattle.bits.specs.Word.{Fits}
+use Rattle.books.specs.Book.{Placement, Message, numbers}
+use Rattle.books.specs.Lines.{isIn, unknownOrOver, misplaced, meets, meetsEarlier, frameBits, identifierLimit}
+use Rattle.books.specs.Good.{goodAfter, goodFrom, good}
+use Rattle.books.proofs.Tests.{both, neither}
+use Rattle.catalogue.specs.Find.{bitsOf}
+use Rattle.catalogue.proofs.Found.{few-bits}
+use Rattle.framing.specs.Messages.{checksumNumber, checksumStart, messageOf}
+
+-- a placement within the frame, and 503 at its start
+pub record Sits (p : Placement) : Type 0 where
+  pub fits : Fits (p .start) (bitsOf (p .number))
+  pub check : p .number ≡ checksumNumber → p .start ≡ checksumStart
+
+-- two placements have no bit in common
+abbrev pub Beside : Placement → Placement → Type 0
+Beside q p = (q .start + bitsOf (q .number) ≤ p .start) ⊎ (p .start + bitsOf (p .number) ≤ q .start)
+
+pub data BesideAll (q : Placement) : List Placement → Type 0 where
+  none : BesideAll q []
+  more : {p : Placement} {ps : List Placement} → Beside q p → BesideAll q ps → BesideAll q (p ∷ ps)
+
+pub data Sound : List Placement → Type 0 where
+  none : Sound []
+  more : {p : Placement} {ps : List Placement} → Sits p → BesideAll p ps → Sound ps → Sound (p ∷ ps)
+
+-- ---- from the tests of a book
+
+not-true : (b : Bool) → not b ≡ true → b ≡ false
+not-true true e = sym e
+not-true false e = refl
+
+apart : (p q : Placement) → meets p q ≡ false → Beside q p
+unfolding meets
+apart p q e = go (ltb (p .start) (q .start + bitsOf (q .number))) refl e
+  where
+    go : (a : Bool) → ltb (p .start) (q .start + bitsOf (q .number)) ≡ a → a && ltb (q .start) (p .start + bitsOf (p .number)) ≡ false → Beside q p
+    go true h e = inr (ltb-false (q .start) (p .start + bitsOf (p .number)) e)
+    go false h e = inl (ltb-false (p .start) (q .start + bitsOf (q .number)) h)
+
+earlier-append : (a b : List Placement) (p : Placement) → meetsEarlier (a ++ b) p ≡ meetsEarlier a p || meetsEarlier b p
+unfolding meetsEarlier
+earlier-append [] b p = refl
+earlier-append (q ∷ a) b p = ap (λ (x : Bool). meets p q || x) (earlier-append a b p) ∙ sym (go (meets p q) (meetsEarlier a p) (meetsEarlier b p))
+  where
+    go : (x y z : Bool) → (x || y) || z ≡ x || (y || z)
+    go true y z = refl
+    go false y z = refl
+
+or-false : (a b : Bool) → a || b ≡ false → (a ≡ false) × (b ≡ false)
+or-false true b e = (e, absurd-bool e)
+  where
+    absurd-bool : true ≡ false → b ≡ false
+    absurd-bool e = (cc)
+or-false false b e = (refl, e)
+
+earlier-split : (a : List Placement) (q p : Placement) → meetsEarlier (a ++ (q ∷ [])) p ≡ false → (meetsEarlier a p ≡ false) × (meets p q ≡ false)
+unfolding meetsEarlier
+earlier-split a q p e =
+    let h = or-false (meetsEarlier a p) (meets p q || false) (sym (earlier-append a (q ∷ []) p) ∙ e) in
+    (h .0, or-false (meets p q) false (h .1) .0)
+
+-- what the tests of one placement after others say
+record Passed (before : List Placement) (p : Placement) : Type 0 where
+  known : unknownOrOver p ≡ false
+  inside : misplaced p ≡ false
+  beside : meetsEarlier before p ≡ false
+
+passed : (before : List Placement) (p : Placement)
+    → not (unknownOrOver p || (isIn (p .number) (numbers before) || (misplaced p || meetsEarlier before p))) ≡ true → Passed before p
+passed before p e =
+    let a = neither (unknownOrOver p) (isIn (p .number) (numbers before) || (misplaced p || meetsEarlier before p)) e in
+    let b = or-false (isIn (p .number) (numbers before)) (misplaced p || meetsEarlier before p) (a .1) in
+    let c = or-false (misplaced p) (meetsEarlier before p) (b .1) in
+    record { known = a .0; inside = c .0; beside = c .1 }
+
+sits : {before : List Placement} (p : Placement) → Passed before p → Sits p
+unfolding unknownOrOver misplaced
+sits p h =
+    let a = or-false (eqb (bitsOf (p .number)) 0) (leb frameBits (p .start)) (h .known) in
+    let some : bitsOf (p .number) ≡ 0 → ⊥ = eqb-false (bitsOf (p .number)) 0 (a .0) in
+    let c = or-false (ltb frameBits (p .start + bitsOf (p .number))) _ (h .inside) in
+    let d = or-false (eqb (p .number) 503 && not (eqb (p .start) 60)) _ (c .1) in
+    record {
+      fits = record { some = omega arith; most = few-bits (p .number); inside = ltb-false frameBits (p .start + bitsOf (p .number)) (c .0) };
+      check = λ e. eqb-true (p .start) 60 (go (eqb (p .number) 503) (eqb (p .start) 60) (eq-eqb (p .number) 503 e) (d .0));
+    }
+  where
+    go : (a b : Bool) → a ≡ true → a && not b ≡ false → b ≡ true
+    go true true e f = refl
+    go true false e f = sym f
+    go false b e f = (cc)
+
+later : (q : Placement) (before ps : List Placement) → ((p : Placement) → meetsEarlier before p ≡ false → Beside q p) → goodAfter before ps ≡ true → BesideAll q ps
+unfolding goodAfter
+later q before [] h g = BesideAll.none
+later q before (p ∷ ps) h g =
+    let t = both _ (goodAfter (before ++ (p ∷ [])) ps) g in
+    BesideAll.more (h p (passed before p (t .0) .beside)) (later q (before ++ (p ∷ [])) ps (λ x e. h x (earlier-split before p x e .0)) (t .1))
+
+pub sound-after : (before ps : List Placement) → goodAfter before ps ≡ true → Sound ps
+unfolding goodAfter
+sound-after before [] g = Sound.none
+sound-after before (p ∷ ps) g =
+    let t = both _ (goodAfter (before ++ (p ∷ [])) ps) g in
+    Sound.more (sits p (passed before p (t .0)))
+    (later p (before ++ (p ∷ [])) ps (λ x e. apart x p (earlier-split before p x e .1)) (t .1))
+    (sound-after (before ++ (p ∷ [])) ps (t .1))
+
+pick : (b : Bool) (x m : Message) {o : Option Message} → Sound (x .placements) → (o ≡ some m → Sound (m .placements)) → cond b (some x) o ≡ some m → Sound (m .placements)
+pick true x m s f e = let h : x ≡ m = (cc) in subst (λ (y : Message). Sound (y .placements)) h s
+pick false x m s f e = f e
+
+sound-from : (before : List ℕ) (identifier : ℕ) (ms : List Message) (m : Message) → goodFrom before ms ≡ true → messageOf identifier ms ≡ some m → Sound (m .placements)
+unfolding goodFrom messageOf
+sound-from before identifier [] m g e = let z : _≡_ {A = ℕ} 0 1 = cc in absurd (omega arith)
+sound-from before identifier (x ∷ ms) m g e =
+    let t = both (not (leb identifierLimit (x .identifier) || isIn (x .identifier) before)) (goodAfter [] (x .placements) && goodFrom (before ++ (x .identifier ∷ [])) ms) g in
+    let u = both (goodAfter [] (x .placements)) (goodFrom (before ++ (x .identifier ∷ [])) ms) (t .1) in
+    pick (eqb identifier (x .identifier)) x m (sound-after [] (x .placements) (u .0))
+    (λ f. sound-from (before ++ (x .identifier ∷ [])) identifier ms m (u .1) f) e
+
+-- the message that a taken book has for an identifier
+pub sound-message : (identifier : ℕ) (ms : List Message) (m : Message) → good ms ≡ true → messageOf identifier ms ≡ some m → Sound (m .placements)
+unfolding good
+sound-message identifier ms m g e = sound-from [] identifier ms m (both (goodFrom [] ms) _ g .0) e

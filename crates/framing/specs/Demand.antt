@@ -1,0 +1,61 @@
+-- Demand 2: what is packed reads back, and what is read can be packed again. The theorems are in proofs/ReadBack.antt and
+-- proofs/PackAgain.antt. Assumes nothing: these are definitions.
+use mathlib.Core.Path.{_≡_}
+use mathlib.Core.List.{List}
+use mathlib.Core.Option.{some}
+use Prim.Native.Nat.{ℕ, _+_, _≤_, _<_}
+use lib.ListN.{length, getD, take}
+use Rattle.books.specs.Book.{Placement, Message}
+use Rattle.books.specs.Words.{messagesOf}
+use Rattle.bits.specs.Frame.{frameBit}
+use Rattle.catalogue.specs.Find.{bitsOf}
+use Rattle.framing.specs.declared.Reading.{Reading}
+use Rattle.framing.specs.declared.Reading.the-variants.{Read}
+use Rattle.framing.specs.declared.Packing.the-variants.{Packed}
+use Rattle.framing.specs.Messages.{frameBytes, checksumNumber, messageOf}
+use Rattle.framing.specs.Reading.{Slices, room, reading}
+use Rattle.framing.specs.Packing.{packing}
+use Rattle.framing.specs.Packed.{Unplaced}
+
+-- the i-th placement of a message
+abbrev pub placementAt : Message → ℕ → Placement
+placementAt m i = getD (m .placements) i (record { number = 0; start = 0 })
+
+-- it is not 503
+abbrev pub Counted : Message → ℕ → Type 0
+Counted m i = placementAt m i .number ≡ checksumNumber → ⊥
+
+-- reading gave as many readings as there are values, and the values again, apart from 503
+pub record SameCounts (m : Message) (vs : List ℕ) (out : Reading × Slices) : Type 0 where
+  pub answer : out .0 ≡ Read (length vs)
+  pub counts : (i : ℕ) → i < length vs → Counted m i → getD (out .1 .raws) i 0 ≡ getD vs i 0
+
+-- a frame reads back as these values: it reads under the identifier, with no refusal, into any slices that have room
+pub record ReadsBack (words : List ℕ) (identifier : ℕ) (vs frame : List ℕ) : Type 0 where
+  pub message : Message
+  pub found : messageOf identifier (messagesOf words) ≡ some message
+  pub reads : (lent : Slices) → length vs ≤ room lent → SameCounts message vs (reading words identifier frame lent)
+
+-- the class codes of counts that are not packed
+abbrev pub reservedCode : ℕ
+reservedCode = 4
+
+abbrev pub outsideCode : ℕ
+outsideCode = 5
+
+-- no count that was read is reserved or outside
+abbrev pub NoneBarred : ℕ → Slices → Type 0
+NoneBarred n out = (i : ℕ) → i < n → (getD (out .classes) i 0 ≡ reservedCode → ⊥) × (getD (out .classes) i 0 ≡ outsideCode → ⊥)
+
+-- a frame packed anew keeps every placed bit of the old one apart from the checksum, and has 1 in every other
+pub record Renewed (m : Message) (old new : List ℕ) : Type 0 where
+  pub kept : (i : ℕ) → i < length (m .placements) → Counted m i → (j : ℕ) → j < bitsOf (placementAt m i .number)
+      → frameBit new (placementAt m i .start + j) ≡ frameBit old (placementAt m i .start + j)
+  pub ones : (k : ℕ) → k < 64 → Unplaced k (m .placements) → frameBit new k ≡ 1
+
+-- a frame packs again from n counts that were read of it, into any lent frame of 8 bytes
+pub record PacksAgain (words : List ℕ) (identifier : ℕ) (frame : List ℕ) (n : ℕ) (raws : List ℕ) : Type 0 where
+  pub message : Message
+  pub found : messageOf identifier (messagesOf words) ≡ some message
+  pub packs : (lent : List ℕ) → length lent ≡ frameBytes
+      → (packing words identifier (take n raws) lent .0 ≡ Packed) × Renewed message frame (packing words identifier (take n raws) lent .1)

@@ -1,0 +1,5 @@
+pub mod Messages
+pub mod Reading
+pub mod Packing
+pub mod Packed
+pub mod Demand

@@ -1,0 +1,35 @@
+-- What a packed frame is, bit by bit. Assumes nothing: these are definitions.
+use mathlib.Core.Path.{_≡_}
+use mathlib.Core.Logic.{_⊎_}
+use mathlib.Core.List.{List, [], _∷_}
+use Prim.Native.Nat.{ℕ, _+_, _≤_, _<_}
+use lib.ListN.{length, getD}
+use Rattle.books.specs.Book.{Placement, Message}
+use Rattle.bits.specs.Frame.{frameBit}
+use Rattle.bits.specs.Checksum.{checksumOf}
+use Rattle.catalogue.specs.Find.{bitsOf}
+use Rattle.framing.specs.Messages.{frameBytes, checksumNumber, countOf}
+
+-- each placement but that of 503 has its value in the frame
+unfoldable pub Carries : List ℕ → List Placement → List ℕ → Type 0
+Carries frame [] vs = Unit
+Carries frame (p ∷ ps) [] = Unit
+Carries frame (p ∷ ps) (v ∷ vs) = ((p .number ≡ checksumNumber → ⊥) → countOf frame p ≡ v) × Carries frame ps vs
+
+-- each placement of 503 has this count in the frame
+unfoldable pub Summed : List ℕ → ℕ → List Placement → Type 0
+Summed frame sum [] = Unit
+Summed frame sum (p ∷ ps) = (p .number ≡ checksumNumber → countOf frame p ≡ sum) × Summed frame sum ps
+
+-- frame bit k belongs to no placement
+unfoldable pub Unplaced : ℕ → List Placement → Type 0
+Unplaced k [] = Unit
+Unplaced k (p ∷ ps) = ((k < p .start) ⊎ (p .start + bitsOf (p .number) ≤ k)) × Unplaced k ps
+
+-- a frame that carries the values of a message
+pub record IsPacked (m : Message) (vs : List ℕ) (frame : List ℕ) : Type 0 where
+  pub bytes : length frame ≡ frameBytes
+  pub small : (k : ℕ) → getD frame k 0 < 256
+  pub counts : Carries frame (m .placements) vs
+  pub checksum : Summed frame (checksumOf (m .identifier) frame) (m .placements)
+  pub ones : (k : ℕ) → k < 64 → Unplaced k (m .placements) → frameBit frame k ≡ 1
