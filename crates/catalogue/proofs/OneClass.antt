@@ -20,12 +20,8 @@ use Rattle.catalogue.proofs.Found.{RuleOf, rule-of}
 -- ---- the test of an interval
 
 both : (a b : Bool) → a && b ≡ true → (a ≡ true) × (b ≡ true)
-both true true e = (refl, refl)
-both true false e = (refl, e)
-both false b e = (e, absurd-bool e)
-  where
-    absurd-bool : false ≡ true → b ≡ true
-    absurd-bool q = cc
+both true b e = (refl, e)
+both false b e = (e, cc)
 
 module _ (first last count : ℕ) where
   yes-between : between first last count ≡ true → Between first last count

@@ -11,7 +11,7 @@ use lib.ListN.{getD, List·getD-map}
 use Rattle.rows.specs.declared.Row.{Row}
 use Rattle.rows.specs.Rows.{rows, row, blank}
 use Rattle.catalogue.specs.Find.{rowIn, rowOf, bitsIn, bitsOf}
-use Rattle.catalogue.specs.Shapes.{shapes, noShape, signals, shapeIn, shapeOf, rowShaped, widths}
+use Rattle.catalogue.specs.Shapes.{shapes, noShape, signals, shapeIn, shapeOf, rowShaped}
 use Rattle.catalogue.proofs.Arms.{within}
 
 -- the row with another number
@@ -60,7 +60,6 @@ same-bits : (o : Option Row) → bitsIn o ≡ bitsIn (forget o)
 same-bits none = refl
 same-bits (some r) = refl
 
-pub bits-by-shape : (n : ℕ) → bitsOf n ≡ getD widths (shapeOf n) 0
+pub bits-by-shape : (n : ℕ) → bitsOf n ≡ bitsIn (rowShaped (shapeOf n))
 unfolding bitsOf
-bits-by-shape n =
-    same-bits (rowOf n) ∙ ap bitsIn (by-shape n) ∙ sym (List·getD-map bitsIn (map some shapes) (shapeOf n) none)
+bits-by-shape n = same-bits (rowOf n) ∙ ap bitsIn (by-shape n)

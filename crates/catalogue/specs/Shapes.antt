@@ -92,10 +92,3 @@ shapeOf n = shapeIn n signals
 -- the row with the shape s, if there is such a shape
 abbrev pub rowShaped : ℕ → Option Row
 rowShaped s = getD (map some shapes) s none
-
--- the bits of each shape
-abbrev pub widths : List ℕ
-widths =
-    16 ∷ 16 ∷ 8 ∷ 2 ∷ 16 ∷ 2 ∷ 1 ∷ 32 ∷ 16 ∷ 2 ∷ 2 ∷ 4 ∷ 8 ∷ 16 ∷ 8 ∷ 16 ∷ 8 ∷ 8 ∷ 16 ∷ 8
-    ∷ 16 ∷ 4 ∷ 8 ∷ 8 ∷ 8 ∷ 8 ∷ 8 ∷ 2 ∷ 3 ∷ 3 ∷ 8 ∷ 2 ∷ 16 ∷ 2 ∷ 16 ∷ 6 ∷ 5
-    ∷ []

@@ -1,10 +1,11 @@
-// The signal catalogue: the 199 signals of QC/T 1201.5-2023, and the width of each by its number.
+// The signal catalogue of the 199 signals of QC/T 1201.5-2023: by a signal's number, how many bits it has and what a raw
+// count of it stands for. No function here has a `requires`; a number that no signal has is answered too.
 mod classes;
 mod shapes;
 
 pub use classes::class_of;
 use shapes::bits_by;
-pub use shapes::shape_of;
+use shapes::shape_of;
 ghost use mathlib.Core.Path.{_≡_};
 ghost use Rattle.catalogue.specs.Find.{bitsOf};
 
@@ -14,7 +15,7 @@ pub struct Raw(pub u32);
 // A reading in thousandths of the printed unit.
 pub struct Thousandths(pub i64);
 
-// What a raw count of a signal stands for: one of six classes, or one of the refusals 3 and 26.
+// What a raw count of a signal stands for: one of six classes, or a refusal.
 pub enum Class {
     // Within the raw limits and no mark: the reading.
     Value(Thousandths),

@@ -1,8 +1,8 @@
 // The shape of a signal: rows that differ in the number alone have the same. A const array is built anew at every read,
 // so what is asked for each signal goes by `match`, which becomes a jump; the contracts tie it to the catalogue.
 ghost use mathlib.Core.Path.{_≡_};
-ghost use lib.ListN.{getD};
-ghost use Rattle.catalogue.specs.Shapes.{shapeOf, widths};
+ghost use Rattle.catalogue.specs.Find.{bitsIn};
+ghost use Rattle.catalogue.specs.Shapes.{shapeOf, rowShaped};
 
 // The shape of a signal: 37 where the catalogue has no such signal.
 pub fn shape_of(number: u32) -> u8
@@ -214,7 +214,7 @@ pub fn shape_of(number: u32) -> u8
 
 // The bits of the signals with a shape: 0 where the shape is that of no signal.
 pub fn bits_by(shape: u8) -> u32
-    ensures { λ r. ⌜ r ≡ getD widths shape 0 ⌝ }
+    ensures { λ r. ⌜ r ≡ bitsIn (rowShaped shape) ⌝ }
 {
     match shape {
         0 => 16,

@@ -3,8 +3,8 @@
 use mathlib.Core.Path.{_≡_, sym, ap, _∙_}
 use Prim.Native.Nat.{ℕ}
 use borrow.Author.Needs.{needs}
-use lib.ListN.{getD}
-use Rattle.catalogue.specs.Shapes.{widths}
+use Rattle.catalogue.specs.Find.{bitsIn}
+use Rattle.catalogue.specs.Shapes.{rowShaped}
 use Rattle.catalogue.proofs.Shaped.{bits-by-shape}
 use Rattle.catalogue.proofs.bits_of.Statement.{statement}
 use Rattle.catalogue.proofs.bits_of.Tie as tie
@@ -17,7 +17,7 @@ bits-by-requires c κs = search needs
 
 returns : tie.Need-returns
 returns c =
-    c .bits-by .ensures ∙ ap (λ (s : ℕ). getD widths s 0) (c .before .shape-of .ensures)
+    c .bits-by .ensures ∙ ap (λ (s : ℕ). bitsIn (rowShaped s)) (c .before .shape-of .ensures)
     ∙ sym (bits-by-shape (c .before .before .args .number))
 
 pub bits-of-spec : {M : Type 1} → statement M
