@@ -50,7 +50,7 @@ module _ {text : List ℕ} (short : length text ≤ textLimit) {w : List ℕ} (p
     pub sound : {m s r : ℕ} → v ≡ verdict.Sound → m ≡ messageCountOf w → s ≡ signalCountOf w → r ≡ routeCountOf w → Answered text (taken m s r) w
     sound q m s r =
         rw (m ∙ messages-held w (p .book) (p .holds), s ∙ signals-held w (p .book) (p .holds), r ∙ routes-held w (p .book) (p .holds), p .holds .words)
-        (taken-with (record { short = short; at = p .numbers; read = p .read; sound = record { loop-free = (rw q at j) .loop-free; single = (rw q at j) .single } }))
+        (taken-with (record { short = short; at = p .numbers; read = p .read; sound = record { loop-free = (rw q at j) .0; single = (rw q at j) .1 } }))
 
 -- the empty book has the words of a book without lines
 pub empty-words : emptyBook ≡ wordsOf noBook
