@@ -4,18 +4,15 @@ use mathlib.Core.Bool.{Bool, true, false, cond}
 use lib.Dec.{eqb}
 use Rattle.power.specs.declared.Observation.{Observation}
 use Rattle.power.specs.declared.State.{State}
-use Rattle.power.specs.declared.Answer.the-variants.{Taken, NeitherOpenNorClosed, CommandTooHigh, ReadingTooHigh}
 use Rattle.power.specs.Rules.{nextState}
-use Rattle.power.specs.Refusals.{refusal, relaysFit, commandsFit, readingsFit, outcome, stepOf}
+use Rattle.power.specs.Refusals.{refusal, relaysFit, commandsFit, readingsFit, judged, stepOf}
 
 module _ (s : State) (seen : Observation) where
   pub refused : refusal (stepOf s seen .answer) ≡ cond (relaysFit seen) (cond (commandsFit seen) (cond (readingsFit seen) 0 43) 42) 41
   unfolding stepOf
   refused = go (relaysFit seen) (commandsFit seen) (readingsFit seen)
     where
-      go : (a b c : Bool)
-          → refusal (cond a (cond b (cond c (outcome (nextState s seen) Taken) (outcome s ReadingTooHigh)) (outcome s CommandTooHigh)) (outcome s NeitherOpenNorClosed) .answer)
-          ≡ cond a (cond b (cond c 0 43) 42) 41
+      go : (a b c : Bool) → refusal (judged a b c s (nextState s seen) .answer) ≡ cond a (cond b (cond c 0 43) 42) 41
       go true true true = refl
       go true true false = refl
       go true false c = refl
@@ -25,9 +22,7 @@ module _ (s : State) (seen : Observation) where
   unfolding stepOf
   kept-or-next = go (relaysFit seen) (commandsFit seen) (readingsFit seen)
     where
-      go : (a b c : Bool)
-          → cond a (cond b (cond c (outcome (nextState s seen) Taken) (outcome s ReadingTooHigh)) (outcome s CommandTooHigh)) (outcome s NeitherOpenNorClosed) .state
-          ≡ cond (eqb (refusal (cond a (cond b (cond c (outcome (nextState s seen) Taken) (outcome s ReadingTooHigh)) (outcome s CommandTooHigh)) (outcome s NeitherOpenNorClosed) .answer)) 0) (nextState s seen) s
+      go : (a b c : Bool) → judged a b c s (nextState s seen) .state ≡ cond (eqb (refusal (judged a b c s (nextState s seen) .answer)) 0) (nextState s seen) s
       go true true true = refl
       go true true false = refl
       go true false c = refl

@@ -1,6 +1,6 @@
 -- One step: refusals 41, 42 and 43, in that order, each with the state kept; otherwise the rules. Assumes nothing.
 use Prim.Native.Nat.{ℕ}
-use mathlib.Core.Bool.{Bool, cond, _&&_, _||_}
+use mathlib.Core.Bool.{Bool, true, false, _&&_, _||_}
 use lib.Dec.{eqb, leb}
 use Rattle.power.specs.declared.Observation.{Observation}
 use Rattle.power.specs.declared.State.{State}
@@ -35,10 +35,12 @@ readingsFit seen = leb (seen .current) 65535 && leb (seen .inside) 65535 && leb 
 abbrev pub outcome : State → Answer → Stepped
 outcome state answer = record { state = state; answer = answer }
 
+-- whether the relays, the commands and the readings fit; the state kept, and the one that follows
+abbrev pub judged : Bool → Bool → Bool → State → State → Stepped
+judged false commands readings kept next = outcome kept NeitherOpenNorClosed
+judged true false readings kept next = outcome kept CommandTooHigh
+judged true true false kept next = outcome kept ReadingTooHigh
+judged true true true kept next = outcome next Taken
+
 unfoldable pub stepOf : State → Observation → Stepped
-stepOf state seen =
-    cond (relaysFit seen)
-    (cond (commandsFit seen)
-    (cond (readingsFit seen) (outcome (nextState state seen) Taken) (outcome state ReadingTooHigh))
-    (outcome state CommandTooHigh))
-    (outcome state NeitherOpenNorClosed)
+stepOf state seen = judged (relaysFit seen) (commandsFit seen) (readingsFit seen) state (nextState state seen)

@@ -24,6 +24,19 @@ fn digit(byte: u8) -> u32 {
     (byte - b'0') as u32
 }
 
+fn observed(line: [u8; 66]) -> Observation {
+    Observation {
+        main_negative: hex(&line[1..9]),
+        precharge: hex(&line[9..17]),
+        main_positive: hex(&line[17..25]),
+        command: hex(&line[25..33]),
+        emergency_off: hex(&line[33..41]),
+        current: hex(&line[41..49]),
+        inside: hex(&line[49..57]),
+        outside: hex(&line[57..65]),
+    }
+}
+
 fn step(state: State, seen: Observation) {
     let after = power::step(state, seen);
     let answer = after.answer;
@@ -53,18 +66,8 @@ fn main() {
         if io::read_full(STDIN_FILENO, &mut line) < 66 {
             return;
         }
-        let seen = Observation {
-            main_negative: hex(&line[1..9]),
-            precharge: hex(&line[9..17]),
-            main_positive: hex(&line[17..25]),
-            command: hex(&line[25..33]),
-            emergency_off: hex(&line[33..41]),
-            current: hex(&line[41..49]),
-            inside: hex(&line[49..57]),
-            outside: hex(&line[57..65]),
-        };
         match State::numbered(digit(line[0])) {
-            Numbered::State(state) => step(state, seen),
+            Numbered::State(state) => step(state, observed(line)),
             Numbered::NoState => return,
         }
     }

@@ -27,102 +27,6 @@ read-full-requires c κs = search needs
 returns : tie.Need-returns Inv-loop μ-loop
 returns c = search needs
 
-sub-hex : tie.Need-sub-hex Inv-loop μ-loop
-sub-hex c = search needs
-
-part-hex-start : tie.Need-part-hex-start Inv-loop μ-loop
-part-hex-start c = search needs
-
-part-hex-end : tie.Need-part-hex-end Inv-loop μ-loop
-part-hex-end c = search needs
-
-hex-requires : tie.Need-hex-requires Inv-loop μ-loop
-hex-requires c κs = search needs
-
-sub-hex-2 : tie.Need-sub-hex-2 Inv-loop μ-loop
-sub-hex-2 c = search needs
-
-part-hex-start-2 : tie.Need-part-hex-start-2 Inv-loop μ-loop
-part-hex-start-2 c = search needs
-
-part-hex-end-2 : tie.Need-part-hex-end-2 Inv-loop μ-loop
-part-hex-end-2 c = search needs
-
-hex-requires-2 : tie.Need-hex-requires-2 Inv-loop μ-loop
-hex-requires-2 c κs = search needs
-
-sub-hex-3 : tie.Need-sub-hex-3 Inv-loop μ-loop
-sub-hex-3 c = search needs
-
-part-hex-start-3 : tie.Need-part-hex-start-3 Inv-loop μ-loop
-part-hex-start-3 c = search needs
-
-part-hex-end-3 : tie.Need-part-hex-end-3 Inv-loop μ-loop
-part-hex-end-3 c = search needs
-
-hex-requires-3 : tie.Need-hex-requires-3 Inv-loop μ-loop
-hex-requires-3 c κs = search needs
-
-sub-hex-4 : tie.Need-sub-hex-4 Inv-loop μ-loop
-sub-hex-4 c = search needs
-
-part-hex-start-4 : tie.Need-part-hex-start-4 Inv-loop μ-loop
-part-hex-start-4 c = search needs
-
-part-hex-end-4 : tie.Need-part-hex-end-4 Inv-loop μ-loop
-part-hex-end-4 c = search needs
-
-hex-requires-4 : tie.Need-hex-requires-4 Inv-loop μ-loop
-hex-requires-4 c κs = search needs
-
-sub-hex-5 : tie.Need-sub-hex-5 Inv-loop μ-loop
-sub-hex-5 c = search needs
-
-part-hex-start-5 : tie.Need-part-hex-start-5 Inv-loop μ-loop
-part-hex-start-5 c = search needs
-
-part-hex-end-5 : tie.Need-part-hex-end-5 Inv-loop μ-loop
-part-hex-end-5 c = search needs
-
-hex-requires-5 : tie.Need-hex-requires-5 Inv-loop μ-loop
-hex-requires-5 c κs = search needs
-
-sub-hex-6 : tie.Need-sub-hex-6 Inv-loop μ-loop
-sub-hex-6 c = search needs
-
-part-hex-start-6 : tie.Need-part-hex-start-6 Inv-loop μ-loop
-part-hex-start-6 c = search needs
-
-part-hex-end-6 : tie.Need-part-hex-end-6 Inv-loop μ-loop
-part-hex-end-6 c = search needs
-
-hex-requires-6 : tie.Need-hex-requires-6 Inv-loop μ-loop
-hex-requires-6 c κs = search needs
-
-sub-hex-7 : tie.Need-sub-hex-7 Inv-loop μ-loop
-sub-hex-7 c = search needs
-
-part-hex-start-7 : tie.Need-part-hex-start-7 Inv-loop μ-loop
-part-hex-start-7 c = search needs
-
-part-hex-end-7 : tie.Need-part-hex-end-7 Inv-loop μ-loop
-part-hex-end-7 c = search needs
-
-hex-requires-7 : tie.Need-hex-requires-7 Inv-loop μ-loop
-hex-requires-7 c κs = search needs
-
-sub-hex-8 : tie.Need-sub-hex-8 Inv-loop μ-loop
-sub-hex-8 c = search needs
-
-part-hex-start-8 : tie.Need-part-hex-start-8 Inv-loop μ-loop
-part-hex-start-8 c = search needs
-
-part-hex-end-8 : tie.Need-part-hex-end-8 Inv-loop μ-loop
-part-hex-end-8 c = search needs
-
-hex-requires-8 : tie.Need-hex-requires-8 Inv-loop μ-loop
-hex-requires-8 c κs = search needs
-
 array-read-digit : tie.Need-array-read-digit Inv-loop μ-loop
 array-read-digit c = search needs
 
@@ -134,6 +38,9 @@ numbered-requires c κs = search needs
 
 enum-known-state : tie.Need-enum-known-state Inv-loop μ-loop
 enum-known-state c = search needs
+
+observed-requires : tie.Need-observed-requires Inv-loop μ-loop
+observed-requires c κs = search needs
 
 step-requires : tie.Need-step-requires Inv-loop μ-loop
 step-requires c κs = search needs
@@ -164,42 +71,11 @@ main-spec =
     slice-aggregate-read-full
     read-full-requires
     returns
-    sub-hex
-    part-hex-start
-    part-hex-end
-    hex-requires
-    sub-hex-2
-    part-hex-start-2
-    part-hex-end-2
-    hex-requires-2
-    sub-hex-3
-    part-hex-start-3
-    part-hex-end-3
-    hex-requires-3
-    sub-hex-4
-    part-hex-start-4
-    part-hex-end-4
-    hex-requires-4
-    sub-hex-5
-    part-hex-start-5
-    part-hex-end-5
-    hex-requires-5
-    sub-hex-6
-    part-hex-start-6
-    part-hex-end-6
-    hex-requires-6
-    sub-hex-7
-    part-hex-start-7
-    part-hex-end-7
-    hex-requires-7
-    sub-hex-8
-    part-hex-start-8
-    part-hex-end-8
-    hex-requires-8
     array-read-digit
     digit-requires
     numbered-requires
     enum-known-state
+    observed-requires
     step-requires
     loop-less
     loop-again
