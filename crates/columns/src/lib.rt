@@ -1,0 +1,75 @@
+// One column of a book: a part of it, whether a number stands in it, and whether identifiers repeat.
+ghost use mathlib.Core.Path.{_≡_};
+ghost use mathlib.Core.List.{[]};
+ghost use Prim.Native.Nat.{_-_, _%_, _≤_, _<_};
+ghost use lib.ListN.{length, take, drop};
+ghost use Rattle.books.specs.Lines.{isIn};
+ghost use Rattle.columns.specs.Identifiers.{distinctAfter};
+use record::IDENTIFIER_LIMIT;
+
+// A count or an end as the size that it is.
+pub fn wide(count: u32) -> usize
+    ensures { λ r. ⌜ r ≡ count ⌝ }
+{
+    count as usize
+}
+
+// The first `count` entries.
+pub fn first(column: &[u32], count: usize) -> &[u32]
+    requires { ⌜ count ≤ length (now column) ⌝ }
+    ensures { λ r. ⌜ (now r ≡ take count (now (column .entry))) × (length (now r) ≡ count) ⌝ }
+{
+    &column[..count]
+}
+
+// The entries from `first` on, up to `end`.
+pub fn part(column: &[u32], first: usize, end: usize) -> &[u32]
+    requires { ⌜ (first ≤ end) × (end ≤ length (now column)) ⌝ }
+    ensures { λ r. ⌜ (now r ≡ take (end - first) (drop first (now (column .entry)))) × (length (now r) ≡ end - first) ⌝ }
+{
+    &column[first..end]
+}
+
+// Whether `number` stands in the column.
+pub fn holds(column: &[u32], number: u32) -> bool
+    ensures { λ r. ⌜ r ≡ isIn number (now (column .entry)) ⌝ }
+{
+    let mut at: usize = 0;
+    while at < column.len() {
+        if number == column[at] {
+            return true;
+        }
+        at += 1;
+    }
+    false
+}
+
+fn slot(identifier: u32) -> usize
+    ensures { λ r. ⌜ (r ≡ identifier % 251) × (r < 256) ⌝ }
+{
+    (identifier % 251) as usize
+}
+
+// Whether the identifiers are within the limit, and none stands there twice.
+// An identifier is looked for among those before it only where one of them fell into the same slot.
+pub fn distinct(ids: &[u32]) -> bool
+    ensures { λ r. ⌜ r ≡ distinctAfter [] (now (ids .entry)) ⌝ }
+{
+    let mut used = [0u8; 256];
+    let mut at: usize = 0;
+    while at < ids.len() {
+        let identifier = ids[at];
+        if identifier >= IDENTIFIER_LIMIT {
+            return false;
+        }
+        let place = slot(identifier);
+        if used[place] != 0 {
+            if holds(&ids[..at], identifier) {
+                return false;
+            }
+        }
+        used[place] = 1;
+        at += 1;
+    }
+    true
+}

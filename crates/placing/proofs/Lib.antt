@@ -1,0 +1,5 @@
+pub mod Placing
+pub mod Runs
+pub mod Covering
+pub mod Marks
+pub mod Signals

@@ -1,0 +1,96 @@
+-- One signal against its frame, and against those before it, one at a time. Assumes nothing.
+use mathlib.Core.Path.{_≡_, refl, sym, ap, _∙_}
+use mathlib.Core.Bool.{Bool, true, false, _&&_, _||_, not}
+use mathlib.Core.List.{List, [], _∷_}
+use Prim.Native.Nat.{ℕ, suc, _+_, _≤_, _<_}
+use native.Mathlib.Omega.{arith}
+use native.Mathlib.Numerals.{add-one}
+use lib.Dec.{eqb, leb, ltb}
+use lib.ListN.{length, drop, getD, drop-of-length-le}
+use lib.Seq.{drop-cons}
+use borrow.Author.Tests.{ne-eqb, lt-ltb, le-ltb, le-leb, lt-leb, leb-false, ltb-false}
+use Rattle.catalogue.specs.Find.{bitsOf}
+use Rattle.catalogue.proofs.Found.{few-bits}
+use Rattle.books.specs.Book.{Placement, numbers}
+use Rattle.books.specs.Lines.{unknownOrOver, misplaced, meets, meetsEarlier, frameBits}
+use Rattle.books.specs.Words.{placed}
+use Rattle.books.proofs.Tests.{neither, both-false}
+use Rattle.placing.specs.Placing.{placement, standsAlone}
+
+or-false : (t : Bool) → t || false ≡ t
+or-false true = refl
+or-false false = refl
+
+-- ---- by itself: past the frame's end, and the two that have a start of their own
+module _ (n s b : ℕ) (e : b ≡ bitsOf n) where
+  pub past-end : 64 < s + b → misplaced (placement n s) ≡ true
+  unfolding misplaced
+  past-end h = rw (← e, lt-ltb _ _ h)
+
+  module _ (h : s + b ≤ 64) where
+    pub sum-placed : n ≡ 503 → misplaced (placement n s) ≡ not (eqb s 60)
+    unfolding misplaced
+    sum-placed f = rw (← e, le-ltb _ _ h, f) (or-false (not (eqb s 60)))
+
+    pub counter-placed : n ≡ 504 → misplaced (placement n s) ≡ not (eqb s 56)
+    unfolding misplaced
+    counter-placed f = rw (← e, le-ltb _ _ h, f)
+
+    pub well-placed : (n ≡ 503 → ⊥) → (n ≡ 504 → ⊥) → misplaced (placement n s) ≡ false
+    unfolding misplaced
+    well-placed f g = rw (← e, le-ltb _ _ h, ne-eqb _ _ f, ne-eqb _ _ g)
+
+-- ---- a number of the catalogue, at a start within the limit
+or-true : (t : Bool) → t || true ≡ true
+or-true true = refl
+or-true false = refl
+
+module _ (n s : ℕ) where
+  pub unknown : bitsOf n ≡ 0 → unknownOrOver (placement n s) ≡ true
+  unfolding unknownOrOver
+  unknown e = rw e
+
+  pub over : 64 ≤ s → unknownOrOver (placement n s) ≡ true
+  unfolding unknownOrOver
+  over g = rw (le-leb _ _ g) (or-true (eqb (bitsOf n) 0))
+
+  pub known : (bitsOf n ≡ 0 → ⊥) → s < 64 → unknownOrOver (placement n s) ≡ false
+  unfolding unknownOrOver
+  known e g = rw (ne-eqb _ _ e, lt-leb _ _ g)
+
+-- what a signal that stands alone takes of a frame
+pub record Room (start bits : ℕ) : Type 0 where
+  pub from : start < 64
+  pub few : bits ≤ 32
+  pub to : start + bits ≤ 64
+
+pub alone-room : (n s b : ℕ) → b ≡ bitsOf n → standsAlone (placement n s) ≡ true → Room s b
+unfolding unknownOrOver misplaced
+alone-room n s b e h =
+    let p = placement n s in
+    let a = neither (unknownOrOver p) (misplaced p) h in
+    let u = both-false (eqb (bitsOf n) 0) (leb frameBits s) (a .0) in
+    let m = both-false (ltb frameBits (s + bitsOf n)) _ (a .1) in
+    record { from = leb-false _ _ (u .1); few = omega (arith, e, few-bits n); to = omega (arith, e, ltb-false frameBits (s + bitsOf n) (m .0)) }
+
+-- ---- against those before it
+pub placed-numbers : (ns ss : List ℕ) → length ss ≡ length ns → numbers (placed ns ss) ≡ ns
+unfolding placed
+placed-numbers [] ss e = refl
+placed-numbers (n ∷ ns) [] e = let z : 0 ≡ suc (length ns) = e in absurd (omega arith)
+placed-numbers (n ∷ ns) (s ∷ ss) e = ap (_∷_ n) (placed-numbers ns ss (omega (arith, e)))
+
+module _ (ns ss : List ℕ) (i : ℕ) (p : Placement) where
+  pub meets-none : length ns ≤ i → meetsEarlier (placed (drop i ns) (drop i ss)) p ≡ false
+  unfolding placed meetsEarlier
+  meets-none h = rw (drop-of-length-le ns h)
+
+  module _ (h : i < length ns) (e : length ss ≡ length ns) where
+    pub meets-here : meets p (placement (getD ns i 0) (getD ss i 0)) ≡ true → meetsEarlier (placed (drop i ns) (drop i ss)) p ≡ true
+    unfolding placed meetsEarlier
+    meets-here m = let g : i < length ss = omega arith in rw (drop-cons ns i 0 h, drop-cons ss i 0 g, m)
+
+    pub meets-later : meets p (placement (getD ns i 0) (getD ss i 0)) ≡ false
+        → meetsEarlier (placed (drop i ns) (drop i ss)) p ≡ meetsEarlier (placed (drop (i + 1) ns) (drop (i + 1) ss)) p
+    unfolding placed meetsEarlier
+    meets-later m = let g : i < length ss = omega arith in rw (drop-cons ns i 0 h, drop-cons ss i 0 g, m, add-one i)

@@ -1,0 +1,165 @@
+-- The signals of a message, passed one after the other. Assumes nothing.
+use mathlib.Core.Path.{_≡_, refl, sym, ap, _∙_, subst}
+use mathlib.Core.Bool.{Bool, true, false, _&&_, _||_, not}
+use mathlib.Core.List.{List, [], _∷_, _++_}
+use Prim.Native.Nat.{ℕ, zero, suc, _+_, _%_, _≤_, _<_}
+use native.Mathlib.Omega.{arith}
+use native.Mathlib.Numerals.{add-one}
+use lib.Dec.{eqb, leb}
+use lib.ListN.{length, take, drop, getD, drop-of-length-le}
+use lib.Seq.{drop-cons, take-suc, length-take-le}
+use borrow.Author.Tests.{eqb-false, not-true, not-false}
+use Rattle.catalogue.specs.Find.{bitsOf}
+use Rattle.books.specs.Book.{Placement, numbers}
+use Rattle.books.specs.Lines.{isIn, unknownOrOver, misplaced, meetsEarlier, frameBits}
+use Rattle.books.specs.Good.{goodAfter}
+use Rattle.books.specs.Words.{placed}
+use Rattle.books.proofs.Tests.{neither, both-false}
+use Rattle.masks.specs.Bit.{bit, meeting}
+use Rattle.masks.proofs.Bits.{bit-zero}
+use Rattle.placing.specs.Placing.{placement, standsAlone, inRun, Marked}
+use Rattle.placing.proofs.Placing.{placed-numbers}
+use Rattle.placing.proofs.Covering.{has, covers, covers-none, covers-more, Wide, none, more, wide-more, same-meeting}
+use Rattle.placing.proofs.Marks.{marked-more}
+
+-- the signals before `at`, and those from it on
+abbrev pub earlier : List ℕ → List ℕ → ℕ → List Placement
+earlier ns ss at = placed (take at ns) (take at ss)
+
+abbrev later : List ℕ → List ℕ → ℕ → List Placement
+later ns ss at = placed (drop at ns) (drop at ss)
+
+abbrev pub nth : List ℕ → List ℕ → ℕ → Placement
+nth ns ss at = placement (getD ns at 0) (getD ss at 0)
+
+placed-more : (ns ss : List ℕ) (n s : ℕ) → length ss ≡ length ns → placed (ns ++ (n ∷ [])) (ss ++ (s ∷ [])) ≡ placed ns ss ++ (placement n s ∷ [])
+unfolding placed
+placed-more [] [] n s e = refl
+placed-more [] (x ∷ ss) n s e = let z : suc (length ss) ≡ 0 = e in absurd (omega arith)
+placed-more (x ∷ ns) [] n s e = let z : 0 ≡ suc (length ns) = e in absurd (omega arith)
+placed-more (x ∷ ns) (y ∷ ss) n s e = ap (_∷_ (placement x y)) (placed-more ns ss n s (omega (arith, e)))
+
+-- ---- what a signal has to pass
+
+abbrev fits : List Placement → Placement → Bool
+fits others p = not (unknownOrOver p || (isIn (p .number) (numbers others) || (misplaced p || meetsEarlier others p)))
+
+alone-fails : (u i m e : Bool) → not (u || m) ≡ false → not (u || (i || (m || e))) ≡ false
+alone-fails true i m e h = refl
+alone-fails false true m e h = refl
+alone-fails false false true e h = refl
+alone-fails false false false e h = let z : true ≡ false = h in let y : _≡_ {A = ℕ} 0 1 = cc in absurd (omega arith)
+
+meet-fails : (u i m e : Bool) → e ≡ true → not (u || (i || (m || e))) ≡ false
+meet-fails true i m e h = refl
+meet-fails false true m e h = refl
+meet-fails false false true e h = refl
+meet-fails false false false e h = ap not h
+
+again-fails : (u i m e : Bool) → i ≡ true → not (u || (i || (m || e))) ≡ false
+again-fails true i m e h = refl
+again-fails false i m e h = rw h
+
+all-pass : (u i m e : Bool) → not (u || m) ≡ true → i ≡ false → e ≡ false → not (u || (i || (m || e))) ≡ true
+all-pass u i m e h f g = let n = neither u m h in rw (n .0, n .1, f, g)
+
+module _ (others : List Placement) (p : Placement) where
+  not-alone : standsAlone p ≡ false → fits others p ≡ false
+  not-alone = alone-fails (unknownOrOver p) (isIn (p .number) (numbers others)) (misplaced p) (meetsEarlier others p)
+
+  not-apart : meetsEarlier others p ≡ true → fits others p ≡ false
+  not-apart = meet-fails (unknownOrOver p) (isIn (p .number) (numbers others)) (misplaced p) (meetsEarlier others p)
+
+  not-new : isIn (p .number) (numbers others) ≡ true → fits others p ≡ false
+  not-new = again-fails (unknownOrOver p) (isIn (p .number) (numbers others)) (misplaced p) (meetsEarlier others p)
+
+  well : standsAlone p ≡ true → isIn (p .number) (numbers others) ≡ false → meetsEarlier others p ≡ false → fits others p ≡ true
+  well = all-pass (unknownOrOver p) (isIn (p .number) (numbers others)) (misplaced p) (meetsEarlier others p)
+
+positive : (k : ℕ) → (k ≡ 0 → ⊥) → 0 < k
+positive zero n = absurd (n refl)
+positive (suc k) n = omega arith
+
+-- such a signal has bits
+has-bits : (p : Placement) → standsAlone p ≡ true → 0 < bitsOf (p .number)
+unfolding unknownOrOver
+has-bits p h =
+    let n = neither (eqb (bitsOf (p .number)) 0 || leb frameBits (p .start)) (misplaced p) h in
+    positive (bitsOf (p .number)) (eqb-false _ _ (both-false (eqb (bitsOf (p .number)) 0) (leb frameBits (p .start)) (n .0) .0))
+
+-- ---- the loop
+
+pub record Passed (ns ss : List ℕ) (taken marks at : ℕ) : Type 0 where
+  pub same : goodAfter (placed (take at ns) (take at ss)) (placed (drop at ns) (drop at ss)) ≡ goodAfter [] (placed ns ss)
+  pub covered : (k : ℕ) → bit taken k ≡ covers (placed (take at ns) (take at ss)) k
+  pub each-wide : Wide (placed (take at ns) (take at ss))
+  pub marked : Marked ns marks at
+
+pub begin : (ns ss : List ℕ) → Passed ns ss 0 0 0
+unfolding placed
+begin ns ss = record {
+  same = refl;
+  covered = λ k. bit-zero k ∙ sym (covers-none k);
+  each-wide = none;
+  marked = λ j p q. absurd (omega arith);
+}
+
+module _ (ns ss : List ℕ) (taken marks at : ℕ) (e : length ss ≡ length ns) (w : Passed ns ss taken marks at) where
+  pub end : length ns ≤ at → true ≡ goodAfter [] (placed ns ss)
+  unfolding goodAfter placed
+  end h = sym (ap (λ (l : List ℕ). goodAfter (earlier ns ss at) (placed l (drop at ss))) (drop-of-length-le ns h)) ∙ w .same
+
+  module _ (h : at < length ns) where
+    one : later ns ss at ≡ nth ns ss at ∷ later ns ss (at + 1)
+    unfolding placed
+    one = let g : at < length ss = omega arith in rw (drop-cons ns at 0 h, drop-cons ss at 0 g, add-one at)
+
+    rest : Bool
+    rest = goodAfter (earlier ns ss at ++ (nth ns ss at ∷ [])) (later ns ss (at + 1))
+
+    step : fits (earlier ns ss at) (nth ns ss at) && rest ≡ goodAfter [] (placed ns ss)
+    unfolding goodAfter rest
+    step = sym (ap (goodAfter (earlier ns ss at)) one) ∙ w .same
+
+    fail : fits (earlier ns ss at) (nth ns ss at) ≡ false → false ≡ goodAfter [] (placed ns ss)
+    fail f = ap (λ (t : Bool). t && rest) (sym f) ∙ step
+
+    long : length (take at ss) ≡ length (take at ns)
+    long = length-take-le at ss (omega arith) ∙ sym (length-take-le at ns (omega arith))
+
+    among : isIn (getD ns at 0) (numbers (earlier ns ss at)) ≡ isIn (getD ns at 0) (take at ns)
+    among = ap (isIn (getD ns at 0)) (placed-numbers (take at ns) (take at ss) long)
+
+    pub refuse-alone : standsAlone (nth ns ss at) ≡ false → false ≡ goodAfter [] (placed ns ss)
+    refuse-alone f = fail (not-alone (earlier ns ss at) (nth ns ss at) f)
+
+    module _ (alone : standsAlone (nth ns ss at) ≡ true) (b run : ℕ) (eb : b ≡ bitsOf (getD ns at 0)) (inside : (k : ℕ) → bit run k ≡ inRun (getD ss at 0) b k) where
+      bits : (k : ℕ) → bit run k ≡ has (nth ns ss at) k
+      bits k = inside k ∙ ap (λ (n : ℕ). inRun (getD ss at 0) n k) eb
+
+      meets-same : meeting taken run ≡ meetsEarlier (earlier ns ss at) (nth ns ss at)
+      meets-same = same-meeting (earlier ns ss at) (nth ns ss at) taken run (w .covered) bits (w .each-wide) (has-bits (nth ns ss at) alone)
+
+      pub refuse-meeting : meeting taken run ≡ true → false ≡ goodAfter [] (placed ns ss)
+      refuse-meeting f = fail (not-apart (earlier ns ss at) (nth ns ss at) (sym meets-same ∙ f))
+
+      pub refuse-again : not (isIn (getD ns at 0) (take at ns)) ≡ false → false ≡ goodAfter [] (placed ns ss)
+      refuse-again f = fail (not-new (earlier ns ss at) (nth ns ss at) (among ∙ not-false _ f))
+
+      pub next : meeting taken run ≡ false → not (isIn (getD ns at 0) (take at ns)) ≡ true → (taken′ marks′ : ℕ)
+          → ((k : ℕ) → bit taken′ k ≡ bit taken k || bit run k) → ((j : ℕ) → bit marks′ j ≡ bit marks j || eqb j (getD ns at 0 % 64))
+          → Passed ns ss taken′ marks′ (at + 1)
+      unfolding rest
+      next f g taken′ marks′ t m =
+          let passes = well (earlier ns ss at) (nth ns ss at) alone (among ∙ not-true _ g) (sym meets-same ∙ f) in
+          let gs : at < length ss = omega arith in
+          let longer : earlier ns ss (at + 1) ≡ earlier ns ss at ++ (nth ns ss at ∷ []) =
+          rw (add-one at, take-suc ns at 0 h, take-suc ss at 0 gs) (placed-more (take at ns) (take at ss) (getD ns at 0) (getD ss at 0) long)
+          in
+          record {
+            same = ap (λ (l : List Placement). goodAfter l (later ns ss (at + 1))) longer ∙ sym (ap (λ (t : Bool). t && rest) passes) ∙ step;
+            covered = λ k. t k ∙ ap (λ (t : Bool). t || bit run k) (w .covered k) ∙ ap (λ (t : Bool). covers (earlier ns ss at) k || t) (bits k) ∙
+                sym (ap (λ (l : List Placement). covers l k) longer ∙ covers-more (earlier ns ss at) (nth ns ss at) k);
+            each-wide = subst Wide (sym longer) (wide-more (nth ns ss at) (w .each-wide) (has-bits (nth ns ss at) alone));
+            marked = marked-more ns marks marks′ at (getD ns at 0) refl m (w .marked);
+          }

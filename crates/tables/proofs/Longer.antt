@@ -1,0 +1,50 @@
+-- The columns of a book with one line more. Assumes nothing.
+use mathlib.Core.Path.{_≡_, refl, sym, ap, _∙_}
+use mathlib.Core.List.{List, [], _∷_, _++_, map, append-assoc, append-nil}
+use Prim.Native.Nat.{ℕ, zero, suc, _+_, _-_, _≤_, _<_}
+use native.Mathlib.Nat.{zero-add, add-zero, add-assoc}
+use native.Mathlib.Omega.{arith}
+use lib.ListN.{length, set, take, drop, getD, length-append, length-map}
+use Rattle.books.specs.Book.{Placement, Message, Route, Book, identifiers, numbers, allPlacements, fresh, withPlacement, inLast, lastPlacements}
+use Rattle.books.specs.Words.{column, starts, endsAfter, idColumn, endColumn, numberColumn, startColumn}
+use Rattle.books.proofs.Ends.{map-append, all-append, in-last, Last, last}
+
+all-one : (m : Message) → allPlacements (m ∷ []) ≡ m .placements
+unfolding allPlacements
+all-one m = append-nil (m .placements)
+
+-- the placements of messages that end with m
+pub all-last : (ms : List Message) (m : Message) → allPlacements (ms ++ (m ∷ [])) ≡ allPlacements ms ++ m .placements
+all-last ms m = all-append ms (m ∷ []) ∙ ap (λ (l : List Placement). allPlacements ms ++ l) (all-one m)
+
+pub ends-last : (n : ℕ) (ms : List Message) (m : Message) → endsAfter n (ms ++ (m ∷ [])) ≡ endsAfter n ms ++ ((n + length (allPlacements (ms ++ (m ∷ [])))) ∷ [])
+unfolding endsAfter allPlacements
+ends-last n [] m = rw append-nil
+ends-last n (x ∷ ms) m =
+    ap (_∷_ (n + length (x .placements)))
+    (ends-last (n + length (x .placements)) ms m ∙
+    ap (λ (k : ℕ). endsAfter (n + length (x .placements)) ms ++ (k ∷ [])) (omega (arith, length-append (x .placements) (allPlacements (ms ++ (m ∷ []))))))
+
+-- ---- a message more
+
+module _ (ms : List Message) (i : ℕ) where
+  pub identifiers-more : identifiers (ms ++ (fresh i ∷ [])) ≡ identifiers ms ++ (i ∷ [])
+  identifiers-more = map-append (λ (m : Message). m .identifier) ms (fresh i ∷ [])
+
+  pub placements-stay : allPlacements (ms ++ (fresh i ∷ [])) ≡ allPlacements ms
+  placements-stay = all-last ms (fresh i) ∙ append-nil (allPlacements ms)
+
+  pub ends-more : endsAfter 0 (ms ++ (fresh i ∷ [])) ≡ endsAfter 0 ms ++ (length (allPlacements ms) ∷ [])
+  ends-more = ends-last 0 ms (fresh i) ∙ rw (placements-stay, zero-add)
+
+-- ---- a signal more, in the last message
+
+module _ (before : List Message) (m : Message) (p : Placement) where
+  pub identifiers-stay : identifiers (before ++ (withPlacement m p ∷ [])) ≡ identifiers (before ++ (m ∷ []))
+  identifiers-stay =
+      map-append (λ (n : Message). n .identifier) before (withPlacement m p ∷ []) ∙ sym (map-append (λ (n : Message). n .identifier) before (m ∷ []))
+
+  pub placements-more : allPlacements (before ++ (withPlacement m p ∷ [])) ≡ allPlacements (before ++ (m ∷ [])) ++ (p ∷ [])
+  placements-more =
+      all-last before (withPlacement m p) ∙ sym (append-assoc (allPlacements before) (m .placements) (p ∷ [])) ∙
+      ap (λ (l : List Placement). l ++ (p ∷ [])) (sym (all-last before m))

@@ -1,0 +1,196 @@
+-- Placements parted among messages, one message after the other. Assumes nothing.
+use mathlib.Core.Path.{_≡_, refl, sym, ap, _∙_, subst}
+use mathlib.Core.Bool.{Bool, true, false, _&&_, _||_, not}
+use mathlib.Core.List.{List, [], _∷_, _++_}
+use Prim.Native.Nat.{ℕ, zero, suc, _+_, _-_, _≤_, _<_}
+use native.Mathlib.Nat.{zero-add}
+use native.Mathlib.Omega.{arith}
+use native.Mathlib.Numerals.{add-one}
+use lib.Dec.{eqb, leb}
+use lib.ListN.{length, take, drop, getD, length-append, length-drop, take-append-drop, drop-of-length-le}
+use lib.Seq.{drop-cons, drop-drop, take-nil, drop-nil, length-take-le, take-at, drop-at}
+use borrow.Author.Tests.{le-leb, lt-leb, leb-true, eq-eqb, ne-eqb, eqb-true, eqb-false}
+use Rattle.books.specs.Book.{Placement, Message, identifiers, allPlacements}
+use Rattle.books.specs.Good.{goodAfter, goodFrom}
+use Rattle.books.specs.Lines.{isIn, identifierLimit}
+use Rattle.books.specs.Words.{endsAfter, placed, shown}
+use Rattle.books.proofs.Tests.{both, with}
+use Rattle.columns.specs.Identifiers.{distinctAfter}
+use Rattle.tables.specs.Testing.{parted}
+
+-- ---- parts of two columns side by side
+
+pub placed-take : (n : ℕ) (ns ss : List ℕ) → placed (take n ns) (take n ss) ≡ take n (placed ns ss)
+unfolding placed
+placed-take zero ns ss = refl
+placed-take (suc n) [] ss = refl
+placed-take (suc n) (x ∷ ns) [] = refl
+placed-take (suc n) (x ∷ ns) (y ∷ ss) = ap (_∷_ (record { number = x; start = y })) (placed-take n ns ss)
+
+pub placed-drop : (n : ℕ) (ns ss : List ℕ) → placed (drop n ns) (drop n ss) ≡ drop n (placed ns ss)
+unfolding placed
+placed-drop zero ns ss = refl
+placed-drop (suc n) [] ss = refl
+placed-drop (suc n) (x ∷ ns) [] = none (drop n ns)
+  where
+    none : (l : List ℕ) → placed l [] ≡ []
+    none [] = refl
+    none (z ∷ l) = refl
+placed-drop (suc n) (x ∷ ns) (y ∷ ss) = placed-drop n ns ss
+
+pub length-placed : (ns ss : List ℕ) → length ss ≡ length ns → length (placed ns ss) ≡ length ns
+unfolding placed
+length-placed [] ss e = refl
+length-placed (x ∷ ns) [] e = let z : 0 ≡ suc (length ns) = e in absurd (omega arith)
+length-placed (x ∷ ns) (y ∷ ss) e = ap suc (length-placed ns ss (omega (arith, e)))
+
+-- ---- the loop over the ends
+
+pub record Reached (ends ns ss : List ℕ) (begin at : ℕ) : Type 0 where
+  pub within : begin ≤ length ns
+  pub same : parted begin (drop at ends) (drop begin (placed ns ss)) ≡ parted 0 ends (placed ns ss)
+
+pub begin-parted : (ends ns ss : List ℕ) → Reached ends ns ss 0 0
+begin-parted ends ns ss = record { within = omega arith; same = refl }
+
+module _ (ends ns ss : List ℕ) (begin at : ℕ) (e : length ss ≡ length ns) (r : Reached ends ns ss begin at) where
+  left : length (drop begin (placed ns ss)) ≡ length ns - begin
+  left = length-drop begin (placed ns ss) ∙ ap (λ (n : ℕ). n - begin) (length-placed ns ss e)
+
+  pub end-parted : length ends ≤ at → eqb begin (length ns) ≡ parted 0 ends (placed ns ss)
+  unfolding parted
+  end-parted h =
+      go (eqb begin (length ns)) refl ∙ sym (ap (λ (l : List ℕ). parted begin l (drop begin (placed ns ss))) (drop-of-length-le ends h)) ∙ r .same
+    where
+      go : (t : Bool) → eqb begin (length ns) ≡ t → eqb begin (length ns) ≡ eqb (length (drop begin (placed ns ss))) 0
+      go true f = f ∙ sym (eq-eqb _ 0 (left ∙ (let g = eqb-true begin (length ns) f in omega arith)))
+      go false f = f ∙ sym (ne-eqb (length (drop begin (placed ns ss))) 0 (λ z. eqb-false begin (length ns) f (omega (arith, r .within, left, z))))
+
+  module _ (end : ℕ) (h : at < length ends) (ee : end ≡ getD ends at 0) where
+    -- the signals that are left, and what is left of the test after this message
+    rest : List Placement
+    rest = drop begin (placed ns ss)
+
+    after : Bool
+    after = goodAfter [] (take (end - begin) rest) && parted end (drop (at + 1) ends) (drop (end - begin) rest)
+
+    one : drop at ends ≡ end ∷ drop (at + 1) ends
+    one = drop-cons ends at 0 h ∙ (cc (add-one at))
+
+    step : leb begin end && (leb (end - begin) (length rest) && after) ≡ parted 0 ends (placed ns ss)
+    unfolding parted rest after
+    step = sym (ap (λ (l : List ℕ). parted begin l (drop begin (placed ns ss))) one) ∙ r .same
+
+    pub refuse-back : end < begin → false ≡ parted 0 ends (placed ns ss)
+    refuse-back l = ap (λ (t : Bool). t && (leb (end - begin) (length rest) && after)) (sym (lt-leb begin end l)) ∙ step
+
+    module _ (l : begin ≤ end) where
+      second : leb (end - begin) (length rest) && after ≡ parted 0 ends (placed ns ss)
+      second = ap (λ (t : Bool). t && (leb (end - begin) (length rest) && after)) (sym (le-leb begin end l)) ∙ step
+
+      pub refuse-past : length ns < end → false ≡ parted 0 ends (placed ns ss)
+      unfolding rest
+      refuse-past g = ap (λ (t : Bool). t && after) (sym (lt-leb (end - begin) (length rest) (omega (arith, left, r .within)))) ∙ second
+
+      module _ (g : end ≤ length ns) where
+        third : after ≡ parted 0 ends (placed ns ss)
+        unfolding rest
+        third = ap (λ (t : Bool). t && after) (sym (le-leb (end - begin) (length rest) (omega (arith, left, r .within)))) ∙ second
+
+        -- the message's own numbers and starts
+        module _ (own own′ : List ℕ) (eo : own ≡ take (end - begin) (drop begin ns)) (eo′ : own′ ≡ take (end - begin) (drop begin ss)) where
+          its : placed own own′ ≡ take (end - begin) rest
+          unfolding rest
+          its = rw (eo, eo′) (placed-take (end - begin) (drop begin ns) (drop begin ss) ∙ ap (take (end - begin)) (placed-drop begin ns ss))
+
+          pub refuse-message : goodAfter [] (placed own own′) ≡ false → false ≡ parted 0 ends (placed ns ss)
+          unfolding after
+          refuse-message f =
+              ap (λ (t : Bool). t && parted end (drop (at + 1) ends) (drop (end - begin) rest)) (sym (sym (ap (goodAfter []) its) ∙ f)) ∙ third
+
+          pub next-parted : goodAfter [] (placed own own′) ≡ true → Reached ends ns ss end (at + 1)
+          unfolding after rest
+          next-parted f =
+              let k : begin + (end - begin) ≡ end = omega arith in
+              let d : drop (end - begin) (drop begin (placed ns ss)) ≡ drop end (placed ns ss) = drop-drop (end - begin) begin (placed ns ss) ∙ ap (λ (n : ℕ). drop n (placed ns ss)) k in
+              record {
+                within = g;
+                same = ap (parted end (drop (at + 1) ends)) (sym d) ∙
+                    ap (λ (t : Bool). t && parted end (drop (at + 1) ends) (drop (end - begin) rest)) (sym (sym (ap (goodAfter []) its) ∙ f)) ∙ third;
+              }
+
+-- ---- messages shown by ends that part all placements
+
+record Split (n e : ℕ) (es : List ℕ) (ps : List Placement) : Type 0 where
+  rises : n ≤ e
+  fits : e - n ≤ length ps
+  stands : goodAfter [] (take (e - n) ps) ≡ true
+  others : parted e es (drop (e - n) ps) ≡ true
+
+split : (n e : ℕ) (es : List ℕ) (ps : List Placement) → parted n (e ∷ es) ps ≡ true → Split n e es ps
+unfolding parted
+split n e es ps h =
+    let a = both (leb n e) _ h in
+    let b = both (leb (e - n) (length ps)) _ (a .1) in
+    let c = both (goodAfter [] (take (e - n) ps)) _ (b .1) in
+    record { rises = leb-true _ _ (a .0); fits = leb-true _ _ (b .0); stands = c .0; others = c .1 }
+
+pub shown-ids : (n : ℕ) (is es : List ℕ) (ps : List Placement) → length is ≡ length es → identifiers (shown n is es ps) ≡ is
+unfolding shown
+shown-ids n [] es ps l = refl
+shown-ids n (i ∷ is) [] ps l = let z : suc (length is) ≡ 0 = l in absurd (omega arith)
+shown-ids n (i ∷ is) (e ∷ es) ps l = ap (_∷_ i) (shown-ids e is es (drop (e - n) ps) (omega (arith, l)))
+
+pub shown-ends : (n : ℕ) (is es : List ℕ) (ps : List Placement) → length is ≡ length es → parted n es ps ≡ true → endsAfter n (shown n is es ps) ≡ es
+unfolding shown endsAfter
+shown-ends n [] [] ps l h = refl
+shown-ends n [] (e ∷ es) ps l h = let z : 0 ≡ suc (length es) = l in absurd (omega arith)
+shown-ends n (i ∷ is) [] ps l h = let z : suc (length is) ≡ 0 = l in absurd (omega arith)
+shown-ends n (i ∷ is) (e ∷ es) ps l h =
+    let s = split n e es ps h in
+    let k : n + length (take (e - n) ps) ≡ e = omega (arith, length-take-le (e - n) ps (s .fits), s .rises) in
+    rw k (ap (_∷_ e) (shown-ends e is es (drop (e - n) ps) (omega (arith, l)) (s .others)))
+
+pub shown-all : (n : ℕ) (is es : List ℕ) (ps : List Placement) → length is ≡ length es → parted n es ps ≡ true → allPlacements (shown n is es ps) ≡ ps
+unfolding shown allPlacements parted
+shown-all n [] [] ps l h = none ps (eqb-true (length ps) 0 h)
+  where
+    none : (qs : List Placement) → length qs ≡ 0 → [] ≡ qs
+    none [] z = refl
+    none (q ∷ qs) z = absurd (omega arith)
+shown-all n [] (e ∷ es) ps l h = let z : 0 ≡ suc (length es) = l in absurd (omega arith)
+shown-all n (i ∷ is) [] ps l h = let z : suc (length is) ≡ 0 = l in absurd (omega arith)
+shown-all n (i ∷ is) (e ∷ es) ps l h =
+    let s = split n e es ps h in
+    ap (λ (qs : List Placement). take (e - n) ps ++ qs) (shown-all e is es (drop (e - n) ps) (omega (arith, l)) (s .others)) ∙ take-append-drop (e - n) ps
+
+pub shown-good : (before : List ℕ) (n : ℕ) (is es : List ℕ) (ps : List Placement) → length is ≡ length es → parted n es ps ≡ true → distinctAfter before is ≡ true → goodFrom before (shown n is es ps) ≡ true
+unfolding shown goodFrom distinctAfter
+shown-good before n [] es ps l h d = refl
+shown-good before n (i ∷ is) [] ps l h d = refl
+shown-good before n (i ∷ is) (e ∷ es) ps l h d =
+    let s = split n e es ps h in
+    let t = both (not (leb identifierLimit i || isIn i before)) _ d in
+    with _ _ (t .0) (with _ _ (s .stands) (shown-good (before ++ (i ∷ [])) e is es (drop (e - n) ps) (omega (arith, l)) (s .others) (t .1)))
+
+-- ---- and back
+
+pub good-parted : (before : List ℕ) (n : ℕ) (ms : List Message) → goodFrom before ms ≡ true → parted n (endsAfter n ms) (allPlacements ms) ≡ true
+unfolding goodFrom parted endsAfter allPlacements
+good-parted before n [] g = refl
+good-parted before n (m ∷ ms) g =
+    let a = both (not (leb identifierLimit (m .identifier) || isIn (m .identifier) before)) _ g in
+    let b = both (goodAfter [] (m .placements)) _ (a .1) in
+    let k : (n + length (m .placements)) - n ≡ length (m .placements) = omega arith in
+    rw (k, take-at (m .placements) (allPlacements ms) (length (m .placements)) refl, drop-at (m .placements) (allPlacements ms) (length (m .placements)) refl)
+    (with _ _ (le-leb n (n + length (m .placements)) (omega arith))
+    (with _ _ (le-leb (length (m .placements)) (length (m .placements ++ allPlacements ms)) (omega (arith, length-append (m .placements) (allPlacements ms))))
+    (with _ _ (b .0) (good-parted (before ++ (m .identifier ∷ [])) (n + length (m .placements)) ms (b .1)))))
+
+pub good-distinct : (before : List ℕ) (ms : List Message) → goodFrom before ms ≡ true → distinctAfter before (identifiers ms) ≡ true
+unfolding goodFrom distinctAfter
+good-distinct before [] g = refl
+good-distinct before (m ∷ ms) g =
+    let a = both (not (leb identifierLimit (m .identifier) || isIn (m .identifier) before)) _ g in
+    let b = both (goodAfter [] (m .placements)) _ (a .1) in
+    with _ _ (a .0) (good-distinct (before ++ (m .identifier ∷ [])) ms (b .1))

@@ -1,0 +1,79 @@
+-- `tables::adding::add_signal` meets its contract: where the line is taken its words are stored, and else the words stay. Assumes nothing.
+use mathlib.Core.Path.{_≡_, refl, sym, ap, _∙_}
+use Prim.Native.Nat.{ℕ, suc}
+use mathlib.Core.List.{[], _∷_}
+use native.Mathlib.Omega.{arith}
+use types.Run.{OneOf, miss}
+use denote.Enum.Declared.{tagOf}
+use Rattle.tables.specs.declared.Added.{Added}
+use Rattle.tables.proofs.Added.{the-type}
+use Rattle.tables.specs.declared.Added.the-variants as added
+use Rattle.tables.specs.Adding.{refusalOf, placement}
+use Rattle.tables.proofs.Held.{messages-held, signals-held}
+use Rattle.tables.proofs.Stored.{signal-stored}
+use Rattle.tables.proofs.Room.{signal-room}
+use Rattle.tables.proofs.Refused.{stays, takes}
+use borrow.Author.Needs.{needs}
+use Rattle.tables.proofs.adding.add_signal.Statement.{statement}
+use Rattle.tables.proofs.adding.add_signal.Tie as tie
+
+-- an answer that is not `Taken` has a refusal
+refused : (r : Added) → OneOf (1 ∷ 2 ∷ 3 ∷ 4 ∷ 5 ∷ 6 ∷ 7 ∷ []) (tagOf the-type r) → (n : ℕ) × (refusalOf r ≡ suc n)
+refused added.Taken k = absurd (miss (1 ∷ 2 ∷ 3 ∷ 4 ∷ 5 ∷ 6 ∷ 7 ∷ []) 0 tt k)
+refused added.OverLimit k = (2, refl)
+refused added.BeforeAnyMessage k = (3, refl)
+refused added.MessageRepeated k = (4, refl)
+refused added.SignalRepeated k = (5, refl)
+refused added.Misplaced k = (6, refl)
+refused added.BitsMeet k = (7, refl)
+refused added.Full k = (8, refl)
+
+judge-signal-requires : tie.Need-judge-signal-requires
+judge-signal-requires c κs = search needs
+
+enum-told : tie.Need-enum-told
+enum-told c = search needs
+
+message-count-requires : tie.Need-message-count-requires
+message-count-requires c κs = search needs
+
+signal-count-requires : tie.Need-signal-count-requires
+signal-count-requires c κs = search needs
+
+put-signal-requires : tie.Need-put-signal-requires
+put-signal-requires c κs =
+    let b = c .before .before .before .before .before .before .before .before .before .pre .0 in
+    let h = c .before .before .before .before .before .before .before .before .before .pre .1 in
+    let e = ap refusalOf (c .before .before .before .before .before .enum-told .given .1) in
+    let r = signal-room (b .messages) (placement (c .before .before .before .before .before .before .before .before .before .args .number) (c .before .before .before .before .before .before .before .before .before .args .start)) (sym (c .before .before .before .before .before .before .before .judge-signal .ensures b h) ∙ e) in
+    (omega (arith, c .before .before .before .message-count .ensures, messages-held _ b h, r .some), omega (arith, c .before .before .before .message-count .ensures, messages-held _ b h, h .within .messages), omega (arith, c .before .signal-count .ensures, signals-held _ b h, r .room))
+
+returns : tie.Need-returns
+returns c = λ b h.
+    let p = placement (c .before .before .before .before .before .before .before .before .before .before .args .number) (c .before .before .before .before .before .before .before .before .before .before .args .start) in
+    let e = ap refusalOf (c .before .before .before .before .before .before .enum-told .given .1) in
+    let f = c .before .before .before .before .before .before .before .before .judge-signal .ensures b h in
+    let r = signal-room (b .messages) p (sym f ∙ e) in
+    let n = messages-held _ b h in
+    let s = signals-held _ b h in
+    let m = c .before .before .before .before .message-count .ensures in
+    let k = c .before .before .signal-count .ensures in
+    let w = h .words in
+    let q = c .put-signal .ensures in
+    let stored = signal-stored (b .messages) (b .routes) p (h .within) (r .some) (r .room) in
+    takes _ _ _ _ _ f (sym f ∙ e) (cc)
+
+returns-2 : tie.Need-returns-2
+returns-2 c = λ b h. let f = c .before .judge-signal .ensures b h in let n = refused (c .before .judge-signal .result) (c .match .keys2) in stays _ _ _ _ _ f (n .0) (sym f ∙ n .1) h
+
+pub add-signal-spec : {M : Type 1} → statement M
+add-signal-spec =
+    tie.close
+    (tie.spec
+    judge-signal-requires
+    enum-told
+    message-count-requires
+    signal-count-requires
+    put-signal-requires
+    returns
+    returns-2)

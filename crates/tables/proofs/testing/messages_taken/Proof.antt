@@ -1,0 +1,122 @@
+use mathlib.Core.List.{[]}
+-- `tables::testing::messages_taken` meets its contract: each part of the test that fails refuses the tables, and the last part decides where the others pass. Assumes nothing.
+use mathlib.Core.Path.{sym, ap, _∙_}
+use borrow.Author.Tests.{not-true, not-false}
+use Rattle.columns.specs.Identifiers.{distinctAfter}
+use Rattle.tables.proofs.Tested.{many-messages, many-signals, rest-of-messages, rest-of-signals, repeated, last-part}
+use borrow.Author.Needs.{needs}
+use Rattle.tables.proofs.testing.messages_taken.Statement.{statement}
+use Rattle.tables.proofs.testing.messages_taken.Tie as tie
+
+message-count-requires : tie.Need-message-count-requires
+message-count-requires c κs = search needs
+
+wide-requires : tie.Need-wide-requires
+wide-requires c κs = search needs
+
+returns : tie.Need-returns
+returns c = many-messages _ _ (c .before .wide .ensures ∙ c .before .before .message-count .ensures) (c .if1 .taken)
+
+signal-count-requires : tie.Need-signal-count-requires
+signal-count-requires c κs = search needs
+
+wide-requires-2 : tie.Need-wide-requires-2
+wide-requires-2 c κs = search needs
+
+returns-2 : tie.Need-returns-2
+returns-2 c = many-signals _ _ (c .before .wide2 .ensures ∙ c .before .before .signal-count .ensures) (c .if2 .taken)
+
+ids-requires : tie.Need-ids-requires
+ids-requires c κs = search needs
+
+ends-requires : tie.Need-ends-requires
+ends-requires c κs = search needs
+
+rests-zero-requires : tie.Need-rests-zero-requires
+rests-zero-requires c κs = search needs
+
+returns-3 : tie.Need-returns-3
+returns-3 c = rest-of-messages _ _ _ _ (c .before .before .before .before .before .before .before .before .wide .ensures ∙ c .before .before .before .before .before .before .before .before .before .message-count .ensures) (c .before .before .before .ids .ensures .0) (c .before .before .ends .ensures .0) (sym (c .before .rests-zero .ensures) ∙ not-true _ (c .if3 .taken))
+
+numbers-requires : tie.Need-numbers-requires
+numbers-requires c κs = search needs
+
+starts-requires : tie.Need-starts-requires
+starts-requires c κs = search needs
+
+rests-zero-requires-2 : tie.Need-rests-zero-requires-2
+rests-zero-requires-2 c κs = search needs
+
+returns-4 : tie.Need-returns-4
+returns-4 c = rest-of-signals _ _ _ _ (c .before .before .before .before .before .before .before .before .before .wide2 .ensures ∙ c .before .before .before .before .before .before .before .before .before .before .signal-count .ensures) (c .before .before .before .numbers .ensures .0) (c .before .before .starts .ensures .0) (sym (c .before .rests-zero2 .ensures) ∙ not-true _ (c .if4 .taken))
+
+first-requires : tie.Need-first-requires
+first-requires c κs = search needs
+
+distinct-requires : tie.Need-distinct-requires
+distinct-requires c κs = search needs
+
+returns-5 : tie.Need-returns-5
+returns-5 c = repeated _ _ _ (c .before .before .before .before .before .before .before .before .before .before .before .before .before .before .before .wide .ensures ∙ c .before .before .before .before .before .before .before .before .before .before .before .before .before .before .before .before .message-count .ensures) (c .before .before .before .before .before .before .before .before .before .before .ids .ensures .0) (sym (c .before .distinct .ensures ∙ ap (distinctAfter []) (c .before .before .first .ensures .0)) ∙ not-true _ (c .if5 .taken))
+
+first-requires-2 : tie.Need-first-requires-2
+first-requires-2 c κs = search needs
+
+first-requires-3 : tie.Need-first-requires-3
+first-requires-3 c κs = search needs
+
+first-requires-4 : tie.Need-first-requires-4
+first-requires-4 c κs = search needs
+
+well-parted-requires : tie.Need-well-parted-requires
+well-parted-requires c κs = search needs
+
+returns-6 : tie.Need-returns-6
+returns-6 c = c .well-parted .ensures ∙
+    last-part _ _ _ _ _ _ _
+    (c .before .before .before .before .before .before .before .before .before .before .before .before .before .before .before .before .before .before .before .wide .ensures ∙ c .before .before .before .before .before .before .before .before .before .before .before .before .before .before .before .before .before .before .before .before .message-count .ensures)
+    (c .before .before .before .before .before .before .before .before .before .before .before .before .before .before .before .before .wide2 .ensures ∙ c .before .before .before .before .before .before .before .before .before .before .before .before .before .before .before .before .before .signal-count .ensures)
+    (c .before .before .before .before .before .before .before .before .before .before .before .before .before .before .ids .ensures .0)
+    (c .before .before .before .before .before .before .before .before .before .before .before .before .before .ends .ensures .0)
+    (c .before .before .before .before .before .before .before .before .before .before .numbers .ensures .0)
+    (c .before .before .before .before .before .before .before .before .before .starts .ensures .0)
+    (c .before .before .before .before .before .before .before .before .before .before .before .before .before .before .ids .ensures .1)
+    (c .before .before .before .before .before .before .before .before .before .before .before .before .before .ends .ensures .1)
+    (c .before .before .before .before .before .before .before .before .before .before .numbers .ensures .1)
+    (c .before .before .before .before .before .before .before .before .before .starts .ensures .1)
+    (c .before .before .before .before .before .before .before .before .before .before .before .before .before .before .before .before .before .before .if1 .left)
+    (c .before .before .before .before .before .before .before .before .before .before .before .before .before .before .before .if2 .left)
+    (sym (c .before .before .before .before .before .before .before .before .before .before .before .before .rests-zero .ensures) ∙ not-false _ (c .before .before .before .before .before .before .before .before .before .before .before .if3 .left))
+    (sym (c .before .before .before .before .before .before .before .before .rests-zero2 .ensures) ∙ not-false _ (c .before .before .before .before .before .before .before .if4 .left))
+    (sym (c .before .before .before .before .before .distinct .ensures ∙ ap (distinctAfter []) (c .before .before .before .before .before .before .first .ensures .0)) ∙ not-false _ (c .before .before .before .before .if5 .left))
+    _ _ _
+    (c .before .before .before .first2 .ensures .0)
+    (c .before .before .first3 .ensures .0)
+    (c .before .first4 .ensures .0)
+
+pub messages-taken-spec : {M : Type 1} → statement M
+messages-taken-spec =
+    tie.close
+    (tie.spec
+    message-count-requires
+    wide-requires
+    returns
+    signal-count-requires
+    wide-requires-2
+    returns-2
+    ids-requires
+    ends-requires
+    rests-zero-requires
+    returns-3
+    numbers-requires
+    starts-requires
+    rests-zero-requires-2
+    returns-4
+    first-requires
+    distinct-requires
+    returns-5
+    first-requires-2
+    first-requires-3
+    first-requires-4
+    well-parted-requires
+    returns-6)

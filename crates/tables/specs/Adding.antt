@@ -1,0 +1,77 @@
+-- One line more in a book's words: what is answered, and what the words are then. Assumes nothing: these are definitions.
+use mathlib.Core.Path.{_≡_}
+use Prim.Native.Nat.{ℕ, zero, suc, _≤_, _-_}
+use mathlib.Core.Bool.{cond}
+use lib.Dec.{leb, ltb}
+use mathlib.Core.List.{List, [], _∷_, _++_}
+use lib.ListN.{length, getD}
+use Rattle.books.specs.Book.{Placement, Message, Route, Book, numbers, allPlacements, fresh, inLast}
+use Rattle.books.specs.Lines.{isIn, misplaced, meetsEarlier, messageLimit, signalLimit, routeLimit}
+use Rattle.books.specs.Words.{wordsOf}
+pub use Rattle.placing.specs.Placing.{placement}
+use Rattle.record.specs.Place.{placeKey}
+use Rattle.tables.specs.declared.Added.{Added}
+use Rattle.tables.specs.declared.Added.the-variants as added
+
+-- the refusal number of each answer, 0 where the line is taken
+abbrev pub refusalOf : Added → ℕ
+refusalOf added.Taken = 0
+refusalOf added.OverLimit = 3
+refusalOf added.BeforeAnyMessage = 4
+refusalOf added.MessageRepeated = 5
+refusalOf added.SignalRepeated = 6
+refusalOf added.Misplaced = 7
+refusalOf added.BitsMeet = 8
+refusalOf added.Full = 9
+
+-- no more lines of each kind than a book may have
+pub record Within (b : Book) : Type 0 where
+  pub messages : length (b .messages) ≤ messageLimit
+  pub signals : length (allPlacements (b .messages)) ≤ signalLimit
+  pub routes : length (b .routes) ≤ routeLimit
+
+-- the words are those of the book
+pub record Holds (w : List ℕ) (b : Book) : Type 0 where
+  pub words : w ≡ wordsOf b
+  pub within : Within b
+
+-- the words are those of a book
+abbrev pub OfBook : List ℕ → Type 0
+OfBook w = (b : Book) × Holds w b
+
+-- the book with an `M`, an `S`, an `R` line more
+abbrev pub withMessage : Book → ℕ → Book
+withMessage b i = record { messages = b .messages ++ (fresh i ∷ []); routes = b .routes }
+
+abbrev pub withSignal : Book → Placement → Book
+withSignal b p = record { messages = inLast (b .messages) p; routes = b .routes }
+
+abbrev pub withRoute : Book → Route → Book
+withRoute b r = record { messages = b .messages; routes = b .routes ++ (r ∷ []) }
+
+-- the route that four numbers make
+abbrev pub route : ℕ → ℕ → ℕ → ℕ → Route
+route a i b j = record { from = placeKey a i; to = placeKey b j }
+
+-- the new book where nothing refuses it, and else the old one
+unfoldable pub unless : ℕ → Book → Book → Book
+unless zero old new = new
+unless (suc refusal) old new = old
+
+-- the answer gives the refusal, and the words are those of the book with the line, or of the book where it is refused
+pub record Judged (refusal : ℕ) (old new : Book) (r : Added) (w : List ℕ) : Type 0 where
+  pub answer : refusalOf r ≡ refusal
+  pub words : w ≡ wordsOf (unless refusal old new)
+
+-- what refuses an `S` line that fits a frame, after the placements before it in its message, where the book has so many
+unfoldable pub afterRefusal : List Placement → ℕ → Placement → ℕ
+afterRefusal before count p =
+    cond (isIn (p .number) (numbers before)) 6
+    (cond (misplaced p) 7
+    (cond (meetsEarlier before p) 8
+    (cond (leb signalLimit count) 9
+    0)))
+
+-- where the signals of the last message begin, by the ends of all
+unfoldable pub lastBegin : ℕ → List ℕ → ℕ
+lastBegin count ends = cond (ltb count 2) 0 (getD ends (count - 2) 0)

@@ -1,0 +1,78 @@
+// One line more at the end of a book: the words are then those of the book with the line, or stay where the line is refused.
+ghost use mathlib.Core.Path.{_≡_};
+ghost use Rattle.books.specs.Book.{Book};
+ghost use Rattle.books.specs.Lines.{messageRefusal, signalRefusal, routeRefusal};
+ghost use Rattle.tables.specs.Adding.{OfBook, Holds, Judged, withMessage, withSignal, withRoute, placement, route};
+use crate::Added;
+use crate::judging::has_message;
+use crate::judging::judge_signal;
+use crate::judging::over_limit;
+use crate::storing::put_message;
+use crate::storing::put_route;
+use crate::storing::put_signal;
+use columns::wide;
+use record::BOOK_WORDS;
+use record::IDENTIFIER_LIMIT;
+use record::MESSAGES;
+use record::ROUTES;
+
+// An `M` line.
+pub fn add_message(book: &mut [u32; BOOK_WORDS], identifier: u32) -> Added
+    requires { ⌜ OfBook (now book) ⌝ }
+    ensures { λ r. ⌜ ((b : Book) → Holds (now (book .entry)) b → Judged (messageRefusal (b .messages) identifier) b (withMessage b identifier) r (now (book .exit))) ⌝ }
+{
+    if identifier >= IDENTIFIER_LIMIT {
+        return Added::OverLimit;
+    }
+    let count = record::message_count(&*book);
+    if has_message(&*book, count, identifier) {
+        return Added::MessageRepeated;
+    }
+    if wide(count) >= MESSAGES {
+        return Added::Full;
+    }
+    let end = record::signal_count(&*book);
+    put_message(book, count, identifier, end);
+    Added::Taken
+}
+
+// An `S` line: it belongs to the last message.
+pub fn add_signal(book: &mut [u32; BOOK_WORDS], number: u32, start: u32) -> Added
+    requires { ⌜ OfBook (now book) ⌝ }
+    ensures { λ r. ⌜ ((b : Book) → Holds (now (book .entry)) b → Judged (signalRefusal (b .messages) (placement number start)) b (withSignal b (placement number start)) r (now (book .exit))) ⌝ }
+{
+    let judged = judge_signal(&*book, number, start);
+    if let Added::Taken = judged {
+        let messages = record::message_count(&*book);
+        let signals = record::signal_count(&*book);
+        put_signal(book, messages, signals, number, start);
+    }
+    judged
+}
+
+// An `R` line: from place, to place.
+pub fn add_route(
+    book: &mut [u32; BOOK_WORDS],
+    from_bus: u32,
+    from_identifier: u32,
+    to_bus: u32,
+    to_identifier: u32,
+) -> Added
+    requires { ⌜ OfBook (now book) ⌝ }
+    ensures { λ r. ⌜ ((b : Book) → Holds (now (book .entry)) b → Judged (routeRefusal (b .routes) «from_bus» «from_identifier» «to_bus» «to_identifier») b (withRoute b (route «from_bus» «from_identifier» «to_bus» «to_identifier»)) r (now (book .exit))) ⌝ }
+{
+    if over_limit(from_bus, from_identifier) {
+        return Added::OverLimit;
+    }
+    if over_limit(to_bus, to_identifier) {
+        return Added::OverLimit;
+    }
+    let count = record::route_count(&*book);
+    if wide(count) >= ROUTES {
+        return Added::Full;
+    }
+    let from = record::place(from_bus, from_identifier);
+    let to = record::place(to_bus, to_identifier);
+    put_route(book, count, from, to);
+    Added::Taken
+}

@@ -1,0 +1,30 @@
+// The lent words of a book: one line more, with the refusal where it is not taken, and whether words from anywhere are those of a taken book.
+// The words that are lent to an addition are those of a book within the limits, as its `requires` says; the test asks nothing of them.
+mod adding;
+mod judging;
+mod storing;
+mod testing;
+
+pub use adding::add_message;
+pub use adding::add_route;
+pub use adding::add_signal;
+pub use testing::messages_taken;
+
+// What becomes of a line.
+pub enum Added {
+    Taken,
+    // An identifier, a bus or a start is over its limit, or the catalogue does not have the number.
+    OverLimit,
+    // A signal before any message.
+    BeforeAnyMessage,
+    // The message is there already.
+    MessageRepeated,
+    // The signal is in this message already.
+    SignalRepeated,
+    // The signal ends past the frame, or has a start of its own and is not there.
+    Misplaced,
+    // The signal's bits meet those of an earlier one of the message.
+    BitsMeet,
+    // The book has as many lines of this kind as it may have.
+    Full,
+}

@@ -1,0 +1,87 @@
+// The test behind refusal 12 for the message and signal tables: whether they are those of a taken book, whatever the words are.
+ghost use mathlib.Core.Path.{_≡_};
+ghost use mathlib.Core.Bool.{_&&_};
+ghost use Prim.Native.Nat.{_≤_};
+ghost use lib.ListN.{length, drop};
+ghost use Rattle.books.specs.Words.{placed, messagesTaken};
+ghost use Rattle.zeros.specs.Zeros.{zeros};
+ghost use Rattle.tables.specs.Testing.{parted};
+use columns::wide;
+use record::BOOK_WORDS;
+use record::MESSAGES;
+use record::SIGNALS;
+
+// Whether the entries past a count are 0.
+fn rest_zero(column: &[u32], count: usize) -> bool
+    requires { ⌜ count ≤ length (now column) ⌝ }
+    ensures { λ r. ⌜ r ≡ zeros (drop count (now (column .entry))) ⌝ }
+{
+    zeros::all_zero(&column[count..])
+}
+
+// The same of two columns in step.
+fn rests_zero(one: &[u32], other: &[u32], count: usize) -> bool
+    requires { ⌜ (count ≤ length (now one)) × (count ≤ length (now other)) ⌝ }
+    ensures { λ r. ⌜ r ≡ zeros (drop count (now (one .entry))) && zeros (drop count (now (other .entry))) ⌝ }
+{
+    rest_zero(one, count) & rest_zero(other, count)
+}
+
+// Whether the ends part the signals among the messages, and each message's signals stand where they may.
+fn well_parted(ends: &[u32], numbers: &[u32], starts: &[u32]) -> bool
+    requires { ⌜ length (now starts) ≡ length (now numbers) ⌝ }
+    ensures { λ r. ⌜ r ≡ parted 0 (now (ends .entry)) (placed (now (numbers .entry)) (now (starts .entry))) ⌝ }
+{
+    let mut begin: usize = 0;
+    let mut at: usize = 0;
+    while at < ends.len() {
+        let end = wide(ends[at]);
+        if end < begin {
+            return false;
+        }
+        if end > numbers.len() {
+            return false;
+        }
+        if !placing::well_placed(
+            columns::part(numbers, begin, end),
+            columns::part(starts, begin, end),
+        ) {
+            return false;
+        }
+        begin = end;
+        at += 1;
+    }
+    begin == numbers.len()
+}
+
+// Whether the message and signal tables are those of a taken book.
+pub fn messages_taken(book: &[u32; BOOK_WORDS]) -> bool
+    ensures { λ r. ⌜ r ≡ messagesTaken (now (book .entry)) ⌝ }
+{
+    let messages = wide(record::message_count(book));
+    if messages > MESSAGES {
+        return false;
+    }
+    let signals = wide(record::signal_count(book));
+    if signals > SIGNALS {
+        return false;
+    }
+    let ids = record::ids(book);
+    let ends = record::ends(book);
+    if !rests_zero(ids, ends, messages) {
+        return false;
+    }
+    let numbers = record::numbers(book);
+    let starts = record::starts(book);
+    if !rests_zero(numbers, starts, signals) {
+        return false;
+    }
+    if !columns::distinct(columns::first(ids, messages)) {
+        return false;
+    }
+    well_parted(
+        columns::first(ends, messages),
+        columns::first(numbers, signals),
+        columns::first(starts, signals),
+    )
+}
