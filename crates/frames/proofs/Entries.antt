@@ -1,0 +1,88 @@
+-- From the parts of the columns to the message: what is read and packed by them is what the book's message says. Assumes nothing.
+use mathlib.Core.Path.{_≡_, refl, sym, ap, _∙_}
+use mathlib.Core.List.{List}
+use mathlib.Core.Option.{none, some}
+use Prim.Native.Nat.{ℕ, _-_, _<_}
+use lib.ListN.{length, getD}
+use borrow.Author.Tests.{eq-eqb, ne-eqb}
+use Rattle.bits.specs.Word.{wordOf, bytesOf}
+use Rattle.bits.proofs.Weights.{word-bytes}
+use Rattle.books.specs.Book.{Message}
+use Rattle.books.specs.Words.{placed, messagesOf}
+use Rattle.framing.specs.declared.Reading.{Reading}
+use Rattle.framing.specs.declared.Reading.the-variants as Read
+use Rattle.framing.specs.declared.Packing.{Packing}
+use Rattle.framing.specs.declared.Packing.the-variants as Pack
+use Rattle.framing.specs.Messages.{frameBytes, messageOf}
+use Rattle.framing.specs.Reading.{Slices, readByMessage, readByMessages}
+use Rattle.framing.specs.Packing.{packByMessage}
+use Rattle.record.specs.Columns.{numbersOf, startsOf}
+use Rattle.messages.specs.Signals.{AllFit, messageFrom, Readable}
+use Rattle.messages.specs.Put.{Packable, packInto}
+use Rattle.frames.specs.Lookup.{part, Spans}
+use Rattle.messages.proofs.Readings.{placed-length}
+
+-- ---- reading
+
+-- what stands before the message is looked for
+module _ (ms : List Message) (identifier : ℕ) (frame : List ℕ) (lent : Slices) where
+  pub read-short : (length frame ≡ frameBytes → ⊥) → _≡_ {A = Reading × Slices} (Read.NotEightBytes, lent) (readByMessages ms identifier frame lent)
+  unfolding readByMessages
+  read-short n = rw (ne-eqb (length frame) frameBytes n) refl
+
+  pub read-eight : length frame ≡ frameBytes → ((k : ℕ) → getD frame k 0 < 256) → (word : ℕ) → word ≡ wordOf frame → (out : Reading × Slices)
+      → out ≡ readByMessage (messageOf identifier ms) (bytesOf word) lent → out ≡ readByMessages ms identifier frame lent
+  unfolding readByMessages
+  read-eight e small word w out h =
+      rw (eq-eqb (length frame) frameBytes e)
+      (h ∙ ap (λ (f : List ℕ). readByMessage (messageOf identifier ms) f lent) (ap bytesOf w ∙ word-bytes frame (record { many = e; small = small })))
+
+-- what was found of the message
+module _ (ms : List Message) (identifier : ℕ) (frame : List ℕ) (lent : Slices) where
+  pub read-unknown : messageOf identifier ms ≡ none → _≡_ {A = Reading × Slices} (Read.UnknownIdentifier, lent) (readByMessage (messageOf identifier ms) frame lent)
+  unfolding readByMessage
+  read-unknown f = rw f refl
+
+  pub read-known : (m : Message) → messageOf identifier ms ≡ some m → (out : Reading × Slices) → out ≡ readByMessage (some m) frame lent → out ≡ readByMessage (messageOf identifier ms) frame lent
+  read-known m f out h = rw f h
+
+-- ---- packing
+
+module _ (ms : List Message) (identifier : ℕ) (vs lent : List ℕ) where
+  pub pack-unknown : messageOf identifier ms ≡ none → _≡_ {A = Packing × List ℕ} (Pack.UnknownIdentifier, lent) (packByMessage (messageOf identifier ms) vs lent)
+  unfolding packByMessage
+  pack-unknown f = rw f refl
+
+  module _ (m : Message) (f : messageOf identifier ms ≡ some m) where
+    pub pack-count : (length vs ≡ length (m .placements) → ⊥) → _≡_ {A = Packing × List ℕ} (Pack.WrongCountOfValues, lent) (packByMessage (messageOf identifier ms) vs lent)
+    unfolding packByMessage
+    pack-count n = rw (f, ne-eqb (length vs) (length (m .placements)) n) refl
+
+    pub pack-short : length vs ≡ length (m .placements) → (length lent ≡ frameBytes → ⊥) → _≡_ {A = Packing × List ℕ} (Pack.NotEightBytes, lent) (packByMessage (messageOf identifier ms) vs lent)
+    unfolding packByMessage
+    pack-short e n = rw (f, eq-eqb (length vs) (length (m .placements)) e, ne-eqb (length lent) frameBytes n) refl
+
+    pub pack-known : length vs ≡ length (m .placements) → length lent ≡ frameBytes → (out : Packing × List ℕ) → out ≡ packInto m vs lent → out ≡ packByMessage (messageOf identifier ms) vs lent
+    unfolding packByMessage
+    pack-known e n out h = rw (f, eq-eqb (length vs) (length (m .placements)) e, eq-eqb (length lent) frameBytes n) h
+
+-- ---- the parts of the columns
+
+module _ (w : List ℕ) (identifier from to : ℕ) (s : Spans w identifier from to) (ns ss : List ℕ) (n : ns ≡ numbersOf w) (t : ss ≡ startsOf w) where
+  pub found : messageOf identifier (messagesOf w) ≡ some (messageFrom identifier (part from to ns) (part from to ss))
+  found = rw (n, t) (s .found)
+
+  pub many : length (placed (part from to ns) (part from to ss)) ≡ to - from
+  many = rw (n, t) (s .many)
+
+  same : length (part from to ss) ≡ length (part from to ns)
+  same = rw (n, t) (s .same)
+
+  fit : AllFit (placed (part from to ns) (part from to ss))
+  fit = rw (n, t) (s .fit)
+
+  pub readable : Readable (part from to ns) (part from to ss)
+  readable = record { same = same; fit = fit }
+
+  pub packable : (vs : List ℕ) → length vs ≡ to - from → Packable (part from to ns) (part from to ss) vs
+  packable vs e = record { same = same; many = e ∙ sym many ∙ placed-length (part from to ns) (part from to ss) same; fit = fit }

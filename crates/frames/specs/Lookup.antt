@@ -1,0 +1,37 @@
+-- Finding the message of an identifier in the columns of a book. Assumes nothing: these are definitions.
+use mathlib.Core.Path.{_≡_}
+use mathlib.Core.Bool.{cond}
+use mathlib.Core.List.{List, [], _∷_}
+use mathlib.Core.Option.{none, some}
+use Prim.Native.Nat.{ℕ, suc, _-_, _≤_}
+use lib.Dec.{eqb}
+use lib.ListN.{length, take, drop}
+use Rattle.books.specs.Words.{placed, messagesOf}
+use Rattle.framing.specs.Messages.{messageOf}
+use Rattle.record.specs.Columns.{numbersOf, startsOf}
+use Rattle.record.specs.Limits.{signals}
+use Rattle.messages.specs.Signals.{AllFit, messageFrom}
+use Rattle.frames.specs.declared.lookup.Found.{Found}
+use Rattle.frames.specs.declared.lookup.Found.the-variants.{Signals, Nothing}
+
+-- how many entries stand before the first n: all, where none is n
+unfoldable pub firstAt : ℕ → List ℕ → ℕ
+firstAt n [] = 0
+firstAt n (x ∷ xs) = cond (eqb n x) 0 (suc (firstAt n xs))
+
+-- a part of a column
+abbrev pub part : ℕ → ℕ → List ℕ → List ℕ
+part from to column = take (to - from) (drop from column)
+
+-- the parts of the columns from one place to before another are the placements of the identifier's message
+pub record Spans (words : List ℕ) (identifier from to : ℕ) : Type 0 where
+  pub order : from ≤ to
+  pub inside : to ≤ signals
+  pub found : messageOf identifier (messagesOf words) ≡ some (messageFrom identifier (part from to (numbersOf words)) (part from to (startsOf words)))
+  pub many : length (placed (part from to (numbersOf words)) (part from to (startsOf words))) ≡ to - from
+  pub same : length (part from to (startsOf words)) ≡ length (part from to (numbersOf words))
+  pub fit : AllFit (placed (part from to (numbersOf words)) (part from to (startsOf words)))
+
+abbrev pub Finds : List ℕ → ℕ → Found → Type 0
+Finds words identifier (Signals from to) = Spans words identifier from to
+Finds words identifier Nothing = messageOf identifier (messagesOf words) ≡ none

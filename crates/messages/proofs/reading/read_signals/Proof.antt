@@ -1,0 +1,144 @@
+use Rattle.catalogue.specs.Class.{classOf}
+use Rattle.framing.specs.Reading.{classCode, thousandthsOf}
+use Rattle.bits.specs.Word.{Fits, fieldOf}
+-- `messages::reading::read_signals` meets its contract: at each turn, writing what is left gives the final lists.
+-- Assumes nothing.
+use mathlib.Core.Path.{_≡_, refl, ap, _∙_, subst⁻¹}
+use mathlib.Core.List.{List}
+use Prim.Native.Nat.{ℕ, _≤_, _-_}
+use native.Mathlib.Omega.{arith}
+use mir.Syntax.{w64}
+use mir.ValLaws.{toZ-ofZ}
+use lib.ListN.{length, getD}
+use lib.IntN.{ℤ}
+use borrow.Author.Needs.{needs}
+use Rattle.messages.specs.Signals.{AllFit, rawIn, classFrom, codeIn, readingIn}
+use Rattle.messages.proofs.Steps.{rest, placementAt, fits-at, fits-on, Writing, write-more, write-none, write-length}
+use Rattle.messages.proofs.reading.read_signals.Statement.{statement}
+use Rattle.messages.proofs.reading.read_signals.Tie as tie
+
+record Inv (word : ℕ) (numbers starts : List ℕ) (raws₀ classes₀ : List ℕ) (thousandths₀ : List ℤ) (raws classes : List ℕ) (thousandths : List ℤ) (i : ℕ) : Type 0 where
+  bound : i ≤ length numbers
+  fit : AllFit (rest numbers starts i)
+  in-raws : Writing (rawIn word) raws₀ numbers starts raws i
+  in-classes : Writing (codeIn word) classes₀ numbers starts classes i
+  in-thousandths : Writing (readingIn word) thousandths₀ numbers starts thousandths i
+
+abbrev Inv-loop : tie.InvT-loop
+Inv-loop word numbers starts raws₀ classes₀ thousandths₀ i₀ raws classes thousandths i = Inv word numbers starts raws₀ classes₀ thousandths₀ raws classes thousandths i
+
+abbrev μ-loop : tie.MeasureT-loop
+μ-loop word numbers starts raws₀ classes₀ thousandths₀ i₀ raws classes thousandths i = length numbers - i
+
+loop-holds : tie.Need-loop-holds Inv-loop μ-loop
+loop-holds c = record { bound = omega arith; fit = c .before .before .before .before .pre .fit; in-raws = refl; in-classes = refl; in-thousandths = refl }
+
+mul-number : tie.Need-mul-number Inv-loop μ-loop
+mul-number c = search needs
+
+shared-slice-read-number : tie.Need-shared-slice-read-number Inv-loop μ-loop
+shared-slice-read-number c = search needs
+
+mul-take : tie.Need-mul-take Inv-loop μ-loop
+mul-take c = search needs
+
+shared-slice-read-take : tie.Need-shared-slice-read-take Inv-loop μ-loop
+shared-slice-read-take c = omega arith
+
+bits-of-requires : tie.Need-bits-of-requires Inv-loop μ-loop
+bits-of-requires c κs = search needs
+
+take-requires : tie.Need-take-requires Inv-loop μ-loop
+take-requires c κs = subst⁻¹ (λ (b : ℕ). Fits (getD (c .before .before .before .before .before .before .before .before .before .args .starts .now) (c .before .before .before .before .loop .i) 0) b) (c .bits-of .ensures) (fits-at (c .before .before .before .before .before .before .before .before .before .args .numbers .now) (c .before .before .before .before .before .before .before .before .before .args .starts .now) (c .before .before .before .before .loop .i) (c .before .before .before .loop-test .taken) (c .before .before .before .before .before .before .before .before .before .pre .same) (c .before .before .before .before .loop .inv .fit))
+
+class-of-requires : tie.Need-class-of-requires Inv-loop μ-loop
+class-of-requires c κs = search needs
+
+mul-raws : tie.Need-mul-raws Inv-loop μ-loop
+mul-raws c = search needs
+
+slice-write-raws : tie.Need-slice-write-raws Inv-loop μ-loop
+slice-write-raws c = omega (arith, c .before .before .before .before .before .before .before .before .before .before .before .pre .raw-room, write-length (rawIn (c .before .before .before .before .before .before .before .before .before .before .before .args .word)) (c .before .before .before .before .before .before .before .before .before .before .before .args .raws .now) (c .before .before .before .before .before .before .before .before .before .before .before .args .numbers .now) (c .before .before .before .before .before .before .before .before .before .before .before .args .starts .now) (c .before .before .before .before .before .before .loop .raws) (c .before .before .before .before .before .before .loop .i) (c .before .before .before .before .before .before .loop .inv .in-raws))
+
+code-requires : tie.Need-code-requires Inv-loop μ-loop
+code-requires c κs = search needs
+
+slice-write-classes : tie.Need-slice-write-classes Inv-loop μ-loop
+slice-write-classes c = omega (arith, c .before .before .before .before .before .before .before .before .before .before .before .before .pre .class-room, write-length (codeIn (c .before .before .before .before .before .before .before .before .before .before .before .before .args .word)) (c .before .before .before .before .before .before .before .before .before .before .before .before .args .classes .now) (c .before .before .before .before .before .before .before .before .before .before .before .before .args .numbers .now) (c .before .before .before .before .before .before .before .before .before .before .before .before .args .starts .now) (c .before .before .before .before .before .before .before .loop .classes) (c .before .before .before .before .before .before .before .loop .i) (c .before .before .before .before .before .before .before .loop .inv .in-classes))
+
+thousandths-of-requires : tie.Need-thousandths-of-requires Inv-loop μ-loop
+thousandths-of-requires c κs = search needs
+
+mul-t11 : tie.Need-mul-t11 Inv-loop μ-loop
+mul-t11 c = search needs
+
+slice-set-from-thousandths : tie.Need-slice-set-from-thousandths Inv-loop μ-loop
+slice-set-from-thousandths c = omega (arith, c .before .before .before .before .before .before .before .before .before .before .before .before .before .pre .thousandth-room, write-length (readingIn (c .before .before .before .before .before .before .before .before .before .before .before .before .before .args .word)) (c .before .before .before .before .before .before .before .before .before .before .before .before .before .args .thousandths .now) (c .before .before .before .before .before .before .before .before .before .before .before .before .before .args .numbers .now) (c .before .before .before .before .before .before .before .before .before .before .before .before .before .args .starts .now) (c .before .before .before .before .before .before .before .before .loop .thousandths) (c .before .before .before .before .before .before .before .before .loop .i) (c .before .before .before .before .before .before .before .before .loop .inv .in-thousandths))
+
+add-i : tie.Need-add-i Inv-loop μ-loop
+add-i c = search needs
+
+loop-less : tie.Need-loop-less Inv-loop μ-loop
+loop-less c = omega arith
+
+loop-again : tie.Need-loop-again Inv-loop μ-loop
+loop-again c = let a = c .before .before .before .before .before .before .before .before .before .before .before .before .before .args in
+    let l = c .before .before .before .before .before .before .before .before .loop in
+    let ns = a .numbers .now in
+    let ss = a .starts .now in
+    let h = c .before .before .before .before .before .before .before .loop-test .taken in
+    let e = c .before .before .before .before .before .before .before .before .before .before .before .before .before .pre .same in
+    let raw : c .before .before .before .take .result ≡ rawIn (a .word) (placementAt ns ss (l .i)) = c .before .before .before .take .ensures ∙ ap (λ (b : ℕ). fieldOf (a .word) (getD ss (l .i) 0) b) (c .before .before .before .before .bits-of .ensures) in
+    let class : c .before .before .class-of .result ≡ classFrom (a .word) (placementAt ns ss (l .i)) = c .before .before .class-of .ensures ∙ ap (λ (x : ℕ). classOf (getD ns (l .i) 0) (record { 0 = x })) raw in
+    record {
+      bound = omega arith;
+      fit = fits-on ns ss (l .i) h e (l .inv .fit);
+      in-raws = write-more (rawIn (a .word)) (a .raws .now) ns ss (l .raws) (l .i) _ h e raw (l .inv .in-raws);
+      in-classes = write-more (codeIn (a .word)) (a .classes .now) ns ss (l .classes) (l .i) _ h e (c .before .code .ensures ∙ ap classCode class) (l .inv .in-classes);
+      in-thousandths = write-more (readingIn (a .word)) (a .thousandths .now) ns ss (l .thousandths) (l .i) _ h e (toZ-ofZ w64 (c .thousandths-of .result) (search needs) ∙ c .thousandths-of .ensures ∙ ap thousandthsOf class) (l .inv .in-thousandths);
+    }
+
+same-length : tie.Need-same-length Inv-loop μ-loop
+same-length c = write-length (rawIn (c .before .before .before .before .before .before .args .word)) (c .before .before .before .before .before .before .args .raws .now) (c .before .before .before .before .before .before .args .numbers .now) (c .before .before .before .before .before .before .args .starts .now) (c .before .loop .raws) (c .before .loop .i) (c .before .loop .inv .in-raws)
+
+same-length-2 : tie.Need-same-length-2 Inv-loop μ-loop
+same-length-2 c = write-length (codeIn (c .before .before .before .before .before .before .args .word)) (c .before .before .before .before .before .before .args .classes .now) (c .before .before .before .before .before .before .args .numbers .now) (c .before .before .before .before .before .before .args .starts .now) (c .before .loop .classes) (c .before .loop .i) (c .before .loop .inv .in-classes)
+
+same-length-3 : tie.Need-same-length-3 Inv-loop μ-loop
+same-length-3 c = write-length (readingIn (c .before .before .before .before .before .before .args .word)) (c .before .before .before .before .before .before .args .thousandths .now) (c .before .before .before .before .before .before .args .numbers .now) (c .before .before .before .before .before .before .args .starts .now) (c .before .loop .thousandths) (c .before .loop .i) (c .before .loop .inv .in-thousandths)
+
+returns : tie.Need-returns Inv-loop μ-loop
+returns c = (
+  write-none (rawIn (c .before .before .before .before .before .before .args .word)) (c .before .before .before .before .before .before .args .raws .now) (c .before .before .before .before .before .before .args .numbers .now) (c .before .before .before .before .before .before .args .starts .now) (c .before .loop .raws) (c .before .loop .i) (c .loop-test .left) (c .before .loop .inv .in-raws),
+  write-none (codeIn (c .before .before .before .before .before .before .args .word)) (c .before .before .before .before .before .before .args .classes .now) (c .before .before .before .before .before .before .args .numbers .now) (c .before .before .before .before .before .before .args .starts .now) (c .before .loop .classes) (c .before .loop .i) (c .loop-test .left) (c .before .loop .inv .in-classes),
+  write-none (readingIn (c .before .before .before .before .before .before .args .word)) (c .before .before .before .before .before .before .args .thousandths .now) (c .before .before .before .before .before .before .args .numbers .now) (c .before .before .before .before .before .before .args .starts .now) (c .before .loop .thousandths) (c .before .loop .i) (c .loop-test .left) (c .before .loop .inv .in-thousandths),
+)
+
+pub read-signals-spec : {M : Type 1} → statement M
+read-signals-spec =
+    tie.close
+    (tie.spec
+    Inv-loop
+    μ-loop
+    loop-holds
+    mul-number
+    shared-slice-read-number
+    mul-take
+    shared-slice-read-take
+    bits-of-requires
+    take-requires
+    class-of-requires
+    mul-raws
+    slice-write-raws
+    code-requires
+    slice-write-classes
+    thousandths-of-requires
+    mul-t11
+    slice-set-from-thousandths
+    add-i
+    loop-less
+    loop-again
+    same-length
+    same-length-2
+    same-length-3
+    returns)

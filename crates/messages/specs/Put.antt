@@ -1,0 +1,45 @@
+-- Packing as the code goes through it: one signal after another, until one is refused. proofs/Packs.antt says that this is what
+-- crate `framing` calls judged and put. Assumes nothing: these are definitions.
+use mathlib.Core.Path.{_≡_}
+use mathlib.Core.Bool.{cond}
+use mathlib.Core.List.{List, [], _∷_}
+use Prim.Native.Nat.{ℕ, _^_}
+use lib.Dec.{eqb, leb}
+use lib.ListN.{length}
+use Rattle.bits.specs.Word as Word
+use Rattle.books.specs.Book.{Placement, Message}
+use Rattle.books.specs.Words.{placed}
+use Rattle.catalogue.specs.Find.{bitsOf}
+use Rattle.catalogue.specs.Class.{classOf}
+use Rattle.framing.specs.declared.Packing.{Packing}
+use Rattle.framing.specs.Messages.{checksumNumber}
+use Rattle.framing.specs.Packing.{packable, judged, packedFrame, packedOr}
+use Rattle.messages.specs.Signals.{AllFit}
+use Rattle.messages.specs.declared.packing.Put.{Put}
+use Rattle.messages.specs.declared.packing.Put.the-variants.{Word, TooWide, ReservedOrOutside}
+
+-- one value: 503 is skipped, 26 comes before 27
+unfoldable pub putOne : ℕ → Placement → ℕ → Put
+putOne w p v =
+    cond (eqb (p .number) checksumNumber) (Word w)
+    (cond (leb (2 ^ bitsOf (p .number)) v) TooWide
+    (cond (packable (classOf (p .number) (record { 0 = v }))) (Word (Word.placed w (p .start) (bitsOf (p .number)) v))
+    ReservedOrOutside))
+
+-- one value after another, until one is refused
+unfoldable pub putAll : Put → List Placement → List ℕ → Put
+putAll put [] vs = put
+putAll put (p ∷ ps) [] = put
+putAll (Word w) (p ∷ ps) (v ∷ vs) = putAll (putOne w p v) ps vs
+putAll TooWide (p ∷ ps) (v ∷ vs) = TooWide
+putAll ReservedOrOutside (p ∷ ps) (v ∷ vs) = ReservedOrOutside
+
+-- as many values as placements, which lie within the frame
+pub record Packable (ns ss vs : List ℕ) : Type 0 where
+  pub same : length ss ≡ length ns
+  pub many : length vs ≡ length ns
+  pub fit : AllFit (placed ns ss)
+
+-- values packed into a frame of 8 bytes, as many as the message has placements
+abbrev pub packInto : Message → List ℕ → List ℕ → Packing × List ℕ
+packInto m vs lent = (judged (m .placements) vs, packedOr (judged (m .placements) vs) (packedFrame m vs) lent)

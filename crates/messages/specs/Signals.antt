@@ -1,0 +1,67 @@
+-- What the code works with: a message's numbers and starts side by side, and a frame as its word. Assumes nothing: these are definitions.
+use mathlib.Core.Path.{_≡_}
+use mathlib.Core.Bool.{Bool, cond, _||_, not}
+use mathlib.Core.List.{List, [], _∷_}
+use Prim.Native.Nat.{ℕ, _≤_}
+use lib.Dec.{eqb}
+use lib.IntN.{ℤ}
+use lib.ListN.{length}
+use Rattle.bits.specs.Word.{Fits, bytesOf, fieldOf}
+use Rattle.bits.specs.Word as Word
+use Rattle.bits.specs.Checksum.{checksumOf}
+use Rattle.books.specs.Book.{Placement, Message}
+use Rattle.books.specs.Lines.{isIn}
+use Rattle.books.specs.Words.{placed}
+use Rattle.catalogue.specs.Find.{bitsOf}
+use Rattle.catalogue.specs.Class.{classOf}
+use Rattle.catalogue.specs.declared.Class.{Class}
+use Rattle.framing.specs.Messages.{checksumNumber, checksumStart, checksumBits}
+use Rattle.framing.specs.Reading.{classCode, thousandthsOf}
+
+-- each placement lies within the frame
+pub data AllFit : List Placement → Type 0 where
+  none : AllFit []
+  more : {p : Placement} {ps : List Placement} → Fits (p .start) (bitsOf (p .number)) → AllFit ps → AllFit (p ∷ ps)
+
+-- numbers and starts of placements that lie within the frame, and three slices that have room for their readings
+pub record InStep (ns ss : List ℕ) (raws classes thousandths : ℕ) : Type 0 where
+  pub same : length ss ≡ length ns
+  pub fit : AllFit (placed ns ss)
+  pub raw-room : length ns ≤ raws
+  pub class-room : length ns ≤ classes
+  pub thousandth-room : length ns ≤ thousandths
+
+-- the raw count of a placement in a frame's word, its class code and its thousandths
+abbrev pub rawIn : ℕ → Placement → ℕ
+rawIn word p = fieldOf word (p .start) (bitsOf (p .number))
+
+abbrev pub classFrom : ℕ → Placement → Class
+classFrom word p = classOf (p .number) (record { 0 = rawIn word p })
+
+abbrev pub codeIn : ℕ → Placement → ℕ
+codeIn word p = classCode (classFrom word p)
+
+abbrev pub readingIn : ℕ → Placement → ℤ
+readingIn word p = thousandthsOf (classFrom word p)
+
+-- the frame has the checksum where the message places it
+unfoldable pub checkHolds : ℕ → ℕ → List ℕ → Bool
+checkHolds identifier word ns =
+    not (isIn checksumNumber ns) ||
+    eqb (fieldOf word checksumStart checksumBits) (checksumOf identifier (bytesOf word))
+
+-- the message of an identifier with its numbers and starts
+abbrev pub messageFrom : ℕ → List ℕ → List ℕ → Message
+messageFrom identifier ns ss = record { identifier = identifier; placements = placed ns ss }
+
+-- numbers and starts of placements that lie within a frame
+pub record Readable (ns ss : List ℕ) : Type 0 where
+  pub same : length ss ≡ length ns
+  pub fit : AllFit (placed ns ss)
+
+-- the word with the checksum where the message places it
+unfoldable pub summedWord : ℕ → ℕ → List ℕ → ℕ
+summedWord identifier word ns =
+    cond (isIn checksumNumber ns)
+    (Word.placed word checksumStart checksumBits (checksumOf identifier (bytesOf word)))
+    word

@@ -1,0 +1,106 @@
+// A frame read by its message, whose signals' numbers and starts stand in two slices, side by side.
+ghost use mathlib.Core.Path.{_≡_};
+ghost use mathlib.Core.List.{map};
+ghost use mathlib.Core.Option.{some};
+ghost use Prim.Native.Nat.{min};
+ghost use lib.ListN.{length};
+ghost use lib.Seq.{sets};
+ghost use Rattle.bits.specs.Word.{bytesOf};
+ghost use Rattle.books.specs.Words.{placed};
+ghost use Rattle.framing.specs.declared.Reading.{Reading};
+ghost use Rattle.framing.specs.Reading.{classCode, thousandthsOf, Slices, readByMessage};
+ghost use Rattle.messages.specs.Signals.{InStep, rawIn, codeIn, readingIn, messageFrom, Readable};
+use crate::checksum::checked;
+use catalogue::Class;
+use catalogue::Raw;
+use framing::Reading;
+
+// A class as its code in the lent slice of classes.
+fn code(class: Class) -> u8
+    ensures { λ r. ⌜ r ≡ classCode class ⌝ }
+{
+    match class {
+        Class::Value(_) => 0,
+        Class::Invalid(_) => 1,
+        Class::Absent(_) => 2,
+        Class::Error(_) => 3,
+        Class::Reserved(_) => 4,
+        Class::Outside(_) => 5,
+        Class::NotInCatalogue => 5,
+        Class::TooWide => 5,
+    }
+}
+
+// The thousandths of a value, and 0 where the class is no value.
+fn thousandths_of(class: Class) -> i64
+    ensures { λ r. ⌜ r ≡ thousandthsOf class ⌝ }
+{
+    match class {
+        Class::Value(t) => t.0,
+        Class::Invalid(_) => 0,
+        Class::Absent(_) => 0,
+        Class::Error(_) => 0,
+        Class::Reserved(_) => 0,
+        Class::Outside(_) => 0,
+        Class::NotInCatalogue => 0,
+        Class::TooWide => 0,
+    }
+}
+
+// The raw count, class code and thousandths of each signal, from the front of three slices that have room for them.
+pub fn read_signals(
+    word: u64,
+    numbers: &[u32],
+    starts: &[u32],
+    raws: &mut [u32],
+    classes: &mut [u8],
+    thousandths: &mut [i64],
+)
+    requires { ⌜ InStep (now numbers) (now starts) (length (now raws)) (length (now classes)) (length (now thousandths)) ⌝ }
+    ensures { λ _. ⌜ (now (raws .exit) ≡ sets (now (raws .entry)) 0 (map (rawIn word) (placed (now (numbers .entry)) (now (starts .entry))))) ×
+        (now (classes .exit) ≡ sets (now (classes .entry)) 0 (map (codeIn word) (placed (now (numbers .entry)) (now (starts .entry))))) ×
+        (now (thousandths .exit) ≡ sets (now (thousandths .entry)) 0 (map (readingIn word) (placed (now (numbers .entry)) (now (starts .entry))))) ⌝ }
+{
+    let mut i: usize = 0;
+    while i < numbers.len() {
+        let number = numbers[i];
+        let raw = bits::take(word, starts[i], catalogue::bits_of(number));
+        let class = catalogue::class_of(number, Raw(raw));
+        raws[i] = raw;
+        classes[i] = code(class);
+        thousandths[i] = thousandths_of(class);
+        i += 1;
+    }
+}
+
+fn least(a: usize, b: usize) -> usize
+    ensures { λ r. ⌜ r ≡ min a b ⌝ }
+{
+    if a < b { a } else { b }
+}
+
+// A frame of 8 bytes, given as its word, read by its message.
+pub fn read_message(
+    identifier: u32,
+    word: u64,
+    numbers: &[u32],
+    starts: &[u32],
+    raws: &mut [u32],
+    classes: &mut [u8],
+    thousandths: &mut [i64],
+) -> Reading
+    requires { ⌜ Readable (now numbers) (now starts) ⌝ }
+    ensures { λ r. ⌜ _≡_ {A = Reading × Slices} (r, record { raws = now (raws .exit); classes = now (classes .exit); thousandths = now (thousandths .exit) })
+        (readByMessage (some (messageFrom identifier (now (numbers .entry)) (now (starts .entry)))) (bytesOf word)
+        (record { raws = now (raws .entry); classes = now (classes .entry); thousandths = now (thousandths .entry) })) ⌝ }
+{
+    if !checked(identifier, word, numbers) {
+        return Reading::WrongChecksum;
+    }
+    let count = numbers.len();
+    if least(raws.len(), least(classes.len(), thousandths.len())) < count {
+        return Reading::TooLittleRoom;
+    }
+    read_signals(word, numbers, starts, raws, classes, thousandths);
+    Reading::Read(count)
+}
