@@ -4,12 +4,17 @@ use crate::Class;
 use crate::Raw;
 use crate::Thousandths;
 use crate::shapes::shape_of;
+use rows::ABSENT;
+use rows::ERROR;
+use rows::INVALID;
+use rows::RESERVED;
+use rows::UNMARKED;
 ghost use mathlib.Core.Path.{_≡_};
 ghost use mathlib.Core.Option.{some};
 ghost use Prim.Native.Nat.{_*_, _^_, _≤_};
 ghost use lib.Dec.{leb};
 ghost use lib.IntN.{pos, _+ℤ_};
-ghost use Rattle.rows.specs.Rows.{row, mark};
+ghost use Rattle.rows.specs.Rows.{row, mark, unmarked};
 ghost use Rattle.rows.specs.Rule.{mostBits};
 ghost use Rattle.catalogue.specs.Shapes.{rowShaped};
 ghost use Rattle.catalogue.specs.Class.{between, markClass, classFor, classOf};
@@ -31,13 +36,13 @@ fn is_too_wide(bits: u32, count: u32) -> bool
 fn marked(kind: u8, raw: Raw) -> Class
     ensures { λ r. ⌜ r ≡ markClass kind raw ⌝ }
 {
-    if kind == 1 {
+    if kind == INVALID {
         return Class::Invalid(raw);
     }
-    if kind == 2 {
+    if kind == ABSENT {
         return Class::Absent(raw);
     }
-    if kind == 3 {
+    if kind == ERROR {
         return Class::Error(raw);
     }
     Class::Reserved(raw)
@@ -50,7 +55,7 @@ fn reading(count: u32, resolution: u16, offset: i32) -> i64
     ((count as u64) * (resolution as u64)) as i64 + offset as i64
 }
 
-// The class of a count in a row: its bits, resolution, offset, lowest and highest, and three marks.
+// The class of a count in a row with these numbers and three marks; below, with two, one and none.
 fn class_in(
     bits: u32,
     resolution: u16,
@@ -90,128 +95,160 @@ fn class_in(
     Class::Outside(raw)
 }
 
+fn two_marks(
+    bits: u32,
+    resolution: u16,
+    offset: i32,
+    lowest: u32,
+    highest: u32,
+    kind1: u8,
+    first1: u32,
+    last1: u32,
+    kind2: u8,
+    first2: u32,
+    last2: u32,
+    raw: Raw,
+) -> Class
+    requires { ⌜ bits ≤ mostBits ⌝ }
+    ensures { λ r. ⌜ r ≡ classFor (some (row 0 bits resolution offset lowest highest (mark kind1 first1 last1) (mark kind2 first2 last2) unmarked)) raw ⌝ }
+{
+    class_in(
+        bits,
+        resolution,
+        offset,
+        lowest,
+        highest,
+        kind1,
+        first1,
+        last1,
+        kind2,
+        first2,
+        last2,
+        UNMARKED,
+        1,
+        0,
+        raw,
+    )
+}
+
+fn one_mark(
+    bits: u32,
+    resolution: u16,
+    offset: i32,
+    lowest: u32,
+    highest: u32,
+    kind: u8,
+    first: u32,
+    last: u32,
+    raw: Raw,
+) -> Class
+    requires { ⌜ bits ≤ mostBits ⌝ }
+    ensures { λ r. ⌜ r ≡ classFor (some (row 0 bits resolution offset lowest highest (mark kind first last) unmarked unmarked)) raw ⌝ }
+{
+    two_marks(
+        bits,
+        resolution,
+        offset,
+        lowest,
+        highest,
+        kind,
+        first,
+        last,
+        UNMARKED,
+        1,
+        0,
+        raw,
+    )
+}
+
+fn no_mark(bits: u32, resolution: u16, offset: i32, lowest: u32, highest: u32, raw: Raw) -> Class
+    requires { ⌜ bits ≤ mostBits ⌝ }
+    ensures { λ r. ⌜ r ≡ classFor (some (row 0 bits resolution offset lowest highest unmarked unmarked unmarked)) raw ⌝ }
+{
+    one_mark(
+        bits,
+        resolution,
+        offset,
+        lowest,
+        highest,
+        UNMARKED,
+        1,
+        0,
+        raw,
+    )
+}
+
 // The class of a count by the signal's shape. Each arm is a shape of specs/Shapes.antt.
 fn class_by(shape: u8, raw: Raw) -> Class
     ensures { λ r. ⌜ r ≡ classFor (rowShaped shape) raw ⌝ }
 {
     match shape {
-        0 => class_in(16, 100, 0, 0, 65535, 1, 65535, 65535, 0, 1, 0, 0, 1, 0, raw),
-        1 => class_in(
-            16,
-            100,
-            -2000000,
-            0,
-            65535,
-            1,
-            65535,
-            65535,
-            0,
-            1,
-            0,
-            0,
-            1,
-            0,
-            raw,
-        ),
-        2 => class_in(8, 400, 0, 0, 250, 1, 255, 255, 0, 1, 0, 0, 1, 0, raw),
-        3 => class_in(2, 1000, 0, 0, 3, 0, 1, 0, 0, 1, 0, 0, 1, 0, raw),
-        4 => class_in(
-            16,
-            1000,
-            0,
-            0,
-            60000,
-            1,
-            65535,
-            65535,
-            0,
-            1,
-            0,
-            0,
-            1,
-            0,
-            raw,
-        ),
-        5 => class_in(2, 1000, 0, 0, 3, 4, 0, 0, 1, 3, 3, 0, 1, 0, raw),
-        6 => class_in(1, 1000, 0, 0, 1, 0, 1, 0, 0, 1, 0, 0, 1, 0, raw),
-        7 => class_in(32, 1000, 0, 0, 4294967295, 0, 1, 0, 0, 1, 0, 0, 1, 0, raw),
-        8 => class_in(16, 100, 0, 0, 65535, 0, 1, 0, 0, 1, 0, 0, 1, 0, raw),
-        9 => class_in(2, 1000, 0, 0, 3, 4, 0, 0, 0, 1, 0, 0, 1, 0, raw),
-        10 => class_in(2, 1000, 0, 0, 3, 4, 2, 3, 0, 1, 0, 0, 1, 0, raw),
-        11 => class_in(4, 1000, 0, 0, 15, 0, 1, 0, 0, 1, 0, 0, 1, 0, raw),
-        12 => class_in(
+        0 => one_mark(16, 100, 0, 0, 65535, INVALID, 65535, 65535, raw),
+        1 => one_mark(16, 100, -2000000, 0, 65535, INVALID, 65535, 65535, raw),
+        2 => one_mark(8, 400, 0, 0, 250, INVALID, 255, 255, raw),
+        3 => no_mark(2, 1000, 0, 0, 3, raw),
+        4 => one_mark(16, 1000, 0, 0, 60000, INVALID, 65535, 65535, raw),
+        5 => two_marks(2, 1000, 0, 0, 3, RESERVED, 0, 0, INVALID, 3, 3, raw),
+        6 => no_mark(1, 1000, 0, 0, 1, raw),
+        7 => no_mark(32, 1000, 0, 0, 4294967295, raw),
+        8 => no_mark(16, 100, 0, 0, 65535, raw),
+        9 => one_mark(2, 1000, 0, 0, 3, RESERVED, 0, 0, raw),
+        10 => one_mark(2, 1000, 0, 0, 3, RESERVED, 2, 3, raw),
+        11 => no_mark(4, 1000, 0, 0, 15, raw),
+        12 => two_marks(
             8,
             1000,
             -40000,
             0,
             250,
-            2,
+            ABSENT,
             253,
             253,
-            1,
+            INVALID,
             255,
             255,
-            0,
-            1,
-            0,
             raw,
         ),
-        13 => class_in(
-            16,
-            1000,
-            0,
-            0,
-            65535,
-            1,
-            65535,
-            65535,
-            0,
-            1,
-            0,
-            0,
-            1,
-            0,
-            raw,
-        ),
-        14 => class_in(8, 1000, 0, 1, 255, 0, 1, 0, 0, 1, 0, 0, 1, 0, raw),
-        15 => class_in(16, 1, 0, 0, 65535, 1, 65535, 65535, 0, 1, 0, 0, 1, 0, raw),
-        16 => class_in(8, 1000, 1000, 0, 254, 0, 1, 0, 0, 1, 0, 0, 1, 0, raw),
-        17 => class_in(8, 100, 0, 0, 50, 0, 1, 0, 0, 1, 0, 0, 1, 0, raw),
-        18 => class_in(16, 1, 0, 0, 65535, 0, 1, 0, 0, 1, 0, 0, 1, 0, raw),
-        19 => class_in(8, 1000, -40000, 0, 250, 1, 255, 255, 0, 1, 0, 0, 1, 0, raw),
-        20 => class_in(16, 1000, 0, 1, 65535, 0, 1, 0, 0, 1, 0, 0, 1, 0, raw),
-        21 => class_in(4, 1000, 0, 0, 15, 4, 10, 13, 4, 15, 15, 0, 1, 0, raw),
-        22 => class_in(8, 1000, 0, 0, 255, 0, 1, 0, 0, 1, 0, 0, 1, 0, raw),
-        23 => class_in(8, 1000, 0, 0, 254, 1, 255, 255, 0, 1, 0, 0, 1, 0, raw),
-        24 => class_in(8, 1000, 1985000, 0, 250, 0, 1, 0, 0, 1, 0, 0, 1, 0, raw),
-        25 => class_in(8, 250, 0, 0, 48, 0, 1, 0, 0, 1, 0, 0, 1, 0, raw),
-        26 => class_in(8, 250, 0, 0, 124, 0, 1, 0, 0, 1, 0, 0, 1, 0, raw),
-        27 => class_in(2, 1000, 0, 0, 3, 4, 2, 2, 1, 3, 3, 0, 1, 0, raw),
-        28 => class_in(3, 1000, 0, 0, 7, 1, 2, 7, 0, 1, 0, 0, 1, 0, raw),
-        29 => class_in(3, 1000, 0, 0, 7, 4, 4, 7, 0, 1, 0, 0, 1, 0, raw),
+        13 => one_mark(16, 1000, 0, 0, 65535, INVALID, 65535, 65535, raw),
+        14 => no_mark(8, 1000, 0, 1, 255, raw),
+        15 => one_mark(16, 1, 0, 0, 65535, INVALID, 65535, 65535, raw),
+        16 => no_mark(8, 1000, 1000, 0, 254, raw),
+        17 => no_mark(8, 100, 0, 0, 50, raw),
+        18 => no_mark(16, 1, 0, 0, 65535, raw),
+        19 => one_mark(8, 1000, -40000, 0, 250, INVALID, 255, 255, raw),
+        20 => no_mark(16, 1000, 0, 1, 65535, raw),
+        21 => two_marks(4, 1000, 0, 0, 15, RESERVED, 10, 13, RESERVED, 15, 15, raw),
+        22 => no_mark(8, 1000, 0, 0, 255, raw),
+        23 => one_mark(8, 1000, 0, 0, 254, INVALID, 255, 255, raw),
+        24 => no_mark(8, 1000, 1985000, 0, 250, raw),
+        25 => no_mark(8, 250, 0, 0, 48, raw),
+        26 => no_mark(8, 250, 0, 0, 124, raw),
+        27 => two_marks(2, 1000, 0, 0, 3, RESERVED, 2, 2, INVALID, 3, 3, raw),
+        28 => one_mark(3, 1000, 0, 0, 7, INVALID, 2, 7, raw),
+        29 => one_mark(3, 1000, 0, 0, 7, RESERVED, 4, 7, raw),
         30 => class_in(
             8,
             1000,
             -40000,
             0,
             250,
-            2,
+            ABSENT,
             253,
             253,
-            3,
+            ERROR,
             254,
             254,
-            1,
+            INVALID,
             255,
             255,
             raw,
         ),
-        31 => class_in(2, 1000, 0, 0, 3, 1, 2, 3, 0, 1, 0, 0, 1, 0, raw),
-        32 => class_in(16, 1000, 0, 0, 1000, 1, 65535, 65535, 0, 1, 0, 0, 1, 0, raw),
-        33 => class_in(2, 1000, 0, 0, 3, 3, 2, 2, 1, 3, 3, 0, 1, 0, raw),
-        34 => class_in(16, 100, 0, 0, 10000, 0, 1, 0, 0, 1, 0, 0, 1, 0, raw),
-        35 => class_in(6, 1000, 0, 0, 63, 0, 1, 0, 0, 1, 0, 0, 1, 0, raw),
-        36 => class_in(5, 1000, 0, 0, 31, 0, 1, 0, 0, 1, 0, 0, 1, 0, raw),
+        31 => one_mark(2, 1000, 0, 0, 3, INVALID, 2, 3, raw),
+        32 => one_mark(16, 1000, 0, 0, 1000, INVALID, 65535, 65535, raw),
+        33 => two_marks(2, 1000, 0, 0, 3, ERROR, 2, 2, INVALID, 3, 3, raw),
+        34 => no_mark(16, 100, 0, 0, 10000, raw),
+        35 => no_mark(6, 1000, 0, 0, 63, raw),
+        36 => no_mark(5, 1000, 0, 0, 31, raw),
         _ => Class::NotInCatalogue,
     }
 }

@@ -31,11 +31,11 @@ fn wide(n: i32) -> i64 {
 }
 
 fn print_kind(kind: u8) {
-    if kind == 1 {
+    if kind == rows::INVALID {
         io::write_all(STDOUT_FILENO, b"\tinvalid");
-    } else if kind == 2 {
+    } else if kind == rows::ABSENT {
         io::write_all(STDOUT_FILENO, b"\tabsent");
-    } else if kind == 3 {
+    } else if kind == rows::ERROR {
         io::write_all(STDOUT_FILENO, b"\terror");
     } else {
         io::write_all(STDOUT_FILENO, b"\treserved");
@@ -43,7 +43,7 @@ fn print_kind(kind: u8) {
 }
 
 fn print_mark(mark: Mark) {
-    if mark.kind > 0 {
+    if mark.kind != rows::UNMARKED {
         print_kind(mark.kind);
         print(mark.first);
         print(mark.last);
@@ -110,7 +110,7 @@ fn around(number: u32, first: u32, last: u32) {
 }
 
 fn around_mark(number: u32, mark: Mark) {
-    if mark.kind > 0 {
+    if mark.kind != rows::UNMARKED {
         around(number, mark.first, mark.last);
     }
 }

@@ -4,9 +4,19 @@ mod table;
 
 pub use table::row_at;
 
+// The kinds of marks.
+pub const UNMARKED: u8 = 0;
+
+pub const INVALID: u8 = 1;
+
+pub const ABSENT: u8 = 2;
+
+pub const ERROR: u8 = 3;
+
+pub const RESERVED: u8 = 4;
+
 // Codes of a signal that are no values, from the first to the last; none where the last is below the first.
 pub struct Mark {
-    // 1 invalid, 2 absent, 3 error, 4 reserved; 0 where there is no mark.
     pub kind: u8,
     pub first: u32,
     pub last: u32,

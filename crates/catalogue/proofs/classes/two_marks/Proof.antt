@@ -1,0 +1,16 @@
+-- `catalogue::classes::two_marks` meets its contract: two marks are three, of which the last is none.
+-- Assumes nothing.
+use mir.Syntax.{w32}
+use mir.ValLaws.{toZ-ofZ}
+use borrow.Author.Needs.{needs}
+use Rattle.catalogue.proofs.classes.two_marks.Statement.{statement}
+use Rattle.catalogue.proofs.classes.two_marks.Tie as tie
+
+class-in-requires : tie.Need-class-in-requires
+class-in-requires c κs = search needs
+
+returns : tie.Need-returns
+returns c = rw (toZ-ofZ w32 (c .before .args .offset) (c .before .fits .offset)) at (c .class-in .ensures)
+
+pub two-marks-spec : {M : Type 1} → statement M
+two-marks-spec = tie.close (tie.spec class-in-requires returns)
