@@ -20,7 +20,7 @@ use Rattle.power.proofs.Stepped as Stepped
 use Rattle.power.proofs.Numbered as Numbered
 use Rattle.power.proofs.State.number as number-fn
 use Rattle.power.proofs.State.numbered as numbered-fn
-use Rattle.power.proofs.precharge_complete as precharge-complete
+use Rattle.power.proofs.observed.precharge_complete as precharge-complete
 use Rattle.power.proofs.step as step
 
 module _ {M : Type 1} (𝓤 : URA M) (H : Heap 𝓤) (A : Atoms 𝓤) (mem : Memory → SProp 𝓤) (run : Routine → Fun 𝓤) where

@@ -1,8 +1,8 @@
--- `power::shows_picture` meets its contract: each arm has its state's relays. Assumes nothing.
+-- `power::observed::shows_picture` meets its contract: each arm has its state's relays. Assumes nothing.
 use Rattle.power.specs.Pictures.{picture}
 use borrow.Author.Needs.{needs}
-use Rattle.power.proofs.shows_picture.Statement.{statement}
-use Rattle.power.proofs.shows_picture.Tie as tie
+use Rattle.power.proofs.observed.shows_picture.Statement.{statement}
+use Rattle.power.proofs.observed.shows_picture.Tie as tie
 
 enum-told : tie.Need-enum-told
 enum-told c = search needs

@@ -1,8 +1,8 @@
--- `power::next_state` meets its contract: each arm follows the rules from its state. Assumes nothing.
+-- `power::rules::next_state` meets its contract: each arm follows the rules from its state. Assumes nothing.
 use Rattle.power.specs.Rules.{nextState}
 use borrow.Author.Needs.{needs}
-use Rattle.power.proofs.next_state.Statement.{statement}
-use Rattle.power.proofs.next_state.Tie as tie
+use Rattle.power.proofs.rules.next_state.Statement.{statement}
+use Rattle.power.proofs.rules.next_state.Tie as tie
 
 enum-told : tie.Need-enum-told
 enum-told c = search needs

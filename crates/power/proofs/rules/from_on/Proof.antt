@@ -1,8 +1,8 @@
--- `power::from_on` meets its contract: the only step from on is the one to falling. Assumes nothing.
+-- `power::rules::from_on` meets its contract: the only step from on is the one to falling. Assumes nothing.
 use Rattle.power.specs.Rules.{firstStep, rule3, rule4}
 use borrow.Author.Needs.{needs}
-use Rattle.power.proofs.from_on.Statement.{statement}
-use Rattle.power.proofs.from_on.Tie as tie
+use Rattle.power.proofs.rules.from_on.Statement.{statement}
+use Rattle.power.proofs.rules.from_on.Tie as tie
 
 is-under-10-amps-requires : tie.Need-is-under-10-amps-requires
 is-under-10-amps-requires c κs = search needs

@@ -1,8 +1,8 @@
--- `power::from_off` meets its contract: the only step from off is the one to rising. Assumes nothing.
+-- `power::rules::from_off` meets its contract: the only step from off is the one to rising. Assumes nothing.
 use Rattle.power.specs.Rules.{firstStep, rule3, rule4}
 use borrow.Author.Needs.{needs}
-use Rattle.power.proofs.from_off.Statement.{statement}
-use Rattle.power.proofs.from_off.Tie as tie
+use Rattle.power.proofs.rules.from_off.Statement.{statement}
+use Rattle.power.proofs.rules.from_off.Tie as tie
 
 shows-picture-requires : tie.Need-shows-picture-requires
 shows-picture-requires c κs = search needs

@@ -1,7 +1,7 @@
--- `power::from_fault` meets its contract. Assumes nothing.
+-- `power::rules::from_fault` meets its contract. Assumes nothing.
 use borrow.Author.Needs.{needs}
-use Rattle.power.proofs.from_fault.Statement.{statement}
-use Rattle.power.proofs.from_fault.Tie as tie
+use Rattle.power.proofs.rules.from_fault.Statement.{statement}
+use Rattle.power.proofs.rules.from_fault.Tie as tie
 
 all-open-requires : tie.Need-all-open-requires
 all-open-requires c κs = search needs

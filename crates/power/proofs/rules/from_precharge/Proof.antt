@@ -1,8 +1,8 @@
--- `power::from_precharge` meets its contract: from precharge to both, or else to falling. Assumes nothing.
+-- `power::rules::from_precharge` meets its contract: from precharge to both, or else to falling. Assumes nothing.
 use Rattle.power.specs.Rules.{firstStep, rule3, rule4}
 use borrow.Author.Needs.{needs}
-use Rattle.power.proofs.from_precharge.Statement.{statement}
-use Rattle.power.proofs.from_precharge.Tie as tie
+use Rattle.power.proofs.rules.from_precharge.Statement.{statement}
+use Rattle.power.proofs.rules.from_precharge.Tie as tie
 
 precharge-complete-requires : tie.Need-precharge-complete-requires
 precharge-complete-requires c κs = search needs

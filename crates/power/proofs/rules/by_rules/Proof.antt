@@ -1,7 +1,7 @@
--- `power::by_rules` meets its contract: at each `return` the tests that led there say which rule holds. Assumes nothing.
+-- `power::rules::by_rules` meets its contract: at each `return` the tests that led there say which rule holds. Assumes nothing.
 use borrow.Author.Needs.{needs}
-use Rattle.power.proofs.by_rules.Statement.{statement}
-use Rattle.power.proofs.by_rules.Tie as tie
+use Rattle.power.proofs.rules.by_rules.Statement.{statement}
+use Rattle.power.proofs.rules.by_rules.Tie as tie
 
 shows-picture-requires : tie.Need-shows-picture-requires
 shows-picture-requires c κs = search needs

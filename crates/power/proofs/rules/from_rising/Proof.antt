@@ -1,8 +1,8 @@
--- `power::from_rising` meets its contract: from rising to precharge, or else to off. Assumes nothing.
+-- `power::rules::from_rising` meets its contract: from rising to precharge, or else to off. Assumes nothing.
 use Rattle.power.specs.Rules.{firstStep, rule3, rule4}
 use borrow.Author.Needs.{needs}
-use Rattle.power.proofs.from_rising.Statement.{statement}
-use Rattle.power.proofs.from_rising.Tie as tie
+use Rattle.power.proofs.rules.from_rising.Statement.{statement}
+use Rattle.power.proofs.rules.from_rising.Tie as tie
 
 shows-picture-requires : tie.Need-shows-picture-requires
 shows-picture-requires c κs = search needs

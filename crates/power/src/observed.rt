@@ -1,0 +1,69 @@
+// What an observation shows: the relays' pictures, the commands, the current, and whether precharge is complete.
+use crate::CLOSED;
+use crate::OPEN;
+use crate::Observation;
+use crate::State;
+ghost use mathlib.Core.Path.{_≡_};
+ghost use Rattle.power.specs.Observed.{shows, allOpen, urgent, prechargeComplete, under10A};
+ghost use Rattle.power.specs.Pictures.{picture};
+
+// The mark invalid of both voltages.
+const INVALID: u32 = 65535;
+
+// Precharge is complete where the outside has this share, in hundredths, of the inside.
+const SHARE: u64 = 95;
+
+fn wide(x: u32) -> u64
+    ensures { λ r. ⌜ r ≡ x ⌝ }
+{
+    x as u64
+}
+
+// Whether precharge is complete, of the raw counts of 201 and 202.
+pub fn precharge_complete(inside: u32, outside: u32) -> bool
+    ensures { λ r. ⌜ r ≡ prechargeComplete inside outside ⌝ }
+{
+    let needed = SHARE * wide(inside);
+    let there = 100 * wide(outside);
+    (inside < INVALID) & (outside < INVALID) & (0 < inside) & (needed <= there)
+}
+
+pub fn is_under_10_amps(current: u32) -> bool
+    ensures { λ r. ⌜ r ≡ under10A current ⌝ }
+{
+    (19901 <= current) & (current <= 20099)
+}
+
+pub fn is_urgent(seen: Observation) -> bool
+    ensures { λ r. ⌜ r ≡ urgent seen ⌝ }
+{
+    (seen.command == 3) | (seen.emergency_off == 1)
+}
+
+fn shows_relays(seen: Observation, negative: u32, between: u32, positive: u32) -> bool
+    ensures { λ r. ⌜ r ≡ shows negative between positive seen ⌝ }
+{
+    (seen.main_negative == negative)
+        & (seen.precharge == between)
+        & (seen.main_positive == positive)
+}
+
+pub fn all_open(seen: Observation) -> bool
+    ensures { λ r. ⌜ r ≡ allOpen seen ⌝ }
+{
+    shows_relays(seen, OPEN, OPEN, OPEN)
+}
+
+pub fn shows_picture(state: State, seen: Observation) -> bool
+    ensures { λ r. ⌜ r ≡ picture state seen ⌝ }
+{
+    match state {
+        State::Off => shows_relays(seen, OPEN, OPEN, OPEN),
+        State::Rising => shows_relays(seen, CLOSED, OPEN, OPEN),
+        State::Precharge => shows_relays(seen, CLOSED, CLOSED, OPEN),
+        State::Both => shows_relays(seen, CLOSED, CLOSED, CLOSED),
+        State::On => shows_relays(seen, CLOSED, OPEN, CLOSED),
+        State::Falling => shows_relays(seen, CLOSED, OPEN, OPEN),
+        State::Fault => false,
+    }
+}
