@@ -2,7 +2,8 @@
 use mathlib.Core.Path.{_≡_, refl, sym, ap, _∙_}
 use Prim.Native.Nat.{ℕ, _≤_, _<_}
 use mathlib.Core.List.{List, []}
-use lib.ListN.{length, getD}
+use native.Mathlib.Omega.{arith}
+use lib.ListN.{length, getD, drop, drop-of-length-le}
 use Rattle.record.specs.Limits.{textLimit}
 use Rattle.record.specs.Columns.{emptyBook, messageCountOf, signalCountOf, routeCountOf}
 use Rattle.chains.specs.Chain.{OnClosed, LoopFree, BeginsDoubling, Single}
@@ -50,7 +51,7 @@ module _ {text : List ℕ} (short : length text ≤ textLimit) {w : List ℕ} (p
     pub sound : {m s r : ℕ} → v ≡ verdict.Sound → m ≡ messageCountOf w → s ≡ signalCountOf w → r ≡ routeCountOf w → Answered text (taken m s r) w
     sound q m s r =
         rw (m ∙ messages-held w (p .book) (p .holds), s ∙ signals-held w (p .book) (p .holds), r ∙ routes-held w (p .book) (p .holds), p .holds .words)
-        (taken-with (record { short = short; at = p .numbers; read = p .read; sound = record { loop-free = (rw q at j) .0; single = (rw q at j) .1 } }))
+        (taken-with (record { short = short; at = p .numbers; read = p .read; sound = record { loop-free = (rw q at j) .loop-free; single = (rw q at j) .single } }))
 
 -- the empty book has the words of a book without lines
 pub empty-words : emptyBook ≡ wordsOf noBook
@@ -65,3 +66,13 @@ module _ (text : List ℕ) (r : Lines) (w : List ℕ) (c : Came text r w) where
 
   pub all-passed : r ≡ came.Passed → PassedTo text w
   all-passed q = rw q at c
+
+-- what is left of a text is answered as a text of its own
+pub from-here : (text : List ℕ) (at : ℕ) {rest : List ℕ} {s : Said} {w : List ℕ} → rest ≡ drop at text → Answered rest s w → Answered (drop at text) s w
+from-here text at e a = rw (sym e) a
+
+pub past-end : (text : List ℕ) (at : ℕ) {rest : List ℕ} {s : Said} {w : List ℕ} → length text ≤ at → rest ≡ drop (length text) text → Answered rest s w → Answered (drop at text) s w
+past-end text at {rest} h e a =
+    let n : length text ≤ length text = omega arith in
+    let z : drop at text ≡ rest = drop-of-length-le text h ∙ sym (drop-of-length-le text n) ∙ sym e in
+    rw z a

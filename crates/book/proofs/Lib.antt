@@ -3,3 +3,4 @@ pub mod Answers
 pub mod Named
 pub mod Once
 pub mod OneOutcome
+pub mod StandIns

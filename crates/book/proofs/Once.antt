@@ -26,25 +26,25 @@ use Rattle.book.specs.Answered.{Passes, Answered, too-long, bad-line, cl
 use Rattle.book.proofs.Named.{Named, text-named, said-once}
 
 -- what a verdict on the routes of a book comes to
-ofVerdict : Book → List ℕ → Verdict → Said × List ℕ
+unfoldable pub ofVerdict : Book → List ℕ → Verdict → Said × List ℕ
 ofVerdict b at (verdict.Loop i) = (refused 10 (getD at i 0), emptyBook)
 ofVerdict b at (verdict.Doubling i) = (refused 11 (getD at i 0), emptyBook)
 ofVerdict b at verdict.Sound =
     (taken (length (b .messages)) (length (allPlacements (b .messages))) (length (b .routes)), wordsOf b)
 
 -- an answer comes about in one of three ways
-data Way (text : List ℕ) (x : Said × List ℕ) : Type 0 where
+pub data Way (text : List ℕ) (x : Said × List ℕ) : Type 0 where
   long : textLimit < length text → x ≡ (refused 1 0, emptyBook) → Way text x
   bad : (why n : ℕ) → length text ≤ textLimit → linesRead text ≡ lines.refused why n → x ≡ (refused why n, emptyBook) → Way text x
   by : (b : Book) (at : List ℕ) (v : Verdict) → Passes text b at → Judged (froms (b .routes)) (tos (b .routes)) v → x ≡ ofVerdict b at v → Way text x
 
-way : {text : List ℕ} {p : Said} {w : List ℕ} → Answered text p w → Way text (p, w)
+pub way : {text : List ℕ} {p : Said} {w : List ℕ} → Answered text p w → Way text (p, w)
 unfolding ofVerdict
 way (too-long h) = long h refl
 way (bad-line h e) = bad _ _ h e refl
 way (closed-chain {b} {at} {i} p l) = by b at (verdict.Loop i) p l refl
 way (two-chains {b} {at} {i} p f l) = by b at (verdict.Doubling i) p (f, l) refl
-way (taken-with {b} t) = by b (t .at) verdict.Sound (record { short = t .short; read = t .read }) (t .sound .loop-free, t .sound .single) refl
+way (taken-with {b} t) = by b (t .at) verdict.Sound (record { short = t .short; read = t .read }) (record { loop-free = t .sound .loop-free; single = t .sound .single }) refl
 
 never : {A : Type 0} {why n : ℕ} {b : Book} {at : List ℕ} {o : Outcome} → o ≡ lines.refused why n → o ≡ passed b at → A
 never e f = absurd (let z : _≡_ {A = ℕ} 0 1 = cc in omega arith)
@@ -83,7 +83,7 @@ module _ (text : List ℕ) where
       record {
         answer = answer.Taken (length (b .messages)) (length (allPlacements (b .messages))) (length (b .routes));
         words = wordsOf b;
-        answered = taken-with (record { short = p .short; at = at; read = p .read; sound = record { loop-free = j .0; single = j .1 } });
+        answered = taken-with (record { short = p .short; at = at; read = p .read; sound = record { loop-free = j .loop-free; single = j .single } });
       }
 
   come : length text ≤ textLimit → (o : Outcome) → linesRead text ≡ o → There text

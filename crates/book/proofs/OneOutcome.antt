@@ -12,13 +12,23 @@ use ghost.Atoms.{Atoms}
 use contract.Lifetimes.{Lfts}
 use contract.Monad.{Fun, fact}
 use denote.Ref.{RefT, now, at-last}
-use Rattle.only.specs.Only.{Only}
+use denote.Triple.Clauses.{AtExit}
+use mir.Syntax.{named}
+use mathlib.Core.List.{[]}
+use lib.ListN.{drop}
+use Rattle.only.specs.Only.{Only, only-this}
 use Rattle.answers.proofs.Answer as T
 use Rattle.answers.specs.declared.Answer.{Answer}
 use Rattle.answers.specs.Numbers.{said}
 use Rattle.book.specs.Answered.{Answered}
 use Rattle.book.proofs.Once.{there, alone}
+use Rattle.book.proofs.read as read
+use Rattle.book.proofs.read_on as read-on
 use Rattle.book.proofs.read_text as read-text
+use Rattle.book.proofs.start as start
+use Rattle.book.proofs.LineReader as L
+use Rattle.book.specs.Reader.{readerAt}
+use Rattle.book.specs.declared.LineReader.{LineReader}
 
 -- a clause that states how a text is answered
 one-answer : {M : Type 1} (𝓤 : URA M) (clause : Answer × List ℕ → SProp 𝓤) (text : List ℕ)
@@ -36,3 +46,12 @@ one-answer 𝓤 clause text says =
 module _ {M : Type 1} (𝓤 : URA M) (H : Heap 𝓤) (A : Atoms 𝓤) (mem : Memory → SProp 𝓤) (run : Routine → Fun 𝓤) (κs : Lfts 2) (text book : RefT (List ℕ)) where
   pub one-read-text : Only 𝓤 (λ (x : Answer × List ℕ). read-text.clauses 𝓤 H A mem run κs (text, (book, tt)) .ensures tt (x .0) (text, (at-last book (x .1), tt)))
   one-read-text = one-answer 𝓤 _ (now text) (λ x. refl)
+
+  pub one-read : Only 𝓤 (λ (x : Answer × List ℕ). read.clauses 𝓤 H A mem run κs (text, (book, tt)) .ensures tt (x .0) (text, (at-last book (x .1), tt)))
+  one-read = one-answer 𝓤 _ (now text) (λ x. refl)
+
+  pub one-read-on : (lines : LineReader) → Only 𝓤 (λ (x : Answer × List ℕ). read-on.clauses 𝓤 H A mem run κs (lines, (book, tt)) .ensures tt (x .0) (lines, (at-last book (x .1), tt)))
+  one-read-on lines = one-answer 𝓤 _ (drop (lines .at) (now (lines .text))) (λ x. refl)
+
+  pub one-start : (κ : Lfts 1) (e : AtExit start.ended κ) → Only 𝓤 (λ r. start.clauses 𝓤 H A mem run κ (text, tt) .ensures tt r e)
+  one-start κ e = only-this 𝓤 _ (L.the-row (record { mir = named 0; lft = [] }) .coded) (readerAt text 0) (λ r. refl)

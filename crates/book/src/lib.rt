@@ -3,6 +3,7 @@
 use answers::Answer;
 use answers::Refusal;
 use columns::part;
+use parts::part_from;
 use record::BOOK_WORDS;
 use record::TEXT_LIMIT;
 use taking::Lines;
@@ -11,7 +12,7 @@ use taking::take_lines;
 use verdict::Verdict;
 ghost use mathlib.Core.Path.{_≡_};
 ghost use Prim.Native.Nat.{_≤_};
-ghost use lib.ListN.{length};
+ghost use lib.ListN.{length, drop};
 ghost use Rattle.record.specs.Limits.{textLimit};
 ghost use Rattle.answers.specs.Numbers.{said};
 ghost use Rattle.books.specs.Book.{Book};
@@ -20,6 +21,7 @@ ghost use Rattle.tables.specs.Adding.{OfBook, Holds};
 ghost use Rattle.taking.specs.Taking.{PassedTo};
 ghost use Rattle.verdict.specs.Verdicts.{Judged};
 ghost use Rattle.book.specs.Answered.{Answered};
+ghost use Rattle.book.specs.Reader.{readerAt};
 
 fn wide(x: u32) -> usize
     ensures { λ r. ⌜ r ≡ x ⌝ }
@@ -75,4 +77,41 @@ pub fn read_text(text: &[u8], book: &mut [u32; BOOK_WORDS]) -> Answer
         return Answer::Refused(why, n);
     }
     answer_passed(text, book)
+}
+
+// The text from a place on; nothing where the place is past its end.
+fn read_from(text: &[u8], at: usize, book: &mut [u32; BOOK_WORDS]) -> Answer
+    ensures { λ r. ⌜ Answered (drop at (now (text .entry))) (said r) (now (book .exit)) ⌝ }
+{
+    if at < text.len() {
+        return read_text(part_from(text, at), book);
+    }
+    read_text(part_from(text, text.len()), book)
+}
+
+// The line reader carries the text and its own place in it.
+pub struct LineReader<'a> {
+    pub text: &'a [u8],
+    pub at: usize,
+}
+
+// A reader at the start of a text.
+pub fn start<'a>(text: &'a [u8]) -> LineReader<'a>
+    ensures { λ r. ⌜ r ≡ readerAt (text .entry) 0 ⌝ }
+{
+    LineReader { text, at: 0 }
+}
+
+// What is left of the reader's text, into a book.
+pub fn read_on<'a, 'b>(lines: LineReader<'a>, book: &'b mut [u32; BOOK_WORDS]) -> Answer
+    ensures { λ r. ⌜ Answered (drop (lines .entry .at) (now (lines .entry .text))) (said r) (now (book .exit)) ⌝ }
+{
+    read_from(lines.text, lines.at, book)
+}
+
+// A text into the words, whatever they were: those of its book, or the empty book where it is refused.
+pub fn read(text: &[u8], book: &mut [u32; BOOK_WORDS]) -> Answer
+    ensures { λ r. ⌜ Answered (now (text .entry)) (said r) (now (book .exit)) ⌝ }
+{
+    read_on(start(text), book)
 }

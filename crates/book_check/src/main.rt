@@ -17,7 +17,7 @@ fn main() {
     let mut text = [0u8; ENOUGH];
     let size = io::read_full(STDIN_FILENO, &mut text);
     let mut words = [0u32; record::BOOK_WORDS];
-    let answer = book::read_text(&text[..size], &mut words);
+    let answer = book::read(&text[..size], &mut words);
     let mut line = [0u8; answer_line::LINE_ROOM];
     let length = answer_line::print(answer, &mut line);
     send(&line, length);

@@ -1,0 +1,67 @@
+-- Readers that the contract throws out: one that refuses every text, one that takes every text, one that leaves something behind
+-- where it refuses. Assumes nothing.
+use mathlib.Core.Path.{_≡_, refl, sym, ap, _∙_}
+use mathlib.Core.List.{List, [], _∷_}
+use Prim.Native.Nat.{ℕ, _≤_, _<_}
+use native.Mathlib.Omega.{arith}
+use lib.ListN.{length}
+use Rattle.record.specs.Columns.{emptyBook}
+use Rattle.chains.specs.Chain.{Chain, LoopFree, Single}
+use Rattle.verdict.specs.declared.Verdict.{Verdict}
+use Rattle.verdict.specs.declared.Verdict.the-variants as verdict
+use Rattle.answers.specs.Numbers.{Said, taken, refused}
+use Rattle.parts.specs.Parts.{lines, linesOf, split, onFirst}
+use Rattle.line.specs.Meaning.{meaningOf, lineMeaning, ofFields, ofKind, ofMessage}
+use Rattle.books.specs.Book.{Book, noBook, allPlacements}
+use Rattle.books.specs.Words.{wordsOf}
+use Rattle.reading.specs.Reading.{onward, readFrom, refusalOf, meanings, linesRead}
+use Rattle.reading.specs.Taken.{Sound}
+use Rattle.book.specs.Answered.{Answered, bad-line, taken-with}
+use Rattle.book.proofs.Once.{Way, long, bad, by, way, ofVerdict, answered-once}
+
+no-chain : (p q : ℕ) (c : List ℕ) → Chain [] [] p c q → ⊥
+no-chain p q [] h = h
+no-chain p q (i ∷ c) h = let z : i < 0 = h .0 in omega arith
+
+-- "Empty text is a taken, empty book."
+empty-taken : Answered [] (taken 0 0 0) (wordsOf noBook)
+unfolding linesRead readFrom meanings lines linesOf split allPlacements
+empty-taken =
+    taken-with
+    (record {
+      short = omega arith;
+      at = [];
+      read = refl;
+      sound = record { loop-free = λ p c h. no-chain p p c h; single = λ p q c d t. no-chain p q c (t .one) };
+    })
+
+-- "An empty line is ill formed (2)", and so is a line of an M alone
+ill-refused : Answered (77 ∷ 10 ∷ []) (refused 2 1) emptyBook
+unfolding linesRead readFrom meanings lines linesOf split onFirst meaningOf lineMeaning ofFields ofKind ofMessage refusalOf onward
+ill-refused = bad-line (omega arith) refl
+
+differ : {A : Type 0} {m s r why n : ℕ} {v w : List ℕ} → _≡_ {A = Said × List ℕ} (taken m s r, v) (refused why n, w) → A
+differ {m} {s} {r} {why} {n} e =
+    let f : taken m s r ≡ refused why n = ap (λ (x : Said × List ℕ). x .0) e in
+    absurd (let z : _≡_ {A = ℕ} 0 1 = cc in omega arith)
+
+pub refuses-all : (why n : ℕ) (w : List ℕ) → Answered [] (refused why n) w → ⊥
+refuses-all why n w a = differ (answered-once empty-taken a)
+
+pub takes-all : (m s r : ℕ) (w : List ℕ) → Answered (77 ∷ 10 ∷ []) (taken m s r) w → ⊥
+takes-all m s r w a = differ (answered-once a ill-refused)
+
+-- "On every refusal .. an empty book"
+pub left-empty : {text : List ℕ} {why n : ℕ} {w : List ℕ} → Answered text (refused why n) w → w ≡ emptyBook
+unfolding ofVerdict
+left-empty {text} {why} {n} {w} a = from (way a)
+  where
+    from-verdict : (b : Book) (at : List ℕ) (v : Verdict) → _≡_ {A = Said × List ℕ} (refused why n, w) (ofVerdict b at v) → w ≡ emptyBook
+    from-verdict b at (verdict.Loop i) e = ap (λ (x : Said × List ℕ). x .1) e
+    from-verdict b at (verdict.Doubling i) e = ap (λ (x : Said × List ℕ). x .1) e
+    from-verdict b at verdict.Sound e = differ (sym e)
+
+    from : Way text (refused why n, w) → w ≡ emptyBook
+    from (long h e) = ap (λ (x : Said × List ℕ). x .1) e
+    from (bad y m h r e) = ap (λ (x : Said × List ℕ). x .1) e
+    from (by b at v p j e) = from-verdict b at v e
