@@ -1,5 +1,5 @@
 // The verdict on a table of routes: a loop, a doubling, or sound (refusals 10 and 11 of the book reader, and part of 12).
-// What it says is stated over chains (specs/Verdicts.antt); the masks of `reach` are only how it is found.
+// What it says is stated over chains (specs/Verdicts.antt); the masks of `marks` and `reach` are only how it is found.
 ghost use mathlib.Core.Path.{_≡_};
 ghost use Prim.Native.Nat.{_<_, _≤_};
 ghost use lib.ListN.{length, getD};
@@ -94,8 +94,8 @@ fn first_doubling(starts: &[u64], forking: u64, n: usize) -> usize
     i
 }
 
-// The verdict.
-pub fn judge(froms: &[u32], tos: &[u32]) -> Verdict
+// The verdict on any table, by the masks of `reach`.
+fn judge_by_reach(froms: &[u32], tos: &[u32]) -> Verdict
     requires { ⌜ (length (now froms) ≤ 64) × (length (now froms) ≡ length (now tos)) ⌝ }
     ensures { λ r. ⌜ Judged (now (froms .entry)) (now (tos .entry)) r ⌝ }
 {
@@ -112,6 +112,17 @@ pub fn judge(froms: &[u32], tos: &[u32]) -> Verdict
         return Verdict::Doubling(j);
     }
     Verdict::Sound
+}
+
+// The verdict. Most sound tables are seen to be so at once.
+pub fn judge(froms: &[u32], tos: &[u32]) -> Verdict
+    requires { ⌜ (length (now froms) ≤ 64) × (length (now froms) ≡ length (now tos)) ⌝ }
+    ensures { λ r. ⌜ Judged (now (froms .entry)) (now (tos .entry)) r ⌝ }
+{
+    if marks::seen_sound(froms, tos) {
+        return Verdict::Sound;
+    }
+    judge_by_reach(froms, tos)
 }
 
 // Whether the verdict is sound.
