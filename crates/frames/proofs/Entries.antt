@@ -1,5 +1,6 @@
 -- From the parts of the columns to the message: what is read and packed by them is what the book's message says. Assumes nothing.
 use mathlib.Core.Path.{_≡_, refl, sym, ap, _∙_}
+use mathlib.Core.Bool.{true, false}
 use mathlib.Core.List.{List}
 use mathlib.Core.Option.{none, some}
 use Prim.Native.Nat.{ℕ, _-_, _<_}
@@ -8,14 +9,14 @@ use borrow.Author.Tests.{eq-eqb, ne-eqb}
 use Rattle.bits.specs.Word.{wordOf, bytesOf}
 use Rattle.bits.proofs.Weights.{word-bytes}
 use Rattle.books.specs.Book.{Message}
-use Rattle.books.specs.Words.{placed, messagesOf}
+use Rattle.books.specs.Words.{placed, messagesOf, messagesTaken}
 use Rattle.framing.specs.declared.Reading.{Reading}
 use Rattle.framing.specs.declared.Reading.the-variants as Read
 use Rattle.framing.specs.declared.Packing.{Packing}
 use Rattle.framing.specs.declared.Packing.the-variants as Pack
 use Rattle.framing.specs.Messages.{frameBytes, messageOf}
-use Rattle.framing.specs.Reading.{Slices, readByMessage, readByMessages}
-use Rattle.framing.specs.Packing.{packByMessage}
+use Rattle.framing.specs.Reading.{Slices, readByMessage, readByMessages, reading}
+use Rattle.framing.specs.Packing.{packByMessage, packing}
 use Rattle.record.specs.Columns.{numbersOf, startsOf}
 use Rattle.messages.specs.Signals.{AllFit, messageFrom, Readable}
 use Rattle.messages.specs.Put.{Packable, packInto}
@@ -65,6 +66,25 @@ module _ (ms : List Message) (identifier : ℕ) (vs lent : List ℕ) where
     pub pack-known : length vs ≡ length (m .placements) → length lent ≡ frameBytes → (out : Packing × List ℕ) → out ≡ packInto m vs lent → out ≡ packByMessage (messageOf identifier ms) vs lent
     unfolding packByMessage
     pack-known e n out h = rw (f, eq-eqb (length vs) (length (m .placements)) e, eq-eqb (length lent) frameBytes n) h
+
+-- ---- the test of the book
+
+module _ (words : List ℕ) (identifier : ℕ) where
+  pub read-no-book : (frame : List ℕ) (lent : Slices) → messagesTaken words ≡ false → _≡_ {A = Reading × Slices} (Read.NotABook, lent) (reading words identifier frame lent)
+  unfolding reading
+  read-no-book frame lent e = rw e refl
+
+  pub read-book : (frame : List ℕ) (lent : Slices) (out : Reading × Slices) → messagesTaken words ≡ true → out ≡ readByMessages (messagesOf words) identifier frame lent → out ≡ reading words identifier frame lent
+  unfolding reading
+  read-book frame lent out e h = rw e h
+
+  pub pack-no-book : (vs lent : List ℕ) → messagesTaken words ≡ false → _≡_ {A = Packing × List ℕ} (Pack.NotABook, lent) (packing words identifier vs lent)
+  unfolding packing
+  pack-no-book vs lent e = rw e refl
+
+  pub pack-book : (vs lent : List ℕ) (out : Packing × List ℕ) → messagesTaken words ≡ true → out ≡ packByMessage (messageOf identifier (messagesOf words)) vs lent → out ≡ packing words identifier vs lent
+  unfolding packing
+  pack-book vs lent out e h = rw e h
 
 -- ---- the parts of the columns
 

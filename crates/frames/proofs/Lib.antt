@@ -1,2 +1,3 @@
 pub mod Lookups
 pub mod Entries
+pub mod OneOutcome

@@ -1,63 +1,27 @@
-// Reading and packing a frame by a lent book.
-
+// Reading and packing a frame by a lent book. `read` and `pack` are the calls for users: they have no `requires`, and whatever book,
+// identifier, frame, values and room are lent, they say what they answer and what every lent entry holds then (framing's specs/Reading
+// and specs/Packing). The others are for callers in this repository that have tested the book themselves.
 mod lookup;
+mod tested;
 
 use framing::Packing;
 use framing::Reading;
-use lookup::Found;
-use lookup::find_message;
-use messages::pack_message;
-use messages::read_message;
 use record::BOOK_WORDS;
+pub use tested::pack_tested;
+pub use tested::read_tested;
+pub use tested::read_word;
 ghost use mathlib.Core.Path.{_≡_};
-ghost use mathlib.Core.Bool.{true};
 ghost use mathlib.Core.List.{List};
 ghost use Prim.Native.Nat.{ℕ};
-ghost use Rattle.bits.specs.Word.{bytesOf};
-ghost use Rattle.books.specs.Words.{messagesOf, messagesTaken};
 ghost use Rattle.framing.specs.declared.Reading.{Reading};
 ghost use Rattle.framing.specs.declared.Packing.{Packing};
-ghost use Rattle.framing.specs.Messages.{messageOf};
-ghost use Rattle.framing.specs.Reading.{Slices, readByMessage, readByMessages};
-ghost use Rattle.framing.specs.Packing.{packByMessage};
+ghost use Rattle.framing.specs.Reading.{Slices, reading};
+ghost use Rattle.framing.specs.Packing.{packing};
 
-const FRAME_BYTES: usize = 8;
-
-// A frame of 8 bytes, given as its word (byte 0 lowest), read by a book whose messages have been tested: for a caller that reads
-// many frames by one book.
-pub fn read_word(
-    book: &[u32; BOOK_WORDS],
-    identifier: u32,
-    word: u64,
-    raws: &mut [u32],
-    classes: &mut [u8],
-    thousandths: &mut [i64],
-) -> Reading
-    requires { ⌜ messagesTaken (now book) ≡ true ⌝ }
-    ensures { λ r. ⌜ _≡_ {A = Reading × Slices} (r, record { raws = now (raws .exit); classes = now (classes .exit); thousandths = now (thousandths .exit) })
-        (readByMessage (messageOf identifier (messagesOf (now (book .entry)))) (bytesOf word)
-        (record { raws = now (raws .entry); classes = now (classes .entry); thousandths = now (thousandths .entry) })) ⌝ }
-{
-    match find_message(book, identifier) {
-        Found::Nothing => Reading::UnknownIdentifier,
-        Found::Signals(from, to) => {
-            let numbers = record::numbers(book);
-            let starts = record::starts(book);
-            read_message(
-                identifier,
-                word,
-                &numbers[from..to],
-                &starts[from..to],
-                raws,
-                classes,
-                thousandths,
-            )
-        }
-    }
-}
-
-// A frame read by a book whose messages have been tested.
-pub fn read_tested(
+// Reads a frame: the raw count, class code and thousandths of each placement, in the order of the S lines, from the front of the three
+// slices; the answer says how many. A refusal leaves the slices as they were: no book of the record's tables, a frame that is not 8
+// bytes, an identifier that the book lacks, a wrong checksum where the message places one, a slice shorter than the placements.
+pub fn read(
     book: &[u32; BOOK_WORDS],
     identifier: u32,
     frame: &[u8],
@@ -65,53 +29,25 @@ pub fn read_tested(
     classes: &mut [u8],
     thousandths: &mut [i64],
 ) -> Reading
-    requires { ⌜ messagesTaken (now book) ≡ true ⌝ }
     ensures { λ r. ⌜ _≡_ {A = Reading × Slices} (r, record { raws = now (raws .exit); classes = now (classes .exit); thousandths = now (thousandths .exit) })
-        (readByMessages (messagesOf (now (book .entry))) identifier (now (frame .entry))
+        (reading (now (book .entry)) identifier (now (frame .entry))
         (record { raws = now (raws .entry); classes = now (classes .entry); thousandths = now (thousandths .entry) })) ⌝ }
 {
-    if frame.len() != FRAME_BYTES {
-        return Reading::NotEightBytes;
+    if !tables::messages_taken(book) {
+        return Reading::NotABook;
     }
-    read_word(
-        book,
-        identifier,
-        bits::load(frame),
-        raws,
-        classes,
-        thousandths,
-    )
+    read_tested(book, identifier, frame, raws, classes, thousandths)
 }
 
-// Values packed by a book whose messages have been tested.
-pub fn pack_tested(
-    book: &[u32; BOOK_WORDS],
-    identifier: u32,
-    values: &[u32],
-    frame: &mut [u8],
-) -> Packing
-    requires { ⌜ messagesTaken (now book) ≡ true ⌝ }
-    ensures { λ r. ⌜ _≡_ {A = Packing × List ℕ} (r, now (frame .exit))
-        (packByMessage (messageOf identifier (messagesOf (now (book .entry)))) (now (values .entry)) (now (frame .entry))) ⌝ }
+// Packs raw counts, one for each placement in the order of the S lines, into a lent frame of 8 bytes; what is given for 503 is ignored,
+// and its count is filled in last. Every other bit is 1. A refusal leaves the frame as it was: no book of the record's tables, an
+// identifier that the book lacks, another count of values than of placements, a frame that is not 8 bytes, and at the first bad position
+// a count too wide for its signal, or reserved or outside.
+pub fn pack(book: &[u32; BOOK_WORDS], identifier: u32, values: &[u32], frame: &mut [u8]) -> Packing
+    ensures { λ r. ⌜ _≡_ {A = Packing × List ℕ} (r, now (frame .exit)) (packing (now (book .entry)) identifier (now (values .entry)) (now (frame .entry))) ⌝ }
 {
-    match find_message(book, identifier) {
-        Found::Nothing => Packing::UnknownIdentifier,
-        Found::Signals(from, to) => {
-            if values.len() != to - from {
-                return Packing::WrongCountOfValues;
-            }
-            if frame.len() != FRAME_BYTES {
-                return Packing::NotEightBytes;
-            }
-            let numbers = record::numbers(book);
-            let starts = record::starts(book);
-            pack_message(
-                identifier,
-                &numbers[from..to],
-                &starts[from..to],
-                values,
-                frame,
-            )
-        }
+    if !tables::messages_taken(book) {
+        return Packing::NotABook;
     }
+    pack_tested(book, identifier, values, frame)
 }

@@ -1,4 +1,4 @@
--- `frames::read_word` meets its contract: the parts of the columns that were found are the message of the identifier.
+-- `frames::tested::read_word` meets its contract: the parts of the columns that were found are the message of the identifier.
 -- Assumes nothing.
 use mathlib.Core.Path.{subst}
 use native.Mathlib.Omega.{arith}
@@ -8,8 +8,8 @@ use Rattle.frames.specs.Lookup.{Finds, Spans}
 use Rattle.frames.specs.declared.lookup.Found.{Found}
 use Rattle.frames.proofs.Entries.{found, readable, read-unknown, read-known}
 use borrow.Author.Needs.{needs}
-use Rattle.frames.proofs.read_word.Statement.{statement}
-use Rattle.frames.proofs.read_word.Tie as tie
+use Rattle.frames.proofs.tested.read_word.Statement.{statement}
+use Rattle.frames.proofs.tested.read_word.Tie as tie
 
 -- what was found, once the match has bound it
 spans : (c : tie.After-from) → Spans (c .before .before .before .before .before .args .book .now) (c .before .before .before .before .before .args .identifier) (c .from .given .0 .0) (c .from .given .0 .1 .0)

@@ -1,12 +1,12 @@
--- `frames::read_tested` meets its contract: the bytes of the word are the frame.
+-- `frames::tested::read_tested` meets its contract: the bytes of the word are the frame.
 -- Assumes nothing.
 use Prim.Native.Nat.{ℕ, _<_}
 use lib.ListN.{getD}
 use Rattle.books.specs.Words.{messagesOf}
 use Rattle.frames.proofs.Entries.{read-short, read-eight}
 use borrow.Author.Needs.{needs}
-use Rattle.frames.proofs.read_tested.Statement.{statement}
-use Rattle.frames.proofs.read_tested.Tie as tie
+use Rattle.frames.proofs.tested.read_tested.Statement.{statement}
+use Rattle.frames.proofs.tested.read_tested.Tie as tie
 
 returns : tie.Need-returns
 returns c = let a = c .before .before .before .before .args in

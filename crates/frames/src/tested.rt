@@ -1,0 +1,114 @@
+// Reading and packing by a book whose message and signal tables have been tested: for callers that use one book for many frames.
+use crate::lookup::Found;
+use crate::lookup::find_message;
+use framing::Packing;
+use framing::Reading;
+use messages::pack_message;
+use messages::read_message;
+use record::BOOK_WORDS;
+ghost use mathlib.Core.Path.{_≡_};
+ghost use mathlib.Core.Bool.{true};
+ghost use mathlib.Core.List.{List};
+ghost use Prim.Native.Nat.{ℕ};
+ghost use Rattle.bits.specs.Word.{bytesOf};
+ghost use Rattle.books.specs.Words.{messagesOf, messagesTaken};
+ghost use Rattle.framing.specs.declared.Reading.{Reading};
+ghost use Rattle.framing.specs.declared.Packing.{Packing};
+ghost use Rattle.framing.specs.Messages.{messageOf};
+ghost use Rattle.framing.specs.Reading.{Slices, readByMessage, readByMessages};
+ghost use Rattle.framing.specs.Packing.{packByMessage};
+
+const FRAME_BYTES: usize = 8;
+
+// A frame of 8 bytes, given as its word (byte 0 lowest), read by a book whose messages have been tested: for a caller that reads
+// many frames by one book.
+pub fn read_word(
+    book: &[u32; BOOK_WORDS],
+    identifier: u32,
+    word: u64,
+    raws: &mut [u32],
+    classes: &mut [u8],
+    thousandths: &mut [i64],
+) -> Reading
+    requires { ⌜ messagesTaken (now book) ≡ true ⌝ }
+    ensures { λ r. ⌜ _≡_ {A = Reading × Slices} (r, record { raws = now (raws .exit); classes = now (classes .exit); thousandths = now (thousandths .exit) })
+        (readByMessage (messageOf identifier (messagesOf (now (book .entry)))) (bytesOf word)
+        (record { raws = now (raws .entry); classes = now (classes .entry); thousandths = now (thousandths .entry) })) ⌝ }
+{
+    match find_message(book, identifier) {
+        Found::Nothing => Reading::UnknownIdentifier,
+        Found::Signals(from, to) => {
+            let numbers = record::numbers(book);
+            let starts = record::starts(book);
+            read_message(
+                identifier,
+                word,
+                &numbers[from..to],
+                &starts[from..to],
+                raws,
+                classes,
+                thousandths,
+            )
+        }
+    }
+}
+
+// A frame read by a book whose messages have been tested.
+pub fn read_tested(
+    book: &[u32; BOOK_WORDS],
+    identifier: u32,
+    frame: &[u8],
+    raws: &mut [u32],
+    classes: &mut [u8],
+    thousandths: &mut [i64],
+) -> Reading
+    requires { ⌜ messagesTaken (now book) ≡ true ⌝ }
+    ensures { λ r. ⌜ _≡_ {A = Reading × Slices} (r, record { raws = now (raws .exit); classes = now (classes .exit); thousandths = now (thousandths .exit) })
+        (readByMessages (messagesOf (now (book .entry))) identifier (now (frame .entry))
+        (record { raws = now (raws .entry); classes = now (classes .entry); thousandths = now (thousandths .entry) })) ⌝ }
+{
+    if frame.len() != FRAME_BYTES {
+        return Reading::NotEightBytes;
+    }
+    read_word(
+        book,
+        identifier,
+        bits::load(frame),
+        raws,
+        classes,
+        thousandths,
+    )
+}
+
+// Values packed by a book whose messages have been tested.
+pub fn pack_tested(
+    book: &[u32; BOOK_WORDS],
+    identifier: u32,
+    values: &[u32],
+    frame: &mut [u8],
+) -> Packing
+    requires { ⌜ messagesTaken (now book) ≡ true ⌝ }
+    ensures { λ r. ⌜ _≡_ {A = Packing × List ℕ} (r, now (frame .exit))
+        (packByMessage (messageOf identifier (messagesOf (now (book .entry)))) (now (values .entry)) (now (frame .entry))) ⌝ }
+{
+    match find_message(book, identifier) {
+        Found::Nothing => Packing::UnknownIdentifier,
+        Found::Signals(from, to) => {
+            if values.len() != to - from {
+                return Packing::WrongCountOfValues;
+            }
+            if frame.len() != FRAME_BYTES {
+                return Packing::NotEightBytes;
+            }
+            let numbers = record::numbers(book);
+            let starts = record::starts(book);
+            pack_message(
+                identifier,
+                &numbers[from..to],
+                &starts[from..to],
+                values,
+                frame,
+            )
+        }
+    }
+}
