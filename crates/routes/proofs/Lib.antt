@@ -2,4 +2,5 @@ pub mod Front
 pub mod Taken
 pub mod Gathering
 pub mod Decided
+pub mod Listed
 pub mod OneOutcome
