@@ -1,0 +1,81 @@
+-- What the lister prints is what reading answers: the number of a refusal, or a line for each reading, of the same class.
+-- Assumes nothing.
+use mathlib.Core.Path.{_≡_, refl, sym, ap, _∙_}
+use mathlib.Core.Bool.{Bool, true, false, cond}
+use mathlib.Core.List.{List}
+use mathlib.Core.Option.{Option, none, some}
+use Prim.Native.Nat.{ℕ}
+use native.Mathlib.Omega.{arith}
+use lib.Dec.{eqb, leb}
+use lib.ListN.{length}
+use Rattle.books.specs.Book.{Placement, Message}
+use Rattle.framing.specs.declared.Reading.{Reading}
+use Rattle.framing.specs.declared.Reading.the-variants.{Read, NotABook, NotEightBytes, UnknownIdentifier, WrongChecksum, TooLittleRoom}
+use Rattle.framing.specs.Messages.{frameBytes, messageOf}
+use Rattle.framing.specs.Reading.{Slices, readingNumber, checksumHolds, room, readings, readByMessage, readByMessages}
+use Rattle.signal_lines.specs.Printed.{refusedLine}
+use Rattle.listing.specs.Printout.{signalLines, messageLines, frameListing}
+
+-- the refusals of a frame; room is not asked in a listing
+abbrev pub Refuses : Reading → Type 0
+Refuses (Read n) = ⊥
+Refuses NotABook = ⊥
+Refuses NotEightBytes = Unit
+Refuses UnknownIdentifier = Unit
+Refuses WrongChecksum = Unit
+Refuses TooLittleRoom = ⊥
+
+-- a frame that reading gives readings of
+pub record ListedAsRead (ms : List Message) (identifier : ℕ) (bytes : List ℕ) (lent : Slices) : Type 0 where
+  pub message : Message
+  pub found : messageOf identifier ms ≡ some message
+  pub printed : frameListing ms identifier bytes ≡ signalLines identifier bytes (message .placements)
+  pub read : readByMessages ms identifier bytes lent .1 ≡ readings bytes (message .placements) lent
+
+module _ (identifier : ℕ) (bytes : List ℕ) (lent : Slices) where
+  by-message : (o : Option Message) → Refuses (readByMessage o bytes lent .0)
+      → messageLines identifier bytes o ≡ refusedLine identifier (readingNumber (readByMessage o bytes lent .0))
+  unfolding readByMessage messageLines
+  by-message none r = refl
+  by-message (some m) r = go (checksumHolds m bytes) (leb (length (m .placements)) (room lent)) r
+    where
+      go : (b c : Bool)
+          → Refuses (cond {A = Reading × Slices} b (cond {A = Reading × Slices} c (Read (length (m .placements)), readings bytes (m .placements) lent) (TooLittleRoom, lent)) (WrongChecksum, lent) .0)
+          → cond b (signalLines identifier bytes (m .placements)) (refusedLine identifier (readingNumber WrongChecksum))
+          ≡ refusedLine identifier (readingNumber (cond {A = Reading × Slices} b (cond {A = Reading × Slices} c (Read (length (m .placements)), readings bytes (m .placements) lent) (TooLittleRoom, lent)) (WrongChecksum, lent) .0))
+      go true true r = absurd r
+      go true false r = absurd r
+      go false c r = refl
+
+  -- a refused frame gives the number of the refusal
+  pub refused-as-read : (ms : List Message) → Refuses (readByMessages ms identifier bytes lent .0)
+      → frameListing ms identifier bytes ≡ refusedLine identifier (readingNumber (readByMessages ms identifier bytes lent .0))
+  unfolding readByMessages frameListing
+  refused-as-read ms r = go (eqb (length bytes) frameBytes) r
+    where
+      go : (b : Bool) → Refuses (cond {A = Reading × Slices} b (readByMessage (messageOf identifier ms) bytes lent) (NotEightBytes, lent) .0)
+          → cond b (messageLines identifier bytes (messageOf identifier ms)) (refusedLine identifier (readingNumber NotEightBytes))
+          ≡ refusedLine identifier (readingNumber (cond {A = Reading × Slices} b (readByMessage (messageOf identifier ms) bytes lent) (NotEightBytes, lent) .0))
+      go true r = by-message (messageOf identifier ms) r
+      go false r = refl
+
+module _ (ms : List Message) (identifier : ℕ) (bytes : List ℕ) (lent : Slices) where
+  -- and a frame that is read gives a line for each reading
+  pub listed-as-read : (n : ℕ) → readByMessages ms identifier bytes lent .0 ≡ Read n → ListedAsRead ms identifier bytes lent
+  unfolding readByMessages readByMessage frameListing messageLines
+  listed-as-read n e = long (eqb (length bytes) frameBytes) refl e
+    where
+      read : (m : Message) (b c : Bool) → eqb (length bytes) frameBytes ≡ true → messageOf identifier ms ≡ some m → checksumHolds m bytes ≡ b → leb (length (m .placements)) (room lent) ≡ c
+          → cond {A = Reading × Slices} b (cond {A = Reading × Slices} c (Read (length (m .placements)), readings bytes (m .placements) lent) (TooLittleRoom, lent)) (WrongChecksum, lent) .0 ≡ Read n
+          → ListedAsRead ms identifier bytes lent
+      read m true true x y z w e = record { message = m; found = y; printed = rw (x, y, z); read = rw (x, y, z, w) }
+      read m true false x y z w e = absurd (let q : _≡_ {A = ℕ} 0 1 = cc in omega arith)
+      read m false c x y z w e = absurd (let q : _≡_ {A = ℕ} 0 1 = cc in omega arith)
+
+      known : (o : Option Message) → eqb (length bytes) frameBytes ≡ true → messageOf identifier ms ≡ o → readByMessage o bytes lent .0 ≡ Read n → ListedAsRead ms identifier bytes lent
+      known none x y e = absurd (let q : _≡_ {A = ℕ} 0 1 = cc in omega arith)
+      known (some m) x y e = read m (checksumHolds m bytes) (leb (length (m .placements)) (room lent)) x y refl refl e
+
+      long : (b : Bool) → eqb (length bytes) frameBytes ≡ b → cond {A = Reading × Slices} b (readByMessage (messageOf identifier ms) bytes lent) (NotEightBytes, lent) .0 ≡ Read n → ListedAsRead ms identifier bytes lent
+      long true x e = known (messageOf identifier ms) x refl e
+      long false x e = absurd (let q : _≡_ {A = ℕ} 0 1 = cc in omega arith)

@@ -1,0 +1,43 @@
+-- A printout at its place, or that it does not fit. Assumes nothing.
+use mathlib.Core.Path.{_≡_, refl, sym, ap, _∙_}
+use mathlib.Core.Bool.{cond}
+use mathlib.Core.List.{List, [], _∷_, _++_, append-assoc}
+use Prim.Native.Nat.{ℕ, _+_, _-_, _≤_, _<_}
+use native.Mathlib.Nat.{zero-add}
+use native.Mathlib.Omega.{arith}
+use lib.Dec.{leb}
+use lib.ListN.{length, take, drop}
+use lib.Seq.{sets, sets-eq, take-at, length-sets}
+use borrow.Author.Tests.{le-leb, lt-leb}
+use Rattle.printing.specs.Put.{Put, PutWithin}
+use Rattle.printing.proofs.Puts.{put-as}
+use Rattle.listing.specs.declared.Fitted.{Fitted}
+use Rattle.listing.specs.declared.Fitted.the-variants.{Next, NoRoom}
+use Rattle.listing.specs.Working.{longest, fitted}
+
+-- a text that stands at the front of a list is its first part
+pub front : {old : List ℕ} {text new : List ℕ} {n : ℕ} → Put old 0 text new n → length text ≤ length old → take n new ≡ text
+front {old} {text} {new} {n} p h =
+    ap (take n) (p .now-there ∙ sets-eq text old 0 (omega arith)) ∙ take-at text (drop (0 + length text) old) n (omega (arith, p .now-at))
+
+module _ (out : List ℕ) (at : ℕ) (text : List ℕ) where
+  pub fits : length text ≤ length out - at → {new : List ℕ} {next : ℕ} → Put out at text new next → _≡_ {A = Fitted × List ℕ} (Next next, new) (fitted out at text)
+  unfolding fitted
+  fits h {new} {next} p = rw (le-leb (length text) (length out - at) h, ← p .now-at, ← p .now-there)
+
+  too-long : length out - at < length text → _≡_ {A = Fitted × List ℕ} (NoRoom, out) (fitted out at text)
+  unfolding fitted
+  too-long h = rw (lt-leb (length text) (length out - at) h)
+
+  -- a printout that was written aside first
+  module _ {zeros aside : List ℕ} {n : ℕ} (p : PutWithin zeros 0 longest text aside n) where
+    pub aside-too-long : length out - at < n → _≡_ {A = Fitted × List ℕ} (NoRoom, out) (fitted out at text)
+    aside-too-long h = too-long (omega (arith, p .put .now-at))
+
+    module _ (z : length zeros ≡ longest) where
+      pub copied : n ≤ length out - at → {new : List ℕ} {next : ℕ} → Put out at (take n aside) new next → _≡_ {A = Fitted × List ℕ} (Next next, new) (fitted out at text)
+      copied h q = fits (omega (arith, p .put .now-at)) (put-as (front (p .put) (omega (arith, p .short))) q)
+
+-- as long as it says
+pub aside-long : {zeros text aside : List ℕ} {n : ℕ} → PutWithin zeros 0 longest text aside n → length zeros ≡ longest → n ≡ length (take n aside)
+aside-long {zeros} {text} {aside} {n} p z = omega (arith, ap length (front (p .put) (omega (arith, p .short))), p .put .now-at)

@@ -1,0 +1,6 @@
+pub mod Walking
+pub mod Bridge
+pub mod Fits
+pub mod Running
+pub mod AsRead
+pub mod OneOutcome

@@ -1,0 +1,3 @@
+pub mod Printout
+pub mod Listing
+pub mod Working

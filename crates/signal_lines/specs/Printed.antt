@@ -1,0 +1,28 @@
+-- The lines that the lister prints: fields parted by tabs, ended by a newline. Assumes nothing.
+use mathlib.Core.List.{List, [], _∷_, _++_}
+use Prim.Native.Nat.{ℕ}
+use Rattle.catalogue.specs.declared.Class.{Class}
+use Rattle.numerals.specs.Written.{identifierText}
+use Rattle.parts.specs.Parts.{tab, newline}
+use Rattle.parts.specs.Joined.{join}
+use Rattle.printing.specs.Decimal.{naturalText}
+use Rattle.signal_lines.specs.Words.{noWord, wordOf, figureOf}
+
+unfoldable pub printedLine : List (List ℕ) → List ℕ
+printedLine fields = join tab fields ++ (newline ∷ [])
+
+-- "Each signal gives identifier, number, class word, and the thousandths of a value or the raw count of any other class."
+abbrev pub signalLine : ℕ → ℕ → Class → List ℕ
+signalLine identifier number class =
+    printedLine (identifierText identifier ∷ naturalText number ∷ wordOf class ∷ figureOf class ∷ [])
+
+-- "A refused frame gives identifier, `no`, number"
+abbrev pub refusedLine : ℕ → ℕ → List ℕ
+refusedLine identifier refusal = printedLine (identifierText identifier ∷ noWord ∷ naturalText refusal ∷ [])
+
+-- "an ill-formed line gives" `no`, 20
+abbrev pub illFormed : ℕ
+illFormed = 20
+
+abbrev pub illFormedLine : List ℕ
+illFormedLine = printedLine (noWord ∷ naturalText illFormed ∷ [])

@@ -1,0 +1,50 @@
+-- "The words are `value`, `invalid`, `absent`, `error`, `reserved`, `outside`": one for each class. Assumes nothing.
+use mathlib.Core.List.{List, [], _∷_}
+use Prim.Native.Nat.{ℕ}
+use Rattle.catalogue.specs.declared.Class.{Class}
+use Rattle.catalogue.specs.declared.Class.the-variants.{Value, Invalid, Absent, Error, Reserved, Outside, NotInCatalogue, TooWide}
+use Rattle.printing.specs.Decimal.{naturalText, signedText}
+
+abbrev pub valueWord : List ℕ
+valueWord = 118 ∷ 97 ∷ 108 ∷ 117 ∷ 101 ∷ []
+
+abbrev pub invalidWord : List ℕ
+invalidWord = 105 ∷ 110 ∷ 118 ∷ 97 ∷ 108 ∷ 105 ∷ 100 ∷ []
+
+abbrev pub absentWord : List ℕ
+absentWord = 97 ∷ 98 ∷ 115 ∷ 101 ∷ 110 ∷ 116 ∷ []
+
+abbrev pub errorWord : List ℕ
+errorWord = 101 ∷ 114 ∷ 114 ∷ 111 ∷ 114 ∷ []
+
+abbrev pub reservedWord : List ℕ
+reservedWord = 114 ∷ 101 ∷ 115 ∷ 101 ∷ 114 ∷ 118 ∷ 101 ∷ 100 ∷ []
+
+abbrev pub outsideWord : List ℕ
+outsideWord = 111 ∷ 117 ∷ 116 ∷ 115 ∷ 105 ∷ 100 ∷ 101 ∷ []
+
+-- the word of a refusal
+abbrev pub noWord : List ℕ
+noWord = 110 ∷ 111 ∷ []
+
+-- the word of a class; a signal that a book places is in the catalogue and its count is no wider, so the last two have none
+abbrev pub wordOf : Class → List ℕ
+wordOf (Value t) = valueWord
+wordOf (Invalid r) = invalidWord
+wordOf (Absent r) = absentWord
+wordOf (Error r) = errorWord
+wordOf (Reserved r) = reservedWord
+wordOf (Outside r) = outsideWord
+wordOf NotInCatalogue = []
+wordOf TooWide = []
+
+-- "the thousandths of a value or the raw count of any other class"
+abbrev pub figureOf : Class → List ℕ
+figureOf (Value t) = signedText (t .0)
+figureOf (Invalid r) = naturalText (r .0)
+figureOf (Absent r) = naturalText (r .0)
+figureOf (Error r) = naturalText (r .0)
+figureOf (Reserved r) = naturalText (r .0)
+figureOf (Outside r) = naturalText (r .0)
+figureOf NotInCatalogue = []
+figureOf TooWide = []

@@ -1,0 +1,94 @@
+// The lines that the lister prints, into a lent slice at a place: one signal's reading, a refused frame, an ill-formed line. Each
+// function asks for LINE_ROOM bytes, writes just its line, and answers the place after it; crate `listing` calls them.
+use catalogue::Class;
+use catalogue::Thousandths;
+use printing::put_byte;
+use printing::put_bytes;
+use printing::put_natural;
+use printing::put_signed;
+use writing::put_identifier;
+ghost use mathlib.Core.List.{[], _∷_};
+ghost use Prim.Native.Nat.{_+_, _≤_};
+ghost use lib.ListN.{length};
+ghost use Rattle.printing.specs.Put.{PutWithin};
+ghost use Rattle.printing.specs.Decimal.{naturalText};
+ghost use Rattle.signal_lines.specs.Words.{wordOf, figureOf};
+ghost use Rattle.signal_lines.specs.Printed.{printedLine, signalLine, refusedLine, illFormedLine};
+
+const TAB: u8 = b'\t';
+
+const NEWLINE: u8 = b'\n';
+
+const ILL_FORMED: u32 = 20;
+
+// No line is longer.
+pub const LINE_ROOM: usize = 64;
+
+// A word and a number, the end of a line.
+fn put_count(out: &mut [u8], at: usize, word: &[u8], count: u32) -> usize
+    requires { ⌜ (at + 34 ≤ length (now out)) × (length (now word) ≤ 12) ⌝ }
+    ensures { λ r. ⌜ PutWithin (now (out .entry)) at 34 (printedLine (now (word .entry) ∷ naturalText count ∷ [])) (now (out .exit)) r ⌝ }
+{
+    let after_word = put_bytes(&mut *out, at, word);
+    let number = put_byte(&mut *out, after_word, TAB);
+    let end = put_natural(&mut *out, number, count as u64);
+    put_byte(&mut *out, end, NEWLINE)
+}
+
+// The word and the thousandths of a value.
+fn put_value(out: &mut [u8], at: usize, reading: Thousandths) -> usize
+    requires { ⌜ at + 34 ≤ length (now out) ⌝ }
+    ensures { λ r. ⌜ PutWithin (now (out .entry)) at 34 (printedLine (wordOf (Class.Value reading) ∷ figureOf (Class.Value reading) ∷ [])) (now (out .exit)) r ⌝ }
+{
+    let after_word = put_bytes(&mut *out, at, b"value");
+    let number = put_byte(&mut *out, after_word, TAB);
+    let end = put_signed(&mut *out, number, reading.0);
+    put_byte(&mut *out, end, NEWLINE)
+}
+
+// The word of a class, and its thousandths or count.
+fn put_class(out: &mut [u8], at: usize, class: Class) -> usize
+    requires { ⌜ at + 34 ≤ length (now out) ⌝ }
+    ensures { λ r. ⌜ PutWithin (now (out .entry)) at 34 (printedLine (wordOf class ∷ figureOf class ∷ [])) (now (out .exit)) r ⌝ }
+{
+    match class {
+        Class::Value(reading) => put_value(out, at, reading),
+        Class::Invalid(raw) => put_count(out, at, b"invalid", raw.0),
+        Class::Absent(raw) => put_count(out, at, b"absent", raw.0),
+        Class::Error(raw) => put_count(out, at, b"error", raw.0),
+        Class::Reserved(raw) => put_count(out, at, b"reserved", raw.0),
+        Class::Outside(raw) => put_count(out, at, b"outside", raw.0),
+        Class::NotInCatalogue => put_bytes(out, at, b"\t\n"),
+        Class::TooWide => put_bytes(out, at, b"\t\n"),
+    }
+}
+
+// One signal's reading.
+pub fn put_signal(out: &mut [u8], at: usize, identifier: u32, number: u32, class: Class) -> usize
+    requires { ⌜ at + 64 ≤ length (now out) ⌝ }
+    ensures { λ r. ⌜ PutWithin (now (out .entry)) at 64 (signalLine identifier number class) (now (out .exit)) r ⌝ }
+{
+    let after_identifier = put_identifier(&mut *out, at, identifier);
+    let second = put_byte(&mut *out, after_identifier, TAB);
+    let after_number = put_natural(&mut *out, second, number as u64);
+    let third = put_byte(&mut *out, after_number, TAB);
+    put_class(&mut *out, third, class)
+}
+
+// A refused frame.
+pub fn put_refused(out: &mut [u8], at: usize, identifier: u32, refusal: u32) -> usize
+    requires { ⌜ at + 64 ≤ length (now out) ⌝ }
+    ensures { λ r. ⌜ PutWithin (now (out .entry)) at 64 (refusedLine identifier refusal) (now (out .exit)) r ⌝ }
+{
+    let after_identifier = put_identifier(&mut *out, at, identifier);
+    let second = put_byte(&mut *out, after_identifier, TAB);
+    put_count(&mut *out, second, b"no", refusal)
+}
+
+// An ill-formed line.
+pub fn put_ill_formed(out: &mut [u8], at: usize) -> usize
+    requires { ⌜ at + 64 ≤ length (now out) ⌝ }
+    ensures { λ r. ⌜ PutWithin (now (out .entry)) at 64 illFormedLine (now (out .exit)) r ⌝ }
+{
+    put_count(out, at, b"no", ILL_FORMED)
+}
