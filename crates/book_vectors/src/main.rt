@@ -1,0 +1,68 @@
+// Checks the route books on standard input, one after the other. Each is its length in eight hex digits and a newline, its bytes,
+// and a newline. Each gives the book checker's line.
+use libc::STDIN_FILENO;
+use libc::STDOUT_FILENO;
+use numerals::Number;
+use parts::part_before;
+
+const MOST_BOOKS: u32 = 1000000;
+
+// Room for the longest text, some bytes over the limit, and its newline.
+const ROOM: usize = 32801;
+
+fn hex(digits: &[u8]) -> u32 {
+    match numerals::read_identifier(digits) {
+        Number::Is(n) => n,
+        Number::Not => 0,
+    }
+}
+
+// The length that a book's first line says; none for a line that is too short.
+fn size_in(head: &[u8]) -> usize {
+    if head.len() < 8 {
+        return ROOM;
+    }
+    hex(part_before(head, 8)) as usize
+}
+
+// The front of a line.
+fn send(line: &[u8], length: usize) {
+    if length <= line.len() {
+        io::write_all(STDOUT_FILENO, part_before(line, length));
+    }
+}
+
+// The book that is the front of the text.
+fn check(text: &[u8], size: usize) {
+    if size <= text.len() {
+        let mut words = [0u32; record::BOOK_WORDS];
+        let answer = book::read(part_before(text, size), &mut words);
+        let mut line = [0u8; answer_line::LINE_ROOM];
+        let length = answer_line::print(answer, &mut line);
+        send(&line, length);
+    }
+}
+
+fn fill(text: &mut [u8], size: usize) {
+    if size <= text.len() {
+        io::read_full(STDIN_FILENO, &mut text[..size]);
+    }
+}
+
+fn main() {
+    let mut head = [0u8; 9];
+    let mut text = [0u8; ROOM];
+    let mut books: u32 = 0;
+    while books < MOST_BOOKS {
+        books += 1;
+        if io::read_full(STDIN_FILENO, &mut head) < 9 {
+            return;
+        }
+        let size = size_in(&head);
+        if size >= ROOM {
+            return;
+        }
+        fill(&mut text, size + 1);
+        check(&text, size);
+    }
+}
