@@ -5,7 +5,7 @@ use Prim.Native.Nat.{ℕ, _<_}
 use native.Mathlib.Decide.{ℕ-discrete}
 use mathlib.Core.List.{List, [], _∷_, _++_, append-cancel-left, head-eq-of-cons-eq, tail-eq-of-cons-eq}
 use lib.ListN.{length, getD}
-use Rattle.chains.specs.Chain.{Walk, LoopFree, Doubling, BeginsDoubling}
+use Rattle.chains.specs.Chain.{Walk, LoopFree, BeginsDoubling}
 use Rattle.chains.proofs.Walks.{walk-append, chain-walk}
 use Rattle.chains.proofs.Reach.{Onward}
 

@@ -1,14 +1,14 @@
 -- Closed chains, and what a table without one has. Assumes nothing.
-use mathlib.Core.Path.{_≡_, refl, sym, _∙_, subst}
+use mathlib.Core.Path.{_≡_, refl, subst}
 use mathlib.Core.Bool.{Bool, true, false}
 use Prim.Native.Nat.{ℕ, _≤_, _<_}
 use native.Mathlib.Omega.{arith}
 use mathlib.Core.List.{List, [], _∷_, _++_, List·Memᴰ, List·Memᴰ·head}
 use lib.ListN.{length, getD}
-use Rattle.chains.specs.Chain.{Walk, Closed, OnClosed, LoopFree}
+use Rattle.chains.specs.Chain.{Walk, OnClosed, LoopFree}
 use Rattle.chains.specs.Spread.{Distinct}
 use Rattle.chains.proofs.Walks.{walk-append, through, chain-walk}
-use Rattle.chains.proofs.Reach.{reach, Onward, reach-walk, walk-reach}
+use Rattle.chains.proofs.Reach.{reach, reach-walk, walk-reach}
 use Rattle.chains.proofs.Pigeons.{below-length}
 
 pub true-false : {b : Bool} → b ≡ true → b ≡ false → ⊥

@@ -9,8 +9,8 @@ use native.Mathlib.Omega.{arith}
 use mathlib.Core.List.{List, [], _∷_, _++_, List·Memᴰ, List·Memᴰ·head, List·Memᴰ·tail, List·Memᴰ·not-nil, List·Memᴰ·cases-cons, List·Memᴰ·append-cases, Memᴰ·append-left, Memᴰ·append-right, head-eq-of-cons-eq}
 use lib.ListN.{length, getD}
 use lib.Dec.{eqb}
-use borrow.Author.Tests.{eqb-true, eqb-false, eq-eqb, ne-eqb}
-use Rattle.chains.specs.Chain.{Walk, Chain, LoopFree, Doubling, Single}
+use borrow.Author.Tests.{eqb-true, eqb-false, ne-eqb}
+use Rattle.chains.specs.Chain.{Walk, Chain, LoopFree, Single}
 use Rattle.chains.specs.Spread.{pick, Distinct, sendsAlong, Rule, spreadWithin, spreadOf}
 use Rattle.chains.proofs.Walks.{walk-end, chain-walk}
 use Rattle.chains.proofs.Pigeons.{pigeons}

@@ -5,9 +5,11 @@ ghost use mathlib.Core.Path.{_≡_};
 ghost use mathlib.Core.Bool.{true};
 ghost use Prim.Native.Nat.{_+_, _<_, _≤_};
 ghost use lib.ListN.{length};
+ghost use Rattle.masks.specs.Bit.{width};
 ghost use Rattle.chains.specs.Chain.{LoopFree, Single};
 ghost use Rattle.chains.proofs.Marks.{Marked};
-ghost use Rattle.marks.specs.Numbers.{slotOf, numberFrom, numberIn, marksIn};
+ghost use Rattle.marks.specs.Numbers.{slotOf, numberIn, marksIn};
+use masks::WIDTH;
 
 // How many slots places are spread over, and what a place without a number has.
 const SLOTS: usize = 256;
@@ -58,7 +60,7 @@ fn marked(froms: &[u32], tos: &[u32], slots: &[u8], keys: &[u32], masks: &[u64])
     while j < froms.len() {
         let start = number(slots, keys, froms[j]);
         let end = number(slots, keys, tos[j]);
-        if end >= 64 {
+        if end >= WIDTH {
             return false;
         }
         let beyond = masks[end];
@@ -136,7 +138,7 @@ fn hand(starts: &[u8], ends: &[u8], j: usize, masks: &mut [u64]) -> bool
 {
     let end = wide(ends[j]);
     let start = wide(starts[j]);
-    if end >= 64 {
+    if end >= WIDTH {
         return false;
     }
     let had = masks[start];
@@ -170,7 +172,7 @@ fn settle(starts: &[u8], ends: &[u8], n: usize, masks: &mut [u64])
     requires { ⌜ (n ≤ length (now starts)) × (n ≤ length (now ends)) × (length (now masks) ≡ 256) ⌝ }
 {
     let mut turns: usize = 0;
-    while turns < 64 {
+    while turns < WIDTH {
         if !pass(starts, ends, n, turns % 2 == 0, masks) {
             return;
         }
@@ -180,13 +182,13 @@ fn settle(starts: &[u8], ends: &[u8], n: usize, masks: &mut [u64])
 
 // Whether the table is seen to be sound.
 pub fn seen_sound(froms: &[u32], tos: &[u32]) -> bool
-    requires { ⌜ (length (now froms) ≤ 64) × (length (now froms) ≡ length (now tos)) ⌝ }
+    requires { ⌜ (length (now froms) ≤ width) × (length (now froms) ≡ length (now tos)) ⌝ }
     ensures { λ r. ⌜ (r ≡ true → LoopFree (now (froms .entry)) (now (tos .entry)) × Single (now (froms .entry)) (now (tos .entry))) ⌝ }
 {
     let mut slots = [0u8; SLOTS];
     let mut keys = [0u32; SLOTS];
-    let mut starts = [0u8; 64];
-    let mut ends = [0u8; 64];
+    let mut starts = [0u8; WIDTH];
+    let mut ends = [0u8; WIDTH];
     let mut masks = [0u64; SLOTS];
     let next = enter_all(tos, &mut slots, &mut keys, 0, &mut ends);
     enter_all(froms, &mut slots, &mut keys, next, &mut starts);

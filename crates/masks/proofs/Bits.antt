@@ -1,13 +1,13 @@
 -- How the operations on masks act on their bits. Assumes nothing.
-use mathlib.Core.Path.{_≡_, refl, sym, ap, _∙_, subst}
-use Prim.Native.Nat.{ℕ, zero, suc, _+_, _*_, _/_, _%_, _^_, _<_, max, min}
-use mathlib.Core.Bool.{Bool, true, false, not, _||_, _&&_}
-use native.Mathlib.Nat.{mod-lt, zero-lt-suc, max-comm, pow-succ', div-div-eq-div-mul, mod-eq-of-lt, one-mul, div-one}
+use mathlib.Core.Path.{_≡_, refl, sym, ap, _∙_}
+use Prim.Native.Nat.{ℕ, zero, suc, _*_, _/_, _%_, _^_, _<_, max, min}
+use mathlib.Core.Bool.{Bool, true, false, _||_, _&&_}
+use native.Mathlib.Nat.{pow-succ', div-div-eq-div-mul, mod-eq-of-lt, one-mul, div-one}
 use native.Mathlib.Omega.{arith}
 use lib.Bits.{bitOr, bitAnd, or-step, and-step, or-shr, and-shr, shifted-half, shifted-even}
 use lib.Pow.{pow-lt}
 use lib.Dec.{eqb, eqb·zero-suc, eqb·suc-zero, eqb·suc-suc}
-use borrow.Author.Tests.{eqb-true, eqb-false, eq-eqb, not-true, not-false}
+use borrow.Author.Tests.{eqb-true, eqb-false, not-true, not-false}
 use Rattle.masks.specs.Bit.{bit, meeting, contained}
 
 or-low : (a b : ℕ) → bitOr a b % 2 ≡ max (a % 2) (b % 2)

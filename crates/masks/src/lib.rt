@@ -3,11 +3,14 @@ ghost use mathlib.Core.Path.{_≡_};
 ghost use mathlib.Core.Bool.{_||_};
 ghost use Prim.Native.Nat.{ℕ, _<_};
 ghost use lib.Dec.{eqb};
-ghost use Rattle.masks.specs.Bit.{bit, meeting, contained};
+ghost use Rattle.masks.specs.Bit.{width, bit, meeting, contained};
+
+// How many numbers there are.
+pub const WIDTH: usize = 64;
 
 // Whether k is in the set.
 pub fn has(m: u64, k: u32) -> bool
-    requires { ⌜ k < 64 ⌝ }
+    requires { ⌜ k < width ⌝ }
     ensures { λ r. ⌜ r ≡ bit m k ⌝ }
 {
     (m >> k) & 1 == 1
@@ -22,7 +25,7 @@ pub fn both(a: u64, b: u64) -> u64
 
 // The set with k.
 pub fn with(m: u64, k: u32) -> u64
-    requires { ⌜ k < 64 ⌝ }
+    requires { ⌜ k < width ⌝ }
     ensures { λ r. ⌜ ((j : ℕ) → bit r j ≡ bit m j || eqb j k) ⌝ }
 {
     m | (1u64 << k)

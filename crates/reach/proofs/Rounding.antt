@@ -1,7 +1,7 @@
 -- The rounds of Warshall's rule. Assumes nothing.
-use mathlib.Core.Path.{_≡_, refl, sym, ap, _∙_, subst}
+use mathlib.Core.Path.{_≡_, refl, sym, _∙_, subst}
 use mathlib.Core.Bool.{Bool, true, false, _||_, _&&_, or-false}
-use Prim.Native.Nat.{ℕ, suc, _+_, _<_, _≤_}
+use Prim.Native.Nat.{ℕ, _+_, _<_, _≤_}
 use native.Mathlib.Omega.{arith}
 use native.Mathlib.Numerals.{add-one}
 use mathlib.Core.List.{List}
@@ -10,7 +10,7 @@ use lib.Seq.{getD-set-same, getD-set-other}
 use borrow.Author.Count.{below-more}
 use Rattle.masks.specs.Bit.{bit}
 use Rattle.chains.proofs.Reach.{reach}
-use Rattle.reach.specs.Table.{Holds, RowsOf, Round, Table}
+use Rattle.reach.specs.Table.{RowsOf, Round, Table}
 
 -- what a round makes of mask x
 abbrev Handed : ℕ → List ℕ → List ℕ → List ℕ → ℕ → Type 0

@@ -3,11 +3,12 @@
 ghost use mathlib.Core.Path.{_≡_};
 ghost use Prim.Native.Nat.{_<_, _≤_};
 ghost use lib.ListN.{length};
+ghost use Rattle.masks.specs.Bit.{width};
 ghost use Rattle.reach.specs.Table.{RowOf, RowsOf, Round, Table};
 
 // The routes of which `places` says that they start (or end) at `place`.
 fn row(places: &[u32], place: u32) -> u64
-    requires { ⌜ length (now places) ≤ 64 ⌝ }
+    requires { ⌜ length (now places) ≤ width ⌝ }
     ensures { λ r. ⌜ RowOf (now (places .entry)) place r ⌝ }
 {
     let mut r: u64 = 0;
@@ -23,7 +24,7 @@ fn row(places: &[u32], place: u32) -> u64
 
 // For each route, the row of the place it leads to.
 fn rows(places: &[u32], tos: &[u32], m: &mut [u64])
-    requires { ⌜ (length (now places) ≤ 64) × (length (now places) ≡ length (now tos)) × (length (now places) ≤ length (now m)) ⌝ }
+    requires { ⌜ (length (now places) ≤ width) × (length (now places) ≡ length (now tos)) × (length (now places) ≤ length (now m)) ⌝ }
     ensures { λ _. ⌜ RowsOf (now (places .entry)) (now (tos .entry)) (now (m .exit)) ⌝ }
 {
     let mut i: usize = 0;
@@ -35,7 +36,7 @@ fn rows(places: &[u32], tos: &[u32], m: &mut [u64])
 
 // A round of Warshall's rule: whichever route leads on to where route k starts leads on to all that route k does.
 fn round(starts: &mut [u64], ends: &mut [u64], n: usize, k: usize)
-    requires { ⌜ (k < n) × (n ≤ 64) × (n ≤ length (now starts)) × (n ≤ length (now ends)) ⌝ }
+    requires { ⌜ (k < n) × (n ≤ width) × (n ≤ length (now starts)) × (n ≤ length (now ends)) ⌝ }
     ensures { λ _. ⌜ Round n k (now (starts .entry)) (now (starts .entry)) (now (starts .exit)) × Round n k (now (starts .entry)) (now (ends .entry)) (now (ends .exit)) ⌝ }
 {
     let starts_k = starts[k];
@@ -54,7 +55,7 @@ fn round(starts: &mut [u64], ends: &mut [u64], n: usize, k: usize)
 
 // Fills both tables.
 pub fn fill(froms: &[u32], tos: &[u32], starts: &mut [u64], ends: &mut [u64])
-    requires { ⌜ (length (now froms) ≤ 64) × (length (now froms) ≡ length (now tos)) × (length (now froms) ≤ length (now starts)) × (length (now froms) ≤ length (now ends)) ⌝ }
+    requires { ⌜ (length (now froms) ≤ width) × (length (now froms) ≡ length (now tos)) × (length (now froms) ≤ length (now starts)) × (length (now froms) ≤ length (now ends)) ⌝ }
     ensures { λ _. ⌜ Table (now (froms .entry)) (now (tos .entry)) (now (froms .entry)) (length (now (froms .entry))) (now (starts .exit)) × Table (now (froms .entry)) (now (tos .entry)) (now (tos .entry)) (length (now (froms .entry))) (now (ends .exit)) ⌝ }
 {
     rows(froms, tos, starts);

@@ -1,11 +1,10 @@
 -- Each call for a spread has one answer and no other, whatever the words, the place and the room. Assumes nothing.
 use mathlib.Core.Path.{_≡_, refl, sym, ap, _∙_}
-use mathlib.Core.Bool.{Bool, true, false}
-use Prim.Native.Nat.{ℕ, _-_, _<_, _≤_}
+use Prim.Native.Nat.{ℕ, _-_, _≤_}
 use native.Mathlib.Omega.{arith}
 use native.Mathlib.Decide.{ℕ-discrete, decLe}
 use mathlib.Core.List.{List, _++_, List-discrete}
-use lib.ListN.{length, take, drop, replicate}
+use lib.ListN.{length, drop, replicate}
 use Rattle.record.specs.Limits.{routes, buses, identifierLimit}
 use Rattle.record.specs.Place.{placeKey}
 use Rattle.record.specs.Columns.{routeCountOf, fromsOf, tosOf}

@@ -1,12 +1,10 @@
 -- The spread by the routes of a taken book fits where there are as many entries as a book may have routes. Assumes nothing.
-use mathlib.Core.Path.{_≡_, refl, sym, ap, _∙_, subst}
-use Prim.Native.Nat.{ℕ, _+_, _≤_}
+use mathlib.Core.Path.{_≡_, sym, ap, _∙_, subst}
+use Prim.Native.Nat.{ℕ, _≤_}
 use native.Mathlib.Omega.{arith}
 use mathlib.Core.List.{List}
-use lib.ListN.{length, take}
-use lib.Seq.{length-take-le}
+use lib.ListN.{length}
 use Rattle.record.specs.Limits.{routes}
-use Rattle.record.specs.Columns.{routeCountOf, fromsOf, tosOf}
 use Rattle.chains.specs.Spread.{spreadOf}
 use Rattle.chains.proofs.Spreads.{spread-few}
 use Rattle.verdict.specs.Verdicts.{IsSound}

@@ -1,14 +1,13 @@
 -- What a call for a spread writes, where it doesn't refuse: every place that a chain reaches, each once, and nothing else. A spread that
 -- follows the first route of a place and drops the rest is none that `spread` may give. Assumes nothing.
-use mathlib.Core.Path.{_≡_, refl, sym, ap, _∙_, subst}
+use mathlib.Core.Path.{_≡_, sym, ap, _∙_, subst}
 use Prim.Native.Nat.{ℕ, _≤_, _<_}
 use native.Mathlib.Omega.{arith}
-use mathlib.Core.List.{List, [], _++_}
+use mathlib.Core.List.{List, _++_}
 use lib.ListN.{length, getD, take, drop, length-drop}
 use lib.Seq.{length-take-le, take-append-seam}
 use Rattle.record.specs.Place.{placeKey}
-use Rattle.record.specs.Columns.{routeCountOf, fromsOf, tosOf, bookWords}
-use Rattle.chains.specs.Spread.{spreadOf}
+use Rattle.record.specs.Columns.{routeCountOf, bookWords}
 use Rattle.chains.proofs.Spreads.{chain-spread, spread-chain, spread-once, spread-few, no-routes}
 use Rattle.routes.specs.Answers.{startPlaces, endPlaces, RoutesTaken, spreadBy, Answer}
 use Rattle.routes.specs.Listed.{Lists}

@@ -2,11 +2,13 @@
 // What it says is stated over chains (specs/Verdicts.antt); the masks of `marks` and `reach` are only how it is found.
 ghost use mathlib.Core.Path.{_≡_};
 ghost use Prim.Native.Nat.{_<_, _≤_};
-ghost use lib.ListN.{length, getD};
-ghost use Rattle.chains.proofs.Tests.{any, First};
+ghost use lib.ListN.{length};
+ghost use Rattle.chains.proofs.Tests.{First};
+ghost use Rattle.masks.specs.Bit.{width};
 ghost use Rattle.reach.specs.Table.{Holds};
 ghost use Rattle.verdict.specs.Searches.{ownBit, forkBy, forksBy, beginsBy};
 ghost use Rattle.verdict.specs.Verdicts.{IsSound, Judged, Tells};
+use masks::WIDTH;
 
 // Routes are named by their index in the table.
 pub enum Verdict {
@@ -20,7 +22,7 @@ pub enum Verdict {
 
 // The first route whose own bit is set, or n.
 fn first_loop(starts: &[u64], n: usize) -> usize
-    requires { ⌜ (n ≤ 64) × (n ≤ length (now starts)) ⌝ }
+    requires { ⌜ (n ≤ width) × (n ≤ length (now starts)) ⌝ }
     ensures { λ r. ⌜ First (ownBit (now (starts .entry))) n r ⌝ }
 {
     let mut i: usize = 0;
@@ -65,7 +67,7 @@ fn forks(froms: &[u32], ends: &[u64], a: usize) -> bool
 
 // The routes that fork.
 fn forking(froms: &[u32], ends: &[u64]) -> u64
-    requires { ⌜ (length (now froms) ≤ 64) × (length (now froms) ≤ length (now ends)) ⌝ }
+    requires { ⌜ (length (now froms) ≤ width) × (length (now froms) ≤ length (now ends)) ⌝ }
     ensures { λ r. ⌜ Holds (length (now (froms .entry))) (forksBy (now (froms .entry)) (now (ends .entry))) r ⌝ }
 {
     let mut mask: u64 = 0;
@@ -81,7 +83,7 @@ fn forking(froms: &[u32], ends: &[u64]) -> u64
 
 // The first route that forks or leads on to where one starts that does, or n.
 fn first_doubling(starts: &[u64], forking: u64, n: usize) -> usize
-    requires { ⌜ (n ≤ 64) × (n ≤ length (now starts)) ⌝ }
+    requires { ⌜ (n ≤ width) × (n ≤ length (now starts)) ⌝ }
     ensures { λ r. ⌜ First (beginsBy (now (starts .entry)) forking) n r ⌝ }
 {
     let mut i: usize = 0;
@@ -96,12 +98,12 @@ fn first_doubling(starts: &[u64], forking: u64, n: usize) -> usize
 
 // The verdict on any table, by the masks of `reach`.
 fn judge_by_reach(froms: &[u32], tos: &[u32]) -> Verdict
-    requires { ⌜ (length (now froms) ≤ 64) × (length (now froms) ≡ length (now tos)) ⌝ }
+    requires { ⌜ (length (now froms) ≤ width) × (length (now froms) ≡ length (now tos)) ⌝ }
     ensures { λ r. ⌜ Judged (now (froms .entry)) (now (tos .entry)) r ⌝ }
 {
     let n = froms.len();
-    let mut starts = [0u64; 64];
-    let mut ends = [0u64; 64];
+    let mut starts = [0u64; WIDTH];
+    let mut ends = [0u64; WIDTH];
     reach::fill(froms, tos, &mut starts, &mut ends);
     let i = first_loop(&starts, n);
     if i < n {
@@ -116,7 +118,7 @@ fn judge_by_reach(froms: &[u32], tos: &[u32]) -> Verdict
 
 // The verdict. Most sound tables are seen to be so at once.
 pub fn judge(froms: &[u32], tos: &[u32]) -> Verdict
-    requires { ⌜ (length (now froms) ≤ 64) × (length (now froms) ≡ length (now tos)) ⌝ }
+    requires { ⌜ (length (now froms) ≤ width) × (length (now froms) ≡ length (now tos)) ⌝ }
     ensures { λ r. ⌜ Judged (now (froms .entry)) (now (tos .entry)) r ⌝ }
 {
     if marks::seen_sound(froms, tos) {
@@ -127,7 +129,7 @@ pub fn judge(froms: &[u32], tos: &[u32]) -> Verdict
 
 // Whether the verdict is sound.
 pub fn sound(froms: &[u32], tos: &[u32]) -> bool
-    requires { ⌜ (length (now froms) ≤ 64) × (length (now froms) ≡ length (now tos)) ⌝ }
+    requires { ⌜ (length (now froms) ≤ width) × (length (now froms) ≡ length (now tos)) ⌝ }
     ensures { λ r. ⌜ Tells (IsSound (now (froms .entry)) (now (tos .entry))) r ⌝ }
 {
     match judge(froms, tos) {

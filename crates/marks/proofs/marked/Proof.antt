@@ -1,9 +1,8 @@
 -- `marks::marked` meets its contract: the routes passed are fine, and hand on nothing twice at one number. Assumes nothing.
 use borrow.Author.Needs.{needs}
 use Prim.Native.Nat.{_-_}
-use native.Mathlib.Omega.{arith}
 use mathlib.Core.Path.{refl, sym, _∙_}
-use mathlib.Core.Bool.{true, false}
+use mathlib.Core.Bool.{false}
 use lib.ListN.{length}
 use borrow.Author.Tests.{not-false}
 use Rattle.chains.proofs.Loops.{true-false}
@@ -103,7 +102,40 @@ loop-less : tie.Need-loop-less Inv-loop μ-loop
 loop-less c = search needs
 
 loop-again : tie.Need-loop-again Inv-loop μ-loop
-loop-again c = checked-more (c .before .before .before .before .before .before .before .before .before .before .before .before .before .before .before .before .before .before .before .before .before .before .args .froms .now) (c .before .before .before .before .before .before .before .before .before .before .before .before .before .before .before .before .before .before .before .before .before .before .args .tos .now) (numberIn (c .before .before .before .before .before .before .before .before .before .before .before .before .before .before .before .before .before .before .before .before .before .before .args .slots .now) (c .before .before .before .before .before .before .before .before .before .before .before .before .before .before .before .before .before .before .before .before .before .before .args .keys .now)) (c .before .before .before .before .before .before .before .before .before .before .before .before .before .before .before .before .before .before .before .before .before .before .args .masks .now) (c .before .before .before .before .before .before .before .before .before .before .before .before .before .before .before .before .loop .seen) (c .before .before .before .before .before .before .before .before .before .before .before .before .before .before .before .before .loop .j) (c .before .before .before .before .before .before .before .before .before .before .before .before .before .before .before .before .loop .inv) (c .before .before .before .before .before .before .before .before .before .before .before .before .before .before .before .loop-test .taken) (c .before .before .before .before .before .before .before .before .before .before .before .before .before .number .result) (c .before .before .before .before .before .before .before .before .before .before .before .number2 .result) (c .before .before .before .before .before .before .with .result) (c .before .before .before .before .before .before .before .before .before .before .before .before .before .number .ensures .0) (c .before .before .before .before .before .before .before .before .before .before .before .number2 .ensures .0) (c .before .before .before .before .before .before .before .before .before .before .before .before .before .number .ensures .1) (c .before .before .before .before .before .before .with .ensures) (sym (c .before .before .before .before .before .before .before .before .has .ensures) ∙ c .before .before .before .before .before .before .before .if2 .left) (sym (c .before .before .before .before .within .ensures) ∙ not-false (c .before .before .before .before .within .result) (c .before .before .before .if3 .left)) (sym (c .before .before .meet .ensures) ∙ c .before .if4 .left) (c .both .result) (c .both .ensures)
+loop-again c =
+    let at-if4 = c .before .if4 in
+    let at-meet = c .before .before .meet in
+    let at-if3 = c .before .before .before .if3 in
+    let at-within = c .before .before .before .before .within in
+    let at-with = c .before .before .before .before .before .before .with in
+    let at-if2 = c .before .before .before .before .before .before .before .if2 in
+    let at-has = c .before .before .before .before .before .before .before .before .has in
+    let at-number2 = c .before .before .before .before .before .before .before .before .before .before .before .number2 in
+    let at-number = c .before .before .before .before .before .before .before .before .before .before .before .before .before .number in
+    let at-loop-test = c .before .before .before .before .before .before .before .before .before .before .before .before .before .before .before .loop-test in
+    let at-loop = c .before .before .before .before .before .before .before .before .before .before .before .before .before .before .before .before .loop in
+    let at-args = c .before .before .before .before .before .before .before .before .before .before .before .before .before .before .before .before .before .before .before .before .before .before .args in
+    checked-more
+    (at-args .froms .now)
+    (at-args .tos .now)
+    (numberIn (at-args .slots .now) (at-args .keys .now))
+    (at-args .masks .now)
+    (at-loop .seen)
+    (at-loop .j)
+    (at-loop .inv)
+    (at-loop-test .taken)
+    (at-number .result)
+    (at-number2 .result)
+    (at-with .result)
+    (at-number .ensures .0)
+    (at-number2 .ensures .0)
+    (at-number .ensures .1)
+    (at-with .ensures)
+    (sym (at-has .ensures) ∙ at-if2 .left)
+    (sym (at-within .ensures) ∙ not-false (at-within .result) (at-if3 .left))
+    (sym (at-meet .ensures) ∙ at-if4 .left)
+    (c .both .result)
+    (c .both .ensures)
 
 returns-5 : tie.Need-returns-5 Inv-loop μ-loop
 returns-5 c = λ e. checked-end _ _ _ _ _ _ (c .before .loop .inv) (c .loop-test .left)

@@ -37,7 +37,12 @@ sub-result : tie.Need-sub-result Inv-loop μ-loop
 sub-result c = search needs
 
 returns-2 : tie.Need-returns-2 Inv-loop μ-loop
-returns-2 c = (probed-met _ _ _ _ _ (c .before .before .before .before .before .before .loop .inv) (c .before .before .before .before .before .loop-test .taken) _ (c .before .before .before .wide .ensures .0) (c .before .before .if1 .left) (c .if2 .taken), omega (arith, c .before .before .before .wide .ensures .1))
+returns-2 c =
+    let at-if1 = c .before .before .if1 in
+    let at-wide = c .before .before .before .wide in
+    let at-loop-test = c .before .before .before .before .before .loop-test in
+    let at-loop = c .before .before .before .before .before .before .loop in
+    (probed-met _ _ _ _ _ (at-loop .inv) (at-loop-test .taken) _ (at-wide .ensures .0) (at-if1 .left) (c .if2 .taken), omega (arith, at-wide .ensures .1))
 
 add-at : tie.Need-add-at Inv-loop μ-loop
 add-at c = search needs
@@ -49,7 +54,12 @@ loop-less : tie.Need-loop-less Inv-loop μ-loop
 loop-less c = search needs
 
 loop-again : tie.Need-loop-again Inv-loop μ-loop
-loop-again c = probed-on _ _ _ _ _ (c .before .before .before .before .before .before .loop .inv) (c .before .before .before .before .before .loop-test .taken) _ (c .before .before .before .wide .ensures .0) (c .before .before .if1 .left) (c .if2 .left)
+loop-again c =
+    let at-if1 = c .before .before .if1 in
+    let at-wide = c .before .before .before .wide in
+    let at-loop-test = c .before .before .before .before .before .loop-test in
+    let at-loop = c .before .before .before .before .before .before .loop in
+    probed-on _ _ _ _ _ (at-loop .inv) (at-loop-test .taken) _ (at-wide .ensures .0) (at-if1 .left) (c .if2 .left)
 
 returns-3 : tie.Need-returns-3 Inv-loop μ-loop
 returns-3 c = (probed-out _ _ _ _ _ (c .before .loop .inv) (c .loop-test .left), omega arith)

@@ -1,9 +1,7 @@
 -- `reach::fill` meets its contract: the rows are the tables with no routes between, and each round lets one route more stand between. Assumes nothing.
 use borrow.Author.Needs.{needs}
 use Prim.Native.Nat.{_-_}
-use mathlib.Core.Path.{refl, sym}
-use native.Mathlib.Omega.{arith}
-use lib.ListN.{length}
+use mathlib.Core.Path.{refl}
 use Rattle.reach.proofs.Rounding.{Rounds, table-start, rounds-more, rounds-end}
 use Rattle.reach.proofs.fill.Statement.{statement}
 use Rattle.reach.proofs.fill.Tie as tie
@@ -21,7 +19,11 @@ rows-requires-2 : tie.Need-rows-requires-2 Inv-loop μ-loop
 rows-requires-2 c κs = search needs
 
 loop-holds : tie.Need-loop-holds Inv-loop μ-loop
-loop-holds c = record { within = search needs; long-starts = refl; long-ends = refl; starts = table-start _ _ _ _ (c .before .before .before .before .before .before .before .before .before .before .before .before .pre .1) (c .before .before .before .before .before .before .before .before .before .before .before .before .pre .1) (c .before .before .before .before .before .before .rows .ensures); ends = table-start _ _ _ _ (c .before .before .before .before .before .before .before .before .before .before .before .before .pre .1) refl (c .before .before .rows2 .ensures) }
+loop-holds c =
+    let at-rows2 = c .before .before .rows2 in
+    let at-rows = c .before .before .before .before .before .before .rows in
+    let at-pre = c .before .before .before .before .before .before .before .before .before .before .before .before .pre in
+    record { within = search needs; long-starts = refl; long-ends = refl; starts = table-start _ _ _ _ (at-pre .1) (at-pre .1) (at-rows .ensures); ends = table-start _ _ _ _ (at-pre .1) refl (at-rows2 .ensures) }
 
 round-requires : tie.Need-round-requires Inv-loop μ-loop
 round-requires c κs = search needs
@@ -33,7 +35,11 @@ loop-less : tie.Need-loop-less Inv-loop μ-loop
 loop-less c = search needs
 
 loop-again : tie.Need-loop-again Inv-loop μ-loop
-loop-again c = rounds-more _ _ _ _ _ (c .before .before .before .before .before .before .before .before .loop .starts) (c .before .before .before .before .before .before .before .before .loop .ends) _ _ (c .before .before .before .before .before .before .before .before .loop .inv) (c .before .before .before .before .before .before .before .loop-test .taken) (c .before .before .before .before .round .kept .0) (c .before .before .before .before .round .kept .1 .0) (c .before .before .before .before .round .ensures)
+loop-again c =
+    let at-round = c .before .before .before .before .round in
+    let at-loop-test = c .before .before .before .before .before .before .before .loop-test in
+    let at-loop = c .before .before .before .before .before .before .before .before .loop in
+    rounds-more _ _ _ _ _ (at-loop .starts) (at-loop .ends) _ _ (at-loop .inv) (at-loop-test .taken) (at-round .kept .0) (at-round .kept .1 .0) (at-round .ensures)
 
 same-length : tie.Need-same-length Inv-loop μ-loop
 same-length c = search needs

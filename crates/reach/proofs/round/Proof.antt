@@ -1,12 +1,12 @@
 -- `reach::round` meets its contract: in both tables the first i masks are done, and the others are as they were. Assumes nothing.
 use borrow.Author.Needs.{needs}
-use Prim.Native.Nat.{ℕ, _-_, _+_, _<_, _≤_}
+use Prim.Native.Nat.{ℕ, _-_, _+_, _≤_}
 use native.Mathlib.Omega.{arith}
 use mathlib.Core.Path.{_≡_, sym, _∙_, subst, ap}
 use mathlib.Core.Logic.{⊎-elim}
-use mathlib.Core.Bool.{Bool, true, false}
+use mathlib.Core.Bool.{true, false}
 use mathlib.Core.List.{List}
-use lib.ListN.{length, getD}
+use lib.ListN.{getD}
 use Rattle.masks.specs.Bit.{bit}
 use Rattle.reach.proofs.Rounding.{Rounding, rounding-start, rounding-keep, rounding-set, rounding-end}
 use Rattle.reach.proofs.round.Statement.{statement}
@@ -77,19 +77,24 @@ loop-less c = search needs
 
 loop-again : tie.Need-loop-again Inv-loop μ-loop
 loop-again c =
-    let s₀ = c .before .before .before .before .before .before .before .before .before .args .starts .now in
-    let e₀ = c .before .before .before .before .before .before .before .before .before .args .ends .now in
-    let i = c .before .before .before .before .loop .i in
-    let l = c .before .before .before .loop-test .taken in
-    let hs = c .before .before .before .before .loop .inv .1 in
-    let he = c .before .before .before .before .loop .inv .2 in
-    let old = ap (λ (m : ℕ). bit m (c .before .before .before .before .before .before .before .before .before .args .k)) (hs .rest i (omega arith)) in
-    let has = c .before .has .ensures in
+    let at-has = c .before .has in
+    let at-loop-test = c .before .before .before .loop-test in
+    let at-loop = c .before .before .before .before .loop in
+    let at-args = c .before .before .before .before .before .before .before .before .before .args in
+    let at-pre = c .before .before .before .before .before .before .before .before .before .pre in
+    let s₀ = at-args .starts .now in
+    let e₀ = at-args .ends .now in
+    let i = at-loop .i in
+    let l = at-loop-test .taken in
+    let hs = at-loop .inv .1 in
+    let he = at-loop .inv .2 in
+    let old = ap (λ (m : ℕ). bit m (at-args .k)) (hs .rest i (omega arith)) in
+    let has = at-has .ensures in
     ⊎-elim
-    (λ w. let e : bit (getD s₀ i 0) (c .before .before .before .before .before .before .before .before .before .args .k) ≡ true = sym old ∙ sym has ∙ w .0 .taken in
-    (omega arith, subst (λ (y : List ℕ). Rounding (c .before .before .before .before .before .before .before .before .before .args .k) s₀ s₀ (i + 1) y) (sym (w .4)) (rounding-set _ _ _ i (c .before .before .before .before .loop .starts) hs (w .1 .result) (omega (arith, hs .long, c .before .before .before .before .before .before .before .before .before .pre)) (w .1 .ensures) e), subst (λ (y : List ℕ). Rounding (c .before .before .before .before .before .before .before .before .before .args .k) s₀ e₀ (i + 1) y) (sym (w .5)) (rounding-set _ _ _ i (c .before .before .before .before .loop .ends) he (w .3 .result) (omega (arith, he .long, c .before .before .before .before .before .before .before .before .before .pre)) (w .3 .ensures) e)))
-    (λ w. let e : bit (getD s₀ i 0) (c .before .before .before .before .before .before .before .before .before .args .k) ≡ false = sym old ∙ sym has ∙ w .0 .left in
-    (omega arith, subst (λ (y : List ℕ). Rounding (c .before .before .before .before .before .before .before .before .before .args .k) s₀ s₀ (i + 1) y) (sym (w .1)) (rounding-keep _ _ _ i _ hs e), subst (λ (y : List ℕ). Rounding (c .before .before .before .before .before .before .before .before .before .args .k) s₀ e₀ (i + 1) y) (sym (w .2)) (rounding-keep _ _ _ i _ he e)))
+    (λ w. let e : bit (getD s₀ i 0) (at-args .k) ≡ true = sym old ∙ sym has ∙ w .0 .taken in
+    (omega arith, subst (λ (y : List ℕ). Rounding (at-args .k) s₀ s₀ (i + 1) y) (sym (w .4)) (rounding-set _ _ _ i (at-loop .starts) hs (w .1 .result) (omega (arith, hs .long, at-pre)) (w .1 .ensures) e), subst (λ (y : List ℕ). Rounding (at-args .k) s₀ e₀ (i + 1) y) (sym (w .5)) (rounding-set _ _ _ i (at-loop .ends) he (w .3 .result) (omega (arith, he .long, at-pre)) (w .3 .ensures) e)))
+    (λ w. let e : bit (getD s₀ i 0) (at-args .k) ≡ false = sym old ∙ sym has ∙ w .0 .left in
+    (omega arith, subst (λ (y : List ℕ). Rounding (at-args .k) s₀ s₀ (i + 1) y) (sym (w .1)) (rounding-keep _ _ _ i _ hs e), subst (λ (y : List ℕ). Rounding (at-args .k) s₀ e₀ (i + 1) y) (sym (w .2)) (rounding-keep _ _ _ i _ he e)))
     (c .if1 .came)
 
 same-length : tie.Need-same-length Inv-loop μ-loop

@@ -4,7 +4,6 @@ use Prim.Native.Nat.{ℕ, _-_, _+_}
 use mathlib.Core.Path.{sym, subst}
 use mathlib.Core.Logic.{⊎-elim}
 use mathlib.Core.Bool.{Bool}
-use mathlib.Core.List.{List}
 use lib.ListN.{length, getD}
 use lib.Dec.{eqb}
 use borrow.Author.Tests.{eq-eqb, ne-eqb}
@@ -41,12 +40,15 @@ loop-less c = search needs
 
 loop-again : tie.Need-loop-again Inv-loop μ-loop
 loop-again c =
-    let places = c .before .before .before .before .before .args .places .now in
-    let is : ℕ → Bool = λ (x : ℕ). eqb (c .before .before .before .before .before .args .place) (getD places x 0) in
-    let l = c .before .before .loop-test .taken in
+    let at-loop-test = c .before .before .loop-test in
+    let at-loop = c .before .before .before .loop in
+    let at-args = c .before .before .before .before .before .args in
+    let places = at-args .places .now in
+    let is : ℕ → Bool = λ (x : ℕ). eqb (at-args .place) (getD places x 0) in
+    let l = at-loop-test .taken in
     ⊎-elim
-    (λ w. subst (λ (y : ℕ). Filling (length places) is (c .before .before .before .loop .j + 1) y) (sym (w .2)) (filling-set _ is _ _ (c .before .before .before .loop .inv) l (w .1 .result) (eq-eqb _ _ (w .0 .taken)) (w .1 .ensures)))
-    (λ w. subst (λ (y : ℕ). Filling (length places) is (c .before .before .before .loop .j + 1) y) (sym (w .1)) (filling-keep _ is _ _ (c .before .before .before .loop .inv) l (ne-eqb _ _ (w .0 .left))))
+    (λ w. subst (λ (y : ℕ). Filling (length places) is (at-loop .j + 1) y) (sym (w .2)) (filling-set _ is _ _ (at-loop .inv) l (w .1 .result) (eq-eqb _ _ (w .0 .taken)) (w .1 .ensures)))
+    (λ w. subst (λ (y : ℕ). Filling (length places) is (at-loop .j + 1) y) (sym (w .1)) (filling-keep _ is _ _ (at-loop .inv) l (ne-eqb _ _ (w .0 .left))))
     (c .if1 .came)
 
 returns : tie.Need-returns Inv-loop μ-loop

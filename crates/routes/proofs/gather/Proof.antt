@@ -1,8 +1,6 @@
 -- `routes::gather` meets its contract: the parts of the columns that it lends are the book's routes. Assumes nothing.
-use mathlib.Core.Path.{_≡_, sym, _∙_}
-use Prim.Native.Nat.{_≤_}
+use mathlib.Core.Path.{sym, _∙_}
 use native.Mathlib.Omega.{arith}
-use lib.ListN.{length}
 use Rattle.routes.proofs.Taken.{part}
 use Rattle.routes.proofs.Gathering.{ready, gathered}
 use borrow.Author.Needs.{needs}
@@ -26,18 +24,33 @@ first-requires-2 c κs = search needs
 
 send-requires : tie.Need-send-requires
 send-requires c κs =
-    let starts = c .before .before .first .ensures .0 ∙ part _ _ _ _ (c .before .before .before .before .froms .ensures .0) (c .before .before .before .before .before .count .ensures) in
-    let ends = c .before .first2 .ensures .0 ∙ part _ _ _ _ (c .before .before .before .tos .ensures .0) (c .before .before .before .before .before .count .ensures) in
-    ready (c .before .before .before .before .before .before .before .args .book .now) _ _ (c .before .before .before .before .before .before .before .pre .0) starts ends (c .before .before .first .ensures .1 ∙ sym (c .before .first2 .ensures .1)) (omega (arith, c .before .before .first .ensures .1, c .before .before .before .before .before .count .ensures, c .before .before .before .before .before .before .before .pre .0 .few)) _ _ (c .before .before .before .before .before .before .before .pre .1)
+    let at-first2 = c .before .first2 in
+    let at-first = c .before .before .first in
+    let at-tos = c .before .before .before .tos in
+    let at-froms = c .before .before .before .before .froms in
+    let at-count = c .before .before .before .before .before .count in
+    let at-args = c .before .before .before .before .before .before .before .args in
+    let at-pre = c .before .before .before .before .before .before .before .pre in
+    let starts = at-first .ensures .0 ∙ part _ _ _ _ (at-froms .ensures .0) (at-count .ensures) in
+    let ends = at-first2 .ensures .0 ∙ part _ _ _ _ (at-tos .ensures .0) (at-count .ensures) in
+    ready (at-args .book .now) _ _ (at-pre .0) starts ends (at-first .ensures .1 ∙ sym (at-first2 .ensures .1)) (omega (arith, at-first .ensures .1, at-count .ensures, at-pre .0 .few)) _ _ (at-pre .1)
 
 same-length : tie.Need-same-length
 same-length c = search needs
 
 returns : tie.Need-returns
 returns c =
-    let starts = c .before .before .before .before .before .first .ensures .0 ∙ part _ _ _ _ (c .before .before .before .before .before .before .before .froms .ensures .0) (c .before .before .before .before .before .before .before .before .count .ensures) in
-    let ends = c .before .before .before .before .first2 .ensures .0 ∙ part _ _ _ _ (c .before .before .before .before .before .before .tos .ensures .0) (c .before .before .before .before .before .before .before .before .count .ensures) in
-    gathered (c .before .before .before .before .before .before .before .before .before .before .args .book .now) _ _ (c .before .before .before .before .before .before .before .before .before .before .pre .0) starts ends (c .before .before .before .before .before .first .ensures .1 ∙ sym (c .before .before .before .before .first2 .ensures .1)) (omega (arith, c .before .before .before .before .before .first .ensures .1, c .before .before .before .before .before .before .before .before .count .ensures, c .before .before .before .before .before .before .before .before .before .before .pre .0 .few)) _ _ (c .before .before .before .before .before .before .before .before .before .before .pre .1) _ _ (c .before .before .send .ensures)
+    let at-send = c .before .before .send in
+    let at-first2 = c .before .before .before .before .first2 in
+    let at-first = c .before .before .before .before .before .first in
+    let at-tos = c .before .before .before .before .before .before .tos in
+    let at-froms = c .before .before .before .before .before .before .before .froms in
+    let at-count = c .before .before .before .before .before .before .before .before .count in
+    let at-args = c .before .before .before .before .before .before .before .before .before .before .args in
+    let at-pre = c .before .before .before .before .before .before .before .before .before .before .pre in
+    let starts = at-first .ensures .0 ∙ part _ _ _ _ (at-froms .ensures .0) (at-count .ensures) in
+    let ends = at-first2 .ensures .0 ∙ part _ _ _ _ (at-tos .ensures .0) (at-count .ensures) in
+    gathered (at-args .book .now) _ _ (at-pre .0) starts ends (at-first .ensures .1 ∙ sym (at-first2 .ensures .1)) (omega (arith, at-first .ensures .1, at-count .ensures, at-pre .0 .few)) _ _ (at-pre .1) _ _ (at-send .ensures)
 
 pub gather-spec : {M : Type 1} → statement M
 gather-spec =

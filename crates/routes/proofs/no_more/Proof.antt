@@ -1,8 +1,7 @@
 use Prim.Native.Nat.{_-_}
 use lib.ListN.{length, drop, length-drop}
 -- `routes::no_more` meets its contract: the part from n on is all that is past n. Assumes nothing.
-use mathlib.Core.Path.{_≡_, refl, sym, ap, _∙_}
-use Prim.Native.Nat.{_≤_}
+use mathlib.Core.Path.{ap, _∙_}
 use native.Mathlib.Omega.{arith}
 use lib.ListN.{length-drop}
 use lib.Seq.{take-all}
@@ -27,7 +26,9 @@ all-zero-requires : tie.Need-all-zero-requires
 all-zero-requires c κs = search needs
 
 returns : tie.Need-returns
-returns c = c .all-zero .ensures ∙ ap zeros (take-all (length (c .before .before .before .args .column .now) - c .before .before .before .args .n) (drop (c .before .before .before .args .n) (c .before .before .before .args .column .now)) (omega (arith, length-drop (c .before .before .before .args .n) (c .before .before .before .args .column .now))))
+returns c =
+    let at-args = c .before .before .before .args in
+    c .all-zero .ensures ∙ ap zeros (take-all (length (at-args .column .now) - at-args .n) (drop (at-args .n) (at-args .column .now)) (omega (arith, length-drop (at-args .n) (at-args .column .now))))
 
 pub no-more-spec : {M : Type 1} → statement M
 no-more-spec =

@@ -1,8 +1,7 @@
 use Prim.Native.Nat.{ℕ}
 use lib.ListN.{take}
 -- `routes::routes_taken` meets its contract: each test that fails is one that a taken book passes. Assumes nothing.
-use mathlib.Core.Path.{_≡_, sym, _∙_, subst}
-use mathlib.Core.Bool.{Bool, true, false}
+use mathlib.Core.Path.{sym, _∙_, subst}
 use mathlib.Core.List.{List}
 use native.Mathlib.Omega.{arith}
 use borrow.Author.Tests.{not-true, not-false}
@@ -35,7 +34,12 @@ no-more-requires-2 : tie.Need-no-more-requires-2
 no-more-requires-2 c κs = search needs
 
 returns-3 : tie.Need-returns-3
-returns-3 c = λ t. true-false (c .before .no-more2 .ensures ∙ tos-past _ _ _ _ (c .before .before .before .before .before .before .before .count .ensures) (c .before .before .before .before .before .froms .ensures .0) (c .before .before .before .before .tos .ensures .0) t) (not-true _ (c .if3 .taken))
+returns-3 c =
+    let at-no-more2 = c .before .no-more2 in
+    let at-tos = c .before .before .before .before .tos in
+    let at-froms = c .before .before .before .before .before .froms in
+    let at-count = c .before .before .before .before .before .before .before .count in
+    λ t. true-false (at-no-more2 .ensures ∙ tos-past _ _ _ _ (at-count .ensures) (at-froms .ensures .0) (at-tos .ensures .0) t) (not-true _ (c .if3 .taken))
 
 first-requires : tie.Need-first-requires
 first-requires c κs = search needs
@@ -48,9 +52,19 @@ sound-requires c κs = search needs
 
 returns-4 : tie.Need-returns-4
 returns-4 c =
-    let s = subst (λ (fs : List ℕ). Tells (IsSound fs (c .before .first2 .result .now)) (c .sound .result)) (c .before .before .first .ensures .0) (c .sound .ensures) in
-    let s′ = subst (λ (ts : List ℕ). Tells (IsSound (take (c .before .before .before .before .before .before .before .before .before .before .count .result) (c .before .before .before .before .before .before .before .before .froms .result .now)) ts) (c .sound .result)) (c .before .first2 .ensures .0) s in
-    tells _ _ _ _ (c .before .before .before .before .before .before .before .before .before .before .count .ensures) (c .before .before .before .before .before .before .before .before .froms .ensures .0) (c .before .before .before .before .before .before .before .tos .ensures .0) (omega (arith, c .before .before .before .before .before .before .before .before .before .if1 .left)) (c .before .before .before .before .before .before .before .before .froms .ensures .1) (c .before .before .before .before .before .before .before .tos .ensures .1) (sym (c .before .before .before .before .before .before .no-more .ensures) ∙ not-false _ (c .before .before .before .before .before .if2 .left)) (sym (c .before .before .before .before .no-more2 .ensures) ∙ not-false _ (c .before .before .before .if3 .left)) (c .sound .result) s′
+    let at-first2 = c .before .first2 in
+    let at-first = c .before .before .first in
+    let at-if3 = c .before .before .before .if3 in
+    let at-no-more2 = c .before .before .before .before .no-more2 in
+    let at-if2 = c .before .before .before .before .before .if2 in
+    let at-no-more = c .before .before .before .before .before .before .no-more in
+    let at-tos = c .before .before .before .before .before .before .before .tos in
+    let at-froms = c .before .before .before .before .before .before .before .before .froms in
+    let at-if1 = c .before .before .before .before .before .before .before .before .before .if1 in
+    let at-count = c .before .before .before .before .before .before .before .before .before .before .count in
+    let s = subst (λ (fs : List ℕ). Tells (IsSound fs (at-first2 .result .now)) (c .sound .result)) (at-first .ensures .0) (c .sound .ensures) in
+    let s′ = subst (λ (ts : List ℕ). Tells (IsSound (take (at-count .result) (at-froms .result .now)) ts) (c .sound .result)) (at-first2 .ensures .0) s in
+    tells _ _ _ _ (at-count .ensures) (at-froms .ensures .0) (at-tos .ensures .0) (omega (arith, at-if1 .left)) (at-froms .ensures .1) (at-tos .ensures .1) (sym (at-no-more .ensures) ∙ not-false _ (at-if2 .left)) (sym (at-no-more2 .ensures) ∙ not-false _ (at-if3 .left)) (c .sound .result) s′
 
 pub routes-taken-spec : {M : Type 1} → statement M
 routes-taken-spec =

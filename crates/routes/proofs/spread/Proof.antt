@@ -1,11 +1,11 @@
 use Rattle.routes.proofs.Gathering.{gathered-at}
 -- `routes::spread` meets its contract: each test that led to a refusal is that refusal's own, in the order of their numbers, and what
 -- is copied is the spread. Assumes nothing.
-use mathlib.Core.Path.{_≡_, refl, sym, ap, _∙_, subst}
+use mathlib.Core.Path.{refl, ap, _∙_}
 use mathlib.Core.List.{List, _++_}
-use Prim.Native.Nat.{ℕ, _≤_, _<_}
+use Prim.Native.Nat.{ℕ}
 use native.Mathlib.Omega.{arith}
-use lib.ListN.{length, take, drop}
+use lib.ListN.{drop}
 use borrow.Author.Tests.{not-true, not-false}
 use Rattle.routes.proofs.Taken.{told-yes, told-no}
 use borrow.Author.Needs.{needs}
@@ -31,12 +31,22 @@ slice-aggregate-gather : tie.Need-slice-aggregate-gather
 slice-aggregate-gather c = search needs
 
 gather-requires : tie.Need-gather-requires
-gather-requires c κs = (told-yes (c .before .before .before .before .before .routes-taken .result) (c .before .before .before .before .before .routes-taken .ensures) (not-false (c .before .before .before .before .before .routes-taken .result) (c .before .before .before .before .if1 .left)), refl)
+gather-requires c κs =
+    let at-if1 = c .before .before .before .before .if1 in
+    let at-routes-taken = c .before .before .before .before .before .routes-taken in
+    (told-yes (at-routes-taken .result) (at-routes-taken .ensures) (not-false (at-routes-taken .result) (at-if1 .left)), refl)
 
 returns-4 : tie.Need-returns-4
 returns-4 c =
-    let g = gathered-at (c .before .before .before .before .before .before .before .before .before .before .args .book .now) _ _ _ _ (c .before .before .before .before .place .ensures) (c .before .before .gather .ensures) in
-    (told-yes (c .before .before .before .before .before .before .before .before .routes-taken .result) (c .before .before .before .before .before .before .before .before .routes-taken .ensures) (not-false (c .before .before .before .before .before .before .before .before .routes-taken .result) (c .before .before .before .before .before .before .before .if1 .left)), record { on-bus = omega (arith, c .before .before .before .before .before .before .if2 .left); identified = omega (arith, c .before .before .before .before .before .if3 .left) }, omega (arith, g .many, c .if4 .taken), refl)
+    let at-gather = c .before .before .gather in
+    let at-place = c .before .before .before .before .place in
+    let at-if3 = c .before .before .before .before .before .if3 in
+    let at-if2 = c .before .before .before .before .before .before .if2 in
+    let at-if1 = c .before .before .before .before .before .before .before .if1 in
+    let at-routes-taken = c .before .before .before .before .before .before .before .before .routes-taken in
+    let at-args = c .before .before .before .before .before .before .before .before .before .before .args in
+    let g = gathered-at (at-args .book .now) _ _ _ _ (at-place .ensures) (at-gather .ensures) in
+    (told-yes (at-routes-taken .result) (at-routes-taken .ensures) (not-false (at-routes-taken .result) (at-if1 .left)), record { on-bus = omega (arith, at-if2 .left); identified = omega (arith, at-if3 .left) }, omega (arith, g .many, c .if4 .taken), refl)
 
 slice-aggregate-copy : tie.Need-slice-aggregate-copy
 slice-aggregate-copy c = search needs
@@ -49,8 +59,17 @@ same-length c = search needs
 
 returns-5 : tie.Need-returns-5
 returns-5 c =
-    let g = gathered-at (c .before .before .before .before .before .before .before .before .before .before .before .before .before .before .before .args .book .now) _ _ _ _ (c .before .before .before .before .before .before .before .before .before .place .ensures) (c .before .before .before .before .before .before .before .gather .ensures) in
-    (told-yes (c .before .before .before .before .before .before .before .before .before .before .before .before .before .routes-taken .result) (c .before .before .before .before .before .before .before .before .before .before .before .before .before .routes-taken .ensures) (not-false (c .before .before .before .before .before .before .before .before .before .before .before .before .before .routes-taken .result) (c .before .before .before .before .before .before .before .before .before .before .before .before .if1 .left)), record { on-bus = omega (arith, c .before .before .before .before .before .before .before .before .before .before .before .if2 .left); identified = omega (arith, c .before .before .before .before .before .before .before .before .before .before .if3 .left) }, g .many, omega (arith, c .before .before .before .before .before .if4 .left), c .before .before .copy .ensures ∙ ap (λ (l : List ℕ). l ++ drop (c .before .before .before .before .before .before .before .gather .result) (c .before .before .before .before .before .before .before .before .before .before .before .before .before .before .before .args .room .now)) (g .front))
+    let at-copy = c .before .before .copy in
+    let at-if4 = c .before .before .before .before .before .if4 in
+    let at-gather = c .before .before .before .before .before .before .before .gather in
+    let at-place = c .before .before .before .before .before .before .before .before .before .place in
+    let at-if3 = c .before .before .before .before .before .before .before .before .before .before .if3 in
+    let at-if2 = c .before .before .before .before .before .before .before .before .before .before .before .if2 in
+    let at-if1 = c .before .before .before .before .before .before .before .before .before .before .before .before .if1 in
+    let at-routes-taken = c .before .before .before .before .before .before .before .before .before .before .before .before .before .routes-taken in
+    let at-args = c .before .before .before .before .before .before .before .before .before .before .before .before .before .before .before .args in
+    let g = gathered-at (at-args .book .now) _ _ _ _ (at-place .ensures) (at-gather .ensures) in
+    (told-yes (at-routes-taken .result) (at-routes-taken .ensures) (not-false (at-routes-taken .result) (at-if1 .left)), record { on-bus = omega (arith, at-if2 .left); identified = omega (arith, at-if3 .left) }, g .many, omega (arith, at-if4 .left), at-copy .ensures ∙ ap (λ (l : List ℕ). l ++ drop (at-gather .result) (at-args .room .now)) (g .front))
 
 pub spread-spec : {M : Type 1} → statement M
 spread-spec =

@@ -22,7 +22,10 @@ slice-aggregate-judge-2 : tie.Need-slice-aggregate-judge-2
 slice-aggregate-judge-2 c = sym (length-take-le _ _ (search needs))
 
 judge-requires : tie.Need-judge-requires
-judge-requires c κs = let f = length-take-le (c .before .before .before .before .before .before .before .args .n) (c .before .before .before .before .before .before .before .args .froms .now) (search needs) in let t = length-take-le (c .before .before .before .before .before .before .before .args .n) (c .before .before .before .before .before .before .before .args .tos .now) (search needs) in (omega (arith, f, c .before .before .before .before .if1 .left), f ∙ sym t)
+judge-requires c κs =
+    let at-if1 = c .before .before .before .before .if1 in
+    let at-args = c .before .before .before .before .before .before .before .args in
+    let f = length-take-le (at-args .n) (at-args .froms .now) (search needs) in let t = length-take-le (at-args .n) (at-args .tos .now) (search needs) in (omega (arith, f, at-if1 .left), f ∙ sym t)
 
 returns-4 : tie.Need-returns-4
 returns-4 c = search needs

@@ -1,6 +1,5 @@
 -- `verdict::fork` meets its contract: each test that fails makes the whole false, and where none does the masks decide. Assumes nothing.
 use borrow.Author.Tests.{eq-eqb, ne-eqb}
-use lib.ListN.{getD}
 use borrow.Author.Needs.{needs}
 use Rattle.verdict.proofs.fork.Statement.{statement}
 use Rattle.verdict.proofs.fork.Tie as tie

@@ -35,11 +35,15 @@ loop-less c = search needs
 
 loop-again : tie.Need-loop-again Inv-loop μ-loop
 loop-again c =
-    let n = length (c .before .before .before .before .before .before .args .froms .now) in
-    let P = forksBy (c .before .before .before .before .before .before .args .froms .now) (c .before .before .before .before .before .before .args .ends .now) in
+    let at-forks = c .before .forks in
+    let at-loop-test = c .before .before .loop-test in
+    let at-loop = c .before .before .before .loop in
+    let at-args = c .before .before .before .before .before .before .args in
+    let n = length (at-args .froms .now) in
+    let P = forksBy (at-args .froms .now) (at-args .ends .now) in
     ⊎-elim
-    (λ w. subst (λ (y : ℕ). Filling n P (c .before .before .before .loop .a + 1) y) (sym (w .2)) (filling-set n P _ _ (c .before .before .before .loop .inv) (c .before .before .loop-test .taken) (w .1 .result) (sym (c .before .forks .ensures) ∙ w .0 .taken) (w .1 .ensures)))
-    (λ w. subst (λ (y : ℕ). Filling n P (c .before .before .before .loop .a + 1) y) (sym (w .1)) (filling-keep n P _ _ (c .before .before .before .loop .inv) (c .before .before .loop-test .taken) (sym (c .before .forks .ensures) ∙ w .0 .left)))
+    (λ w. subst (λ (y : ℕ). Filling n P (at-loop .a + 1) y) (sym (w .2)) (filling-set n P _ _ (at-loop .inv) (at-loop-test .taken) (w .1 .result) (sym (at-forks .ensures) ∙ w .0 .taken) (w .1 .ensures)))
+    (λ w. subst (λ (y : ℕ). Filling n P (at-loop .a + 1) y) (sym (w .1)) (filling-keep n P _ _ (at-loop .inv) (at-loop-test .taken) (sym (at-forks .ensures) ∙ w .0 .left)))
     (c .if1 .came)
 
 returns : tie.Need-returns Inv-loop μ-loop

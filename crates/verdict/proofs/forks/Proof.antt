@@ -1,8 +1,8 @@
 -- `verdict::forks` meets its contract: r says whether a forks with one of the routes below b. Assumes nothing.
 use borrow.Author.Needs.{needs}
-use Prim.Native.Nat.{_-_, _+_, _≤_}
+use Prim.Native.Nat.{_-_, _+_}
 use native.Mathlib.Omega.{arith}
-use mathlib.Core.Path.{_≡_, refl, sym, _∙_, subst}
+use mathlib.Core.Path.{refl, sym, _∙_, subst}
 use mathlib.Core.Bool.{Bool}
 use mathlib.Core.Logic.{⊎-elim}
 use lib.ListN.{length}
@@ -31,11 +31,15 @@ loop-less c = search needs
 
 loop-again : tie.Need-loop-again Inv-loop μ-loop
 loop-again c =
-    let P = forkBy (c .before .before .before .before .before .before .args .froms .now) (c .before .before .before .before .before .before .args .ends .now) (c .before .before .before .before .before .before .args .a) in
-    let n = length (c .before .before .before .before .before .before .args .froms .now) in
+    let at-fork = c .before .fork in
+    let at-loop-test = c .before .before .loop-test in
+    let at-loop = c .before .before .before .loop in
+    let at-args = c .before .before .before .before .before .before .args in
+    let P = forkBy (at-args .froms .now) (at-args .ends .now) (at-args .a) in
+    let n = length (at-args .froms .now) in
     ⊎-elim
-    (λ w. subst (λ (y : Bool). Sought P n (c .before .before .before .loop .b + 1) y) (sym (w .1)) (sought-hit P n _ (c .before .before .before .loop .r) (c .before .before .before .loop .inv) (c .before .before .loop-test .taken) (sym (c .before .fork .ensures) ∙ w .0 .taken)))
-    (λ w. subst (λ (y : Bool). Sought P n (c .before .before .before .loop .b + 1) y) (sym (w .1)) (sought-miss P n _ (c .before .before .before .loop .r) (c .before .before .before .loop .inv) (c .before .before .loop-test .taken) (sym (c .before .fork .ensures) ∙ w .0 .left)))
+    (λ w. subst (λ (y : Bool). Sought P n (at-loop .b + 1) y) (sym (w .1)) (sought-hit P n _ (at-loop .r) (at-loop .inv) (at-loop-test .taken) (sym (at-fork .ensures) ∙ w .0 .taken)))
+    (λ w. subst (λ (y : Bool). Sought P n (at-loop .b + 1) y) (sym (w .1)) (sought-miss P n _ (at-loop .r) (at-loop .inv) (at-loop-test .taken) (sym (at-fork .ensures) ∙ w .0 .left)))
     (c .if1 .came)
 
 returns : tie.Need-returns Inv-loop μ-loop

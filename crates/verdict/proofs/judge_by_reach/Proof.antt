@@ -1,5 +1,4 @@
 -- `verdict::judge_by_reach` meets its contract: what the searches found over the masks is what there is to find over chains. Assumes nothing.
-use Rattle.verdict.specs.Searches.{ownBit, beginsBy}
 use Rattle.chains.proofs.Loops.{comesBack}
 use Rattle.chains.proofs.Tests.{begins}
 use Rattle.verdict.proofs.Masks.{first-same, own-bit, begins-same}
@@ -25,10 +24,13 @@ first-loop-requires c κs = search needs
 
 returns : tie.Need-returns
 returns c =
-    let fs = c .before .before .before .before .before .before .before .before .before .before .args .froms .now in
-    let ts = c .before .before .before .before .before .before .before .before .before .before .args .tos .now in
-    let e = c .before .before .before .before .before .fill .ensures in
-    loop-found fs ts _ (first-same _ (comesBack fs ts) _ _ (own-bit fs ts _ _ (e .0) (e .1)) (c .before .first-loop .ensures)) (c .if1 .taken)
+    let at-first-loop = c .before .first-loop in
+    let at-fill = c .before .before .before .before .before .fill in
+    let at-args = c .before .before .before .before .before .before .before .before .before .before .args in
+    let fs = at-args .froms .now in
+    let ts = at-args .tos .now in
+    let e = at-fill .ensures in
+    loop-found fs ts _ (first-same _ (comesBack fs ts) _ _ (own-bit fs ts _ _ (e .0) (e .1)) (at-first-loop .ensures)) (c .if1 .taken)
 
 slice-aggregate-first-doubling : tie.Need-slice-aggregate-first-doubling
 slice-aggregate-first-doubling c = search needs
@@ -44,19 +46,31 @@ first-doubling-requires c κs = search needs
 
 returns-2 : tie.Need-returns-2
 returns-2 c =
-    let fs = c .before .before .before .before .before .before .before .before .before .before .before .before .before .before .before .args .froms .now in
-    let ts = c .before .before .before .before .before .before .before .before .before .before .before .before .before .before .before .args .tos .now in
-    let e = c .before .before .before .before .before .before .before .before .before .before .fill .ensures in
-    let free = no-loop fs ts _ (first-same _ (comesBack fs ts) _ _ (own-bit fs ts _ _ (e .0) (e .1)) (c .before .before .before .before .before .before .first-loop .ensures)) (c .before .before .before .before .before .if1 .left) in
-    doubling-found fs ts free _ (first-same _ (begins fs ts) _ _ (begins-same fs ts _ _ (e .0) (e .1) _ (c .before .before .forking .ensures)) (c .before .first-doubling .ensures)) (c .if2 .taken)
+    let at-first-doubling = c .before .first-doubling in
+    let at-forking = c .before .before .forking in
+    let at-if1 = c .before .before .before .before .before .if1 in
+    let at-first-loop = c .before .before .before .before .before .before .first-loop in
+    let at-fill = c .before .before .before .before .before .before .before .before .before .before .fill in
+    let at-args = c .before .before .before .before .before .before .before .before .before .before .before .before .before .before .before .args in
+    let fs = at-args .froms .now in
+    let ts = at-args .tos .now in
+    let e = at-fill .ensures in
+    let free = no-loop fs ts _ (first-same _ (comesBack fs ts) _ _ (own-bit fs ts _ _ (e .0) (e .1)) (at-first-loop .ensures)) (at-if1 .left) in
+    doubling-found fs ts free _ (first-same _ (begins fs ts) _ _ (begins-same fs ts _ _ (e .0) (e .1) _ (at-forking .ensures)) (at-first-doubling .ensures)) (c .if2 .taken)
 
 returns-3 : tie.Need-returns-3
 returns-3 c =
-    let fs = c .before .before .before .before .before .before .before .before .before .before .before .before .before .before .before .args .froms .now in
-    let ts = c .before .before .before .before .before .before .before .before .before .before .before .before .before .before .before .args .tos .now in
-    let e = c .before .before .before .before .before .before .before .before .before .before .fill .ensures in
-    let free = no-loop fs ts _ (first-same _ (comesBack fs ts) _ _ (own-bit fs ts _ _ (e .0) (e .1)) (c .before .before .before .before .before .before .first-loop .ensures)) (c .before .before .before .before .before .if1 .left) in
-    no-doubling fs ts free _ (first-same _ (begins fs ts) _ _ (begins-same fs ts _ _ (e .0) (e .1) _ (c .before .before .forking .ensures)) (c .before .first-doubling .ensures)) (c .if2 .left)
+    let at-first-doubling = c .before .first-doubling in
+    let at-forking = c .before .before .forking in
+    let at-if1 = c .before .before .before .before .before .if1 in
+    let at-first-loop = c .before .before .before .before .before .before .first-loop in
+    let at-fill = c .before .before .before .before .before .before .before .before .before .before .fill in
+    let at-args = c .before .before .before .before .before .before .before .before .before .before .before .before .before .before .before .args in
+    let fs = at-args .froms .now in
+    let ts = at-args .tos .now in
+    let e = at-fill .ensures in
+    let free = no-loop fs ts _ (first-same _ (comesBack fs ts) _ _ (own-bit fs ts _ _ (e .0) (e .1)) (at-first-loop .ensures)) (at-if1 .left) in
+    no-doubling fs ts free _ (first-same _ (begins fs ts) _ _ (begins-same fs ts _ _ (e .0) (e .1) _ (at-forking .ensures)) (at-first-doubling .ensures)) (c .if2 .left)
 
 pub judge-by-reach-spec : {M : Type 1} → statement M
 judge-by-reach-spec =

@@ -20,10 +20,16 @@ enum-told-3 : tie.Need-enum-told-3
 enum-told-3 c = search needs
 
 returns : tie.Need-returns
-returns c = loop-unsound (c .before .before .before .before .before .args .froms .now) (c .before .before .before .before .before .args .tos .now) _ (subst (λ (v : Verdict). Judged (c .before .before .before .before .before .args .froms .now) (c .before .before .before .before .before .args .tos .now) v) (c .enum-told .given .1) (c .before .before .judge .ensures))
+returns c =
+    let at-judge = c .before .before .judge in
+    let at-args = c .before .before .before .before .before .args in
+    loop-unsound (at-args .froms .now) (at-args .tos .now) _ (subst (λ (v : Verdict). Judged (at-args .froms .now) (at-args .tos .now) v) (c .enum-told .given .1) (at-judge .ensures))
 
 returns-2 : tie.Need-returns-2
-returns-2 c = doubling-unsound (c .before .before .before .before .before .args .froms .now) (c .before .before .before .before .before .args .tos .now) _ (subst (λ (v : Verdict). Judged (c .before .before .before .before .before .args .froms .now) (c .before .before .before .before .before .args .tos .now) v) (c .enum-told2 .given .1) (c .before .before .judge .ensures))
+returns-2 c =
+    let at-judge = c .before .before .judge in
+    let at-args = c .before .before .before .before .before .args in
+    doubling-unsound (at-args .froms .now) (at-args .tos .now) _ (subst (λ (v : Verdict). Judged (at-args .froms .now) (at-args .tos .now) v) (c .enum-told2 .given .1) (at-judge .ensures))
 
 returns-3 : tie.Need-returns-3
 returns-3 c = subst (λ (v : Verdict). Judged (c .before .before .before .before .before .args .froms .now) (c .before .before .before .before .before .args .tos .now) v) (c .enum-told3 .given .1) (c .before .before .judge .ensures)
