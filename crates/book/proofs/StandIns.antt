@@ -1,5 +1,5 @@
 -- Readers that the contract throws out: one that refuses every text, one that takes every text, one that leaves something behind
--- where it refuses. Assumes nothing.
+-- where it refuses, one that makes up its counts. Assumes nothing.
 use mathlib.Core.Path.{_≡_, refl, sym, ap, _∙_}
 use mathlib.Core.List.{List, [], _∷_}
 use Prim.Native.Nat.{ℕ, _≤_, _<_}
@@ -14,8 +14,9 @@ use Rattle.parts.specs.Parts.{lines, linesOf, split, onFirst}
 use Rattle.line.specs.Meaning.{meaningOf, lineMeaning, ofFields, ofKind, ofMessage}
 use Rattle.books.specs.Book.{Book, noBook, allPlacements}
 use Rattle.books.specs.Words.{wordsOf}
-use Rattle.reading.specs.Reading.{onward, readFrom, refusalOf, meanings, linesRead}
-use Rattle.reading.specs.Taken.{Sound}
+use Rattle.reading.specs.Reading.{passed, onward, readFrom, refusalOf, meanings, linesRead}
+use Rattle.reading.specs.Taken.{Sound, mLines, sLines, rLinesFrom}
+use Rattle.reading.proofs.Counts.{text-counted}
 use Rattle.book.specs.Answered.{Answered, bad-line, taken-with}
 use Rattle.book.proofs.Once.{Way, long, bad, by, way, ofVerdict, answered-once}
 
@@ -65,3 +66,32 @@ left-empty {text} {why} {n} {w} a = from (way a)
     from (long h e) = ap (λ (x : Said × List ℕ). x .1) e
     from (bad y m h r e) = ap (λ (x : Said × List ℕ). x .1) e
     from (by b at v p j e) = from-verdict b at v e
+
+-- "Line .. counts made up: they equal counts over the lines": those of a taken text are of its M, S and R lines
+pub record LineCounts (text : List ℕ) (m s r : ℕ) : Type 0 where
+  pub messages : m ≡ mLines (meanings text)
+  pub signals : s ≡ sLines (meanings text)
+  pub routes : r ≡ length (rLinesFrom 1 (meanings text))
+
+pub counts-of-lines : {text : List ℕ} {m s r : ℕ} {w : List ℕ} → Answered text (taken m s r) w → LineCounts text m s r
+unfolding ofVerdict allPlacements
+counts-of-lines {text} {m} {s} {r} {w} a = from (way a)
+  where
+    counted-to : (b : Book) (at : List ℕ) → linesRead text ≡ passed b at
+        → taken m s r ≡ taken (length (b .messages)) (length (allPlacements (b .messages))) (length (b .routes)) → LineCounts text m s r
+    counted-to b at p e =
+        let c = text-counted text p in
+        let x : m ≡ length (b .messages) = cc in
+        let y : s ≡ length (allPlacements (b .messages)) = cc in
+        let z : r ≡ length (b .routes) = cc in
+        record { messages = omega (arith, c .messages); signals = omega (arith, c .signals); routes = omega (arith, c .routes) }
+
+    from-verdict : (b : Book) (at : List ℕ) (v : Verdict) → linesRead text ≡ passed b at → _≡_ {A = Said × List ℕ} (taken m s r, w) (ofVerdict b at v) → LineCounts text m s r
+    from-verdict b at (verdict.Loop i) p e = differ e
+    from-verdict b at (verdict.Doubling i) p e = differ e
+    from-verdict b at verdict.Sound p e = counted-to b at p (ap (λ (x : Said × List ℕ). x .0) e)
+
+    from : Way text (taken m s r, w) → LineCounts text m s r
+    from (long h e) = differ e
+    from (bad y n h q e) = differ e
+    from (by b at v p j e) = from-verdict b at v (p .read) e
