@@ -1,4 +1,5 @@
 pub mod Sound
+pub mod Classes
 pub mod Putting
 pub mod Summing
 pub mod Sent

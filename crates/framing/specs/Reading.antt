@@ -26,7 +26,8 @@ readingNumber UnknownIdentifier = 22
 readingNumber WrongChecksum = 23
 readingNumber TooLittleRoom = 24
 
--- the code of a class in the lent slice of classes
+-- the code of a class in the lent slice of classes; the last two do not come, as a placed signal is in the catalogue and its count fits
+-- (proofs/Classes.antt)
 abbrev pub classCode : Class → ℕ
 classCode (Value t) = 0
 classCode (Invalid r) = 1

@@ -1,0 +1,4 @@
+// Reads the frames on standard input by the books there.
+fn main() {
+    frame_cases::run();
+}
