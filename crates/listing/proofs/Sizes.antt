@@ -1,0 +1,43 @@
+-- A listing fits its room, and leaves the room as long as it was. Assumes nothing.
+use mathlib.Core.Path.{_≡_, refl, sym, ap, _∙_}
+use mathlib.Core.Bool.{Bool, true, false, cond}
+use mathlib.Core.List.{List, [], _∷_, _++_}
+use Prim.Native.Nat.{ℕ, _+_, _-_, _≤_}
+use native.Mathlib.Omega.{arith}
+use lib.Dec.{leb}
+use lib.ListN.{length, drop, length-append, length-drop}
+use borrow.Author.Tests.{leb-true}
+use Rattle.books.specs.Book.{Message}
+use Rattle.books.specs.Words.{messagesOf, messagesTaken}
+use Rattle.framing.specs.Messages.{written}
+use Rattle.parts.specs.Parts.{TextLine, ended, unended, lines}
+use Rattle.listing.specs.declared.Listed.{Listed}
+use Rattle.listing.specs.declared.Listed.the-variants.{NotABook}
+use Rattle.listing.specs.Printout.{printout}
+use Rattle.listing.specs.Listing.{Run, nothing, lineThen, run, ofRun, listing}
+
+pub fits-room : (ms : List Message) (room : ℕ) (ls : List TextLine) → length (run ms room ls .text) ≤ room
+unfolding run
+fits-room ms room [] = omega arith
+fits-room ms room (unended l ∷ ls) = omega arith
+fits-room ms room (ended l ∷ ls) = go (leb (length (printout ms l)) room) refl (fits-room ms (room - length (printout ms l)) ls)
+  where
+    go : (b : Bool) → leb (length (printout ms l)) room ≡ b → length (run ms (room - length (printout ms l)) ls .text) ≤ room - length (printout ms l)
+        → length (cond b (lineThen l (printout ms l) (run ms (room - length (printout ms l)) ls)) nothing .text) ≤ room
+    go true e h = omega (arith, leb-true (length (printout ms l)) room e, length-append (printout ms l) (run ms (room - length (printout ms l)) ls .text))
+    go false e h = omega arith
+
+written-long : (text lent : List ℕ) → length text ≤ length lent → length (written text lent) ≡ length lent
+written-long text lent h = omega (arith, length-append text (drop (length text) lent), length-drop (length text) lent)
+
+listing-long : (words text lent : List ℕ) → length (listing words text lent .1) ≡ length lent
+unfolding listing
+listing-long words text lent = go (messagesTaken words)
+  where
+    go : (b : Bool) → length (cond {A = Listed × List ℕ} b (ofRun (run (messagesOf words) (length lent) (lines text)) lent) (NotABook, lent) .1) ≡ length lent
+    go true = written-long (run (messagesOf words) (length lent) (lines text) .text) lent (fits-room (messagesOf words) (length lent) (lines text))
+    go false = refl
+
+-- what the call says of its room
+pub list-long : (words text lent : List ℕ) {r : Listed} {new : List ℕ} → _≡_ {A = Listed × List ℕ} (r, new) (listing words text lent) → length new ≡ length lent
+list-long words text lent e = ap (λ (x : Listed × List ℕ). length (x .1)) e ∙ listing-long words text lent
