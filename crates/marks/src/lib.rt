@@ -1,29 +1,26 @@
-// A quick way to see that a table of routes is sound, in a few passes over it and no table of pairs. It sees most sound
-// tables; where it doesn't, the answer is false and says nothing. That it is never wrong rests on `marked` alone: the
-// numbers and marks that it tests may be any at all.
+// The test behind the quick way to see that a table of routes is sound: each place has a number, by a table of slots, and
+// each number a mask of marks. Whatever the slots and the masks are, a table that passes is sound (chains, proofs/Marks.antt).
 ghost use mathlib.Core.Path.{_≡_};
 ghost use mathlib.Core.Bool.{true};
-ghost use Prim.Native.Nat.{_+_, _<_, _≤_};
+ghost use Prim.Native.Nat.{_+_, _<_};
 ghost use lib.ListN.{length};
-ghost use Rattle.masks.specs.Bit.{width};
-ghost use Rattle.chains.specs.Chain.{LoopFree, Single};
 ghost use Rattle.chains.proofs.Marks.{Marked};
 ghost use Rattle.marks.specs.Numbers.{slotOf, numberIn, marksIn};
 use masks::WIDTH;
 
 // How many slots places are spread over, and what a place without a number has.
-const SLOTS: usize = 256;
+pub const SLOTS: usize = 256;
 
-const NO_NUMBER: usize = 255;
+pub const NO_NUMBER: usize = 255;
 
-fn wide(x: u8) -> usize
+pub fn wide(x: u8) -> usize
     ensures { λ r. ⌜ (r ≡ x) × (r < 256) ⌝ }
 {
     x as usize
 }
 
 // Where the search for a place begins.
-fn slot_of(place: u32) -> usize
+pub fn slot_of(place: u32) -> usize
     ensures { λ r. ⌜ (r ≡ slotOf place) × (r < 256) ⌝ }
 {
     ((place as u64 * 2654435761) / 16777216 % 256) as usize
@@ -51,7 +48,7 @@ fn number(slots: &[u8], keys: &[u32], place: u32) -> usize
 }
 
 // Whether the numbers and masks show that the table is sound (chains, proofs/Marks.antt).
-fn marked(froms: &[u32], tos: &[u32], slots: &[u8], keys: &[u32], masks: &[u64]) -> bool
+pub fn marked(froms: &[u32], tos: &[u32], slots: &[u8], keys: &[u32], masks: &[u64]) -> bool
     requires { ⌜ (length (now froms) ≡ length (now tos)) × (length (now slots) ≡ 256) × (length (now keys) ≡ 256) × (length (now masks) ≡ 256) ⌝ }
     ensures { λ r. ⌜ (r ≡ true → Marked (now (froms .entry)) (now (tos .entry)) (numberIn (now (slots .entry)) (now (keys .entry))) (marksIn (now (masks .entry)))) ⌝ }
 {
@@ -79,119 +76,4 @@ fn marked(froms: &[u32], tos: &[u32], slots: &[u8], keys: &[u32], masks: &[u64])
         j += 1;
     }
     true
-}
-
-// Gives a place a number, which is `next` where it has none yet.
-fn enter(slots: &mut [u8], keys: &mut [u32], next: usize, place: u32) -> usize
-    requires { ⌜ (length (now slots) ≡ 256) × (length (now keys) ≡ 256) × (next < 128) ⌝ }
-    ensures { λ r. ⌜ r < 256 ⌝ }
-{
-    let mut at = slot_of(place);
-    let mut tries: usize = 0;
-    while tries < SLOTS {
-        let key = wide(slots[at]);
-        if key == 0 {
-            slots[at] = (next + 1) as u8;
-            keys[next + 1] = place;
-            return next;
-        }
-        if keys[key] == place {
-            return key - 1;
-        }
-        at = (at + 1) % SLOTS;
-        tries += 1;
-    }
-    NO_NUMBER
-}
-
-fn one_if(test: bool) -> usize
-    ensures { λ r. ⌜ r ≤ 1 ⌝ }
-{
-    if test { 1 } else { 0 }
-}
-
-// Gives a column of places their numbers, new ones from `next` on. The answer is the next new one.
-fn enter_all(
-    places: &[u32],
-    slots: &mut [u8],
-    keys: &mut [u32],
-    next: usize,
-    numbers: &mut [u8],
-) -> usize
-    requires { ⌜ (length (now slots) ≡ 256) × (length (now keys) ≡ 256) × (length (now places) ≤ length (now numbers)) × (next + length (now places) ≤ 128) ⌝ }
-    ensures { λ r. ⌜ r ≤ next + length (now (places .entry)) ⌝ }
-{
-    let mut count = next;
-    let mut j: usize = 0;
-    while j < places.len() {
-        let number = enter(slots, keys, count, places[j]);
-        numbers[j] = number as u8;
-        count += one_if(number == count);
-        j += 1;
-    }
-    count
-}
-
-// Route j hands on to the number it starts from. Whether that was new there.
-fn hand(starts: &[u8], ends: &[u8], j: usize, masks: &mut [u64]) -> bool
-    requires { ⌜ (j < length (now starts)) × (j < length (now ends)) × (length (now masks) ≡ 256) ⌝ }
-{
-    let end = wide(ends[j]);
-    let start = wide(starts[j]);
-    if end >= WIDTH {
-        return false;
-    }
-    let had = masks[start];
-    let has = masks::both(had, masks::with(masks[end], end as u32));
-    masks[start] = has;
-    has != had
-}
-
-// All routes hand on, the last first where `down`. Whether anything was new.
-fn pass(starts: &[u8], ends: &[u8], n: usize, down: bool, masks: &mut [u64]) -> bool
-    requires { ⌜ (n ≤ length (now starts)) × (n ≤ length (now ends)) × (length (now masks) ≡ 256) ⌝ }
-{
-    let mut new = false;
-    let mut i: usize = 0;
-    while i < n {
-        new = new | hand(starts, ends, nth(i, n, down), masks);
-        i += 1;
-    }
-    new
-}
-
-fn nth(i: usize, n: usize, down: bool) -> usize
-    requires { ⌜ i < n ⌝ }
-    ensures { λ r. ⌜ r < n ⌝ }
-{
-    if down { n - 1 - i } else { i }
-}
-
-// Passes down and up in turn until nothing is new. A table in book order takes two.
-fn settle(starts: &[u8], ends: &[u8], n: usize, masks: &mut [u64])
-    requires { ⌜ (n ≤ length (now starts)) × (n ≤ length (now ends)) × (length (now masks) ≡ 256) ⌝ }
-{
-    let mut turns: usize = 0;
-    while turns < WIDTH {
-        if !pass(starts, ends, n, turns % 2 == 0, masks) {
-            return;
-        }
-        turns += 1;
-    }
-}
-
-// Whether the table is seen to be sound.
-pub fn seen_sound(froms: &[u32], tos: &[u32]) -> bool
-    requires { ⌜ (length (now froms) ≤ width) × (length (now froms) ≡ length (now tos)) ⌝ }
-    ensures { λ r. ⌜ (r ≡ true → LoopFree (now (froms .entry)) (now (tos .entry)) × Single (now (froms .entry)) (now (tos .entry))) ⌝ }
-{
-    let mut slots = [0u8; SLOTS];
-    let mut keys = [0u32; SLOTS];
-    let mut starts = [0u8; WIDTH];
-    let mut ends = [0u8; WIDTH];
-    let mut masks = [0u64; SLOTS];
-    let next = enter_all(tos, &mut slots, &mut keys, 0, &mut ends);
-    enter_all(froms, &mut slots, &mut keys, next, &mut starts);
-    settle(&starts, &ends, froms.len(), &mut masks);
-    marked(froms, tos, &slots, &keys, &masks)
 }

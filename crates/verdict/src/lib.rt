@@ -1,5 +1,5 @@
 // The verdict on a table of routes: a loop, a doubling, or sound (refusals 10 and 11 of the book reader, and part of 12).
-// What it says is stated over chains (specs/Verdicts.antt); the masks of `marks` and `reach` are only how it is found.
+// What it says is stated over chains (specs/Verdicts.antt); the masks of `marking` and `reach` are only how it is found.
 ghost use mathlib.Core.Path.{_≡_};
 ghost use Prim.Native.Nat.{_<_, _≤_};
 ghost use lib.ListN.{length};
@@ -121,7 +121,7 @@ pub fn judge(froms: &[u32], tos: &[u32]) -> Verdict
     requires { ⌜ (length (now froms) ≤ width) × (length (now froms) ≡ length (now tos)) ⌝ }
     ensures { λ r. ⌜ Judged (now (froms .entry)) (now (tos .entry)) r ⌝ }
 {
-    if marks::seen_sound(froms, tos) {
+    if marking::seen_sound(froms, tos) {
         return Verdict::Sound;
     }
     judge_by_reach(froms, tos)

@@ -1,10 +1,10 @@
--- `marks::settle` is safe and ends: it takes at most 64 turns. Assumes nothing.
+-- `marking::settle` is safe and ends: it takes at most 64 turns. Assumes nothing.
 use borrow.Author.Needs.{needs}
 use mathlib.Core.Path.{_≡_}
 use Prim.Native.Nat.{_-_, _≤_}
 use lib.ListN.{length}
-use Rattle.marks.proofs.settle.Statement.{statement}
-use Rattle.marks.proofs.settle.Tie as tie
+use Rattle.marking.proofs.settle.Statement.{statement}
+use Rattle.marking.proofs.settle.Tie as tie
 
 abbrev Inv-loop : tie.InvT-loop
 Inv-loop starts ends n masks₀ turns₀ masks turns = (turns ≤ 64) × (length masks ≡ length masks₀)

@@ -1,10 +1,10 @@
--- `marks::enter_all` is safe and ends: each turn passes a place, and gives at most one new number. Assumes nothing.
+-- `marking::enter_all` is safe and ends: each turn passes a place, and gives at most one new number. Assumes nothing.
 use borrow.Author.Needs.{needs}
 use mathlib.Core.Path.{_≡_}
 use Prim.Native.Nat.{_-_, _+_, _≤_}
 use lib.ListN.{length}
-use Rattle.marks.proofs.enter_all.Statement.{statement}
-use Rattle.marks.proofs.enter_all.Tie as tie
+use Rattle.marking.proofs.enter_all.Statement.{statement}
+use Rattle.marking.proofs.enter_all.Tie as tie
 
 abbrev Inv-loop : tie.InvT-loop
 Inv-loop places slots₀ keys₀ next numbers₀ count₀ j₀ slots keys numbers count j = (j ≤ length places) × (count ≤ next + j) × (length slots ≡ length slots₀) × (length keys ≡ length keys₀) × (length numbers ≡ length numbers₀)

@@ -1,8 +1,8 @@
--- `marks::seen_sound` meets its contract: what `marked` shows makes the table sound. Assumes nothing.
+-- `marking::seen_sound` meets its contract: what `marked` shows makes the table sound. Assumes nothing.
 use Rattle.chains.proofs.Marks.{marked-free, marked-single}
 use borrow.Author.Needs.{needs}
-use Rattle.marks.proofs.seen_sound.Statement.{statement}
-use Rattle.marks.proofs.seen_sound.Tie as tie
+use Rattle.marking.proofs.seen_sound.Statement.{statement}
+use Rattle.marking.proofs.seen_sound.Tie as tie
 
 slice-aggregate-enter-all : tie.Need-slice-aggregate-enter-all
 slice-aggregate-enter-all c = search needs

@@ -1,10 +1,10 @@
--- `marks::pass` is safe and ends: each turn passes a route. Assumes nothing.
+-- `marking::pass` is safe and ends: each turn passes a route. Assumes nothing.
 use borrow.Author.Needs.{needs}
 use mathlib.Core.Path.{_≡_}
 use Prim.Native.Nat.{_-_, _≤_}
 use lib.ListN.{length}
-use Rattle.marks.proofs.pass.Statement.{statement}
-use Rattle.marks.proofs.pass.Tie as tie
+use Rattle.marking.proofs.pass.Statement.{statement}
+use Rattle.marking.proofs.pass.Tie as tie
 
 abbrev Inv-loop : tie.InvT-loop
 Inv-loop starts ends n down masks₀ new₀ i₀ masks new i = (i ≤ n) × (length masks ≡ length masks₀)

@@ -1,10 +1,10 @@
--- `marks::enter` is safe and ends: each turn passes a slot. Assumes nothing.
+-- `marking::enter` is safe and ends: each turn passes a slot. Assumes nothing.
 use borrow.Author.Needs.{needs}
 use mathlib.Core.Path.{_≡_}
 use Prim.Native.Nat.{_-_, _<_, _≤_}
 use lib.ListN.{length}
-use Rattle.marks.proofs.enter.Statement.{statement}
-use Rattle.marks.proofs.enter.Tie as tie
+use Rattle.marking.proofs.enter.Statement.{statement}
+use Rattle.marking.proofs.enter.Tie as tie
 
 abbrev Inv-loop : tie.InvT-loop
 Inv-loop slots₀ keys₀ next place at₀ tries₀ slots keys at tries = (tries ≤ 256) × (at < 256) × (length slots ≡ length slots₀) × (length keys ≡ length keys₀)
