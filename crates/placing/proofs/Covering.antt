@@ -1,8 +1,8 @@
 -- The frame bits of several signals in one mask: it has a bit of a further signal just where the signal meets one of them. Assumes nothing.
-use mathlib.Core.Path.{_≡_, refl, sym, ap, _∙_, subst}
-use mathlib.Core.Bool.{Bool, true, false, _&&_, _||_}
+use mathlib.Core.Path.{_≡_, refl, sym, ap, _∙_}
+use mathlib.Core.Bool.{Bool, true, false, _||_, or-true, or-false, or-assoc}
 use mathlib.Core.List.{List, [], _∷_, _++_}
-use Prim.Native.Nat.{ℕ, zero, suc, _+_, _≤_, _<_}
+use Prim.Native.Nat.{ℕ, _+_, _≤_, _<_}
 use native.Mathlib.Omega.{arith}
 use lib.Dec.{leb, ltb}
 use borrow.Author.Tests.{lt-ltb, le-leb, ltb-true, leb-true, leb-false}
@@ -27,22 +27,10 @@ pub covers-none : (k : ℕ) → covers [] k ≡ false
 unfolding covers
 covers-none k = refl
 
-or-assoc : (a b c : Bool) → a || (b || c) ≡ (a || b) || c
-or-assoc true b c = refl
-or-assoc false b c = refl
-
-or-false : (a : Bool) → a || false ≡ a
-or-false true = refl
-or-false false = refl
-
-or-true : (a : Bool) → a || true ≡ true
-or-true true = refl
-or-true false = refl
-
 pub covers-more : (qs : List Placement) (p : Placement) (k : ℕ) → covers (qs ++ (p ∷ [])) k ≡ covers qs k || has p k
 unfolding covers inRun
 covers-more [] p k = or-false (has p k)
-covers-more (q ∷ qs) p k = ap (λ (t : Bool). has q k || t) (covers-more qs p k) ∙ or-assoc (has q k) (covers qs k) (has p k)
+covers-more (q ∷ qs) p k = ap (λ (t : Bool). has q k || t) (covers-more qs p k) ∙ sym (or-assoc (has q k) (covers qs k) (has p k))
 
 -- each of the signals has bits
 pub data Wide : List Placement → Type 0 where

@@ -1,12 +1,12 @@
 -- A number whose mark is not set is none of those that set theirs. Assumes nothing.
 use mathlib.Core.Path.{_≡_, refl, sym, ap, _∙_, subst}
-use mathlib.Core.Bool.{Bool, true, false, _||_}
+use mathlib.Core.Bool.{Bool, true, false, _||_, or-true}
 use mathlib.Core.List.{List}
-use Prim.Native.Nat.{ℕ, _+_, _%_, _≤_, _<_}
+use Prim.Native.Nat.{ℕ, _+_, _%_}
 use native.Mathlib.Omega.{arith}
 use lib.Arith.{lt-of-le-ne}
 use lib.Dec.{eqb}
-use lib.ListN.{length, take, getD}
+use lib.ListN.{take, getD}
 use borrow.Author.Tests.{eqb-true, eqb-false, eq-eqb}
 use Rattle.books.specs.Lines.{isIn}
 use Rattle.columns.proofs.Laws.{absent}
@@ -19,10 +19,6 @@ unmarked l marks i x e m =
     let a : bit marks (x % 64) ≡ true = subst (λ (n : ℕ). bit marks (n % 64) ≡ true) d (m j p q) in
     let z : _≡_ {A = ℕ} 0 1 = cc in
     omega arith)
-
-or-true : (t : Bool) → t || true ≡ true
-or-true true = refl
-or-true false = refl
 
 pub marked-more : (l : List ℕ) (marks marks′ i x : ℕ) → x ≡ getD l i 0 → ((j : ℕ) → bit marks′ j ≡ bit marks j || eqb j (x % 64)) → Marked l marks i → Marked l marks′ (i + 1)
 marked-more l marks marks′ i x e w m j p q = w (getD l j 0 % 64) ∙ go (eqb j i) refl

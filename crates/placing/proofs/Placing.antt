@@ -1,6 +1,6 @@
 -- One signal against its frame, and against those before it, one at a time. Assumes nothing.
-use mathlib.Core.Path.{_≡_, refl, sym, ap, _∙_}
-use mathlib.Core.Bool.{Bool, true, false, _&&_, _||_, not}
+use mathlib.Core.Path.{_≡_, refl, ap}
+use mathlib.Core.Bool.{true, false, not, or-true, or-false}
 use mathlib.Core.List.{List, [], _∷_}
 use Prim.Native.Nat.{ℕ, suc, _+_, _≤_, _<_}
 use native.Mathlib.Omega.{arith}
@@ -16,10 +16,6 @@ use Rattle.books.specs.Lines.{unknownOrOver, misplaced, meets, meetsEarlier, fr
 use Rattle.books.specs.Words.{placed}
 use Rattle.books.proofs.Tests.{neither, both-false}
 use Rattle.placing.specs.Placing.{placement, standsAlone}
-
-or-false : (t : Bool) → t || false ≡ t
-or-false true = refl
-or-false false = refl
 
 -- ---- by itself: past the frame's end, and the two that have a start of their own
 module _ (n s b : ℕ) (e : b ≡ bitsOf n) where
@@ -41,10 +37,6 @@ module _ (n s b : ℕ) (e : b ≡ bitsOf n) where
     well-placed f g = rw (← e, le-ltb _ _ h, ne-eqb _ _ f, ne-eqb _ _ g)
 
 -- ---- a number of the catalogue, at a start within the limit
-or-true : (t : Bool) → t || true ≡ true
-or-true true = refl
-or-true false = refl
-
 module _ (n s : ℕ) where
   pub unknown : bitsOf n ≡ 0 → unknownOrOver (placement n s) ≡ true
   unfolding unknownOrOver

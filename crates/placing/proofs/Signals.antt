@@ -2,7 +2,8 @@
 use mathlib.Core.Path.{_≡_, refl, sym, ap, _∙_, subst}
 use mathlib.Core.Bool.{Bool, true, false, _&&_, _||_, not}
 use mathlib.Core.List.{List, [], _∷_, _++_}
-use Prim.Native.Nat.{ℕ, zero, suc, _+_, _%_, _≤_, _<_}
+use Prim.Native.Nat.{ℕ, suc, _+_, _%_, _≤_, _<_}
+use native.Mathlib.Nat.{pos-of-ne-zero}
 use native.Mathlib.Omega.{arith}
 use native.Mathlib.Numerals.{add-one}
 use lib.Dec.{eqb, leb}
@@ -19,7 +20,7 @@ use Rattle.masks.specs.Bit.{bit, meeting}
 use Rattle.masks.proofs.Bits.{bit-zero}
 use Rattle.placing.specs.Placing.{placement, standsAlone, inRun, Marked}
 use Rattle.placing.proofs.Placing.{placed-numbers}
-use Rattle.placing.proofs.Covering.{has, covers, covers-none, covers-more, Wide, none, more, wide-more, same-meeting}
+use Rattle.placing.proofs.Covering.{has, covers, covers-none, covers-more, Wide, none, wide-more, same-meeting}
 use Rattle.placing.proofs.Marks.{marked-more}
 
 -- the signals before `at`, and those from it on
@@ -76,16 +77,12 @@ module _ (others : List Placement) (p : Placement) where
   well : standsAlone p ≡ true → isIn (p .number) (numbers others) ≡ false → meetsEarlier others p ≡ false → fits others p ≡ true
   well = all-pass (unknownOrOver p) (isIn (p .number) (numbers others)) (misplaced p) (meetsEarlier others p)
 
-positive : (k : ℕ) → (k ≡ 0 → ⊥) → 0 < k
-positive zero n = absurd (n refl)
-positive (suc k) n = omega arith
-
 -- such a signal has bits
 has-bits : (p : Placement) → standsAlone p ≡ true → 0 < bitsOf (p .number)
 unfolding unknownOrOver
 has-bits p h =
     let n = neither (eqb (bitsOf (p .number)) 0 || leb frameBits (p .start)) (misplaced p) h in
-    positive (bitsOf (p .number)) (eqb-false _ _ (both-false (eqb (bitsOf (p .number)) 0) (leb frameBits (p .start)) (n .0) .0))
+    pos-of-ne-zero (eqb-false _ _ (both-false (eqb (bitsOf (p .number)) 0) (leb frameBits (p .start)) (n .0) .0))
 
 -- ---- the loop
 

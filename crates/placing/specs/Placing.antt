@@ -1,11 +1,10 @@
 -- A signal's frame bits, and the marks by which signals are told apart quickly. Assumes nothing: these are definitions.
 use mathlib.Core.Path.{_≡_}
-use mathlib.Core.Bool.{Bool, true, false, _&&_, _||_, not}
-use mathlib.Core.List.{List, [], _∷_}
+use mathlib.Core.Bool.{Bool, true, _&&_, _||_, not}
+use mathlib.Core.List.{List}
 use Prim.Native.Nat.{ℕ, _+_, _%_, _<_}
 use lib.Dec.{leb, ltb}
 use lib.ListN.{length, getD}
-use Rattle.catalogue.specs.Find.{bitsOf}
 use Rattle.books.specs.Book.{Placement}
 use Rattle.books.specs.Lines.{unknownOrOver, misplaced}
 use Rattle.masks.specs.Bit.{bit}

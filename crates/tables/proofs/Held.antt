@@ -1,19 +1,18 @@
 -- What the columns say in words that hold a book. Assumes nothing.
 use mathlib.Core.Path.{_≡_, refl, sym, ap, _∙_, subst}
-use mathlib.Core.Bool.{Bool, true, false, cond}
 use mathlib.Core.List.{List, [], _∷_, _++_, map, append-assoc}
-use Prim.Native.Nat.{ℕ, zero, suc, _+_, _-_, _≤_, _<_}
+use Prim.Native.Nat.{ℕ, _+_, _-_, _≤_, _<_}
 use native.Mathlib.Nat.{zero-add}
 use native.Mathlib.Omega.{arith}
 use lib.ListN.{length, take, drop, getD, replicate, length-append, length-map}
 use lib.Seq.{take-at, drop-at, getD-at}
-use borrow.Author.Tests.{lt-ltb, le-ltb}
-use Rattle.books.specs.Book.{Placement, Message, Route, Book, identifiers, numbers, allPlacements, lastPlacements}
-use Rattle.books.specs.Words.{column, starts, endsAfter, idColumn, endColumn, numberColumn, startColumn, messageColumns, routeColumns, wordsOf, placed, Stands}
-use Rattle.books.proofs.Ends.{map-append, last-placements, Last, last}
+use borrow.Author.Tests.{le-ltb}
+use Rattle.books.specs.Book.{Placement, Message, Book, identifiers, numbers, allPlacements, lastPlacements}
+use Rattle.books.specs.Words.{column, starts, endsAfter, endColumn, numberColumn, startColumn, messageColumns, routeColumns, wordsOf, placed, Stands}
+use Rattle.books.proofs.Ends.{map-append, last-placements, last}
 use Rattle.books.proofs.Columns.{take-column, length-ends, columns-long, ids-stand, ends-stand, numbers-stand, starts-stand}
 use Rattle.record.specs.Columns.{messageCountOf, signalCountOf, routeCountOf, idsOf, endsOf, numbersOf, startsOf}
-use Rattle.tables.specs.Adding.{Within, Holds, lastBegin}
+use Rattle.tables.specs.Adding.{Holds, lastBegin}
 use Rattle.tables.proofs.Longer.{all-last, ends-last}
 
 pub placed-back : (ps : List Placement) → placed (numbers ps) (starts ps) ≡ ps

@@ -6,3 +6,5 @@ pub mod Refused
 pub mod Room
 pub mod Parted
 pub mod Tested
+pub mod Once
+pub mod OneOutcome

@@ -1,13 +1,13 @@
 -- The columns of a book with one line more. Assumes nothing.
-use mathlib.Core.Path.{_≡_, refl, sym, ap, _∙_}
-use mathlib.Core.List.{List, [], _∷_, _++_, map, append-assoc, append-nil}
-use Prim.Native.Nat.{ℕ, zero, suc, _+_, _-_, _≤_, _<_}
-use native.Mathlib.Nat.{zero-add, add-zero, add-assoc}
+use mathlib.Core.Path.{_≡_, sym, ap, _∙_}
+use mathlib.Core.List.{List, [], _∷_, _++_, append-assoc, append-nil}
+use Prim.Native.Nat.{ℕ, _+_}
+use native.Mathlib.Nat.{zero-add}
 use native.Mathlib.Omega.{arith}
-use lib.ListN.{length, set, take, drop, getD, length-append, length-map}
-use Rattle.books.specs.Book.{Placement, Message, Route, Book, identifiers, numbers, allPlacements, fresh, withPlacement, inLast, lastPlacements}
-use Rattle.books.specs.Words.{column, starts, endsAfter, idColumn, endColumn, numberColumn, startColumn}
-use Rattle.books.proofs.Ends.{map-append, all-append, in-last, Last, last}
+use lib.ListN.{length, length-append}
+use Rattle.books.specs.Book.{Placement, Message, identifiers, allPlacements, fresh, withPlacement}
+use Rattle.books.specs.Words.{endsAfter}
+use Rattle.books.proofs.Ends.{map-append, all-append, last}
 
 all-one : (m : Message) → allPlacements (m ∷ []) ≡ m .placements
 unfolding allPlacements

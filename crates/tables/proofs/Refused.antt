@@ -1,19 +1,18 @@
 -- Why a line is refused, in words that hold a book: one case after the other. Assumes nothing.
-use mathlib.Core.Path.{_≡_, refl, sym, ap, _∙_, subst}
-use mathlib.Core.Bool.{Bool, true, false, cond, _||_}
+use mathlib.Core.Path.{_≡_, sym, _∙_}
+use mathlib.Core.Bool.{Bool, true, false, _||_, or-true}
 use mathlib.Core.List.{List}
-use Prim.Native.Nat.{ℕ, zero, suc, _≤_, _<_}
-use lib.Dec.{leb, eqb}
+use Prim.Native.Nat.{ℕ, suc, _≤_, _<_}
+use lib.Dec.{leb}
 use lib.ListN.{length, take}
 use borrow.Author.Tests.{ne-eqb, le-leb, lt-leb, leb-false}
-use Rattle.catalogue.specs.Find.{bitsOf}
 use Rattle.books.specs.Book.{Placement, Message, Book, identifiers, allPlacements, lastPlacements}
 use Rattle.books.specs.Lines.{isIn, unknownOrOver, messageRefusal, signalRefusal, routeRefusal, identifierLimit, messageLimit, busLimit, routeLimit}
 use Rattle.books.specs.Words.{wordsOf}
 use Rattle.books.proofs.Tests.{both-false}
 use Rattle.record.specs.Columns.{messageCountOf, routeCountOf, idsOf}
 use Rattle.tables.specs.declared.Added.{Added}
-use Rattle.tables.specs.Adding.{Holds, Judged, refusalOf, unless, placement, afterRefusal}
+use Rattle.tables.specs.Adding.{Holds, Judged, refusalOf, unless, afterRefusal}
 use Rattle.tables.proofs.Held.{messages-held, routes-held, ids-held}
 
 -- ---- a line that is refused leaves the words, and one that is taken makes those of the new book
@@ -53,10 +52,6 @@ module _ (w : List ℕ) (b : Book) (h : Holds w b) (i count : ℕ) (e : count �
       message-free l = rw (lt-leb _ _ g, held false m, counted, lt-leb _ _ l)
 
 -- ---- an `R` line
-or-true : (t : Bool) → t || true ≡ true
-or-true true = refl
-or-true false = refl
-
 -- a place that is within the limits
 pub inside : (x i : ℕ) → leb busLimit x || leb identifierLimit i ≡ false → (x < busLimit) × (i < identifierLimit)
 inside x i e = let f = both-false (leb busLimit x) (leb identifierLimit i) e in (leb-false _ _ (f .0), leb-false _ _ (f .1))

@@ -1,8 +1,9 @@
 -- A book stays within the limits with each line that is taken. Assumes nothing.
-use mathlib.Core.Path.{_≡_, refl, sym, ap, _∙_, subst}
-use mathlib.Core.Bool.{Bool, cond, _||_}
+use mathlib.Core.Path.{_≡_, sym, ap, _∙_, subst}
+use mathlib.Core.Bool.{_||_}
 use mathlib.Core.List.{List, [], _∷_, _++_}
-use Prim.Native.Nat.{ℕ, zero, suc, _+_, _≤_, _<_}
+use Prim.Native.Nat.{ℕ, _+_, _<_}
+use native.Mathlib.Nat.{pos-of-ne-zero}
 use native.Mathlib.Omega.{arith}
 use lib.Dec.{leb, eqb}
 use lib.ListN.{length, length-append}
@@ -10,7 +11,7 @@ use borrow.Author.Tests.{leb-false, eqb-false}
 use Rattle.books.specs.Book.{Placement, Message, Route, Book, noBook, allPlacements, fresh, inLast, withPlacement, lastPlacements, numbers, identifiers}
 use Rattle.books.specs.Lines.{isIn, unknownOrOver, misplaced, meetsEarlier, messageRefusal, signalRefusal, routeRefusal, messageLimit, signalLimit, routeLimit, identifierLimit, busLimit}
 use Rattle.books.proofs.Tests.{not-refused}
-use Rattle.books.proofs.Ends.{in-last, Last, last}
+use Rattle.books.proofs.Ends.{in-last, last}
 use Rattle.tables.specs.Adding.{Within, withMessage, withSignal, withRoute}
 use Rattle.tables.proofs.Longer.{placements-stay, placements-more}
 
@@ -37,11 +38,7 @@ signal-room ms p e =
     let f = not-refused (meetsEarlier (lastPlacements ms) p) 7 _ (d .1) in
     let g = not-refused (leb signalLimit (length (allPlacements ms))) 8 0 (f .1) in
     let n = eqb-false (length ms) 0 (b .0) in
-    record { some = positive (length ms) n; room = leb-false _ _ (g .0) }
-  where
-    positive : (k : ℕ) → (k ≡ 0 → ⊥) → 0 < k
-    positive zero n = absurd (n refl)
-    positive (suc k) n = omega arith
+    record { some = pos-of-ne-zero n; room = leb-false _ _ (g .0) }
 
 pub route-room : (rs : List Route) (a i b j : ℕ) → routeRefusal rs a i b j ≡ 0 → length rs < routeLimit
 unfolding routeRefusal

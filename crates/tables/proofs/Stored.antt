@@ -1,17 +1,17 @@
 -- The words of a line stored in the words of a book make the words of the book with the line. Assumes nothing.
-use mathlib.Core.Path.{_≡_, refl, sym, ap, _∙_, subst}
+use mathlib.Core.Path.{_≡_, sym, ap, _∙_, subst}
 use mathlib.Core.List.{List, [], _∷_, _++_, map}
-use Prim.Native.Nat.{ℕ, zero, suc, _+_, _-_, _≤_, _<_}
+use Prim.Native.Nat.{ℕ, _+_, _-_, _<_}
 use native.Mathlib.Nat.{zero-add}
 use native.Mathlib.Omega.{arith}
 use lib.ListN.{length, set, length-append, length-map, length-set}
 use Rattle.books.specs.Book.{Placement, Message, Route, Book, identifiers, numbers, allPlacements, fresh, withPlacement, inLast}
 use Rattle.books.specs.Words.{column, starts, endsAfter, idColumn, endColumn, numberColumn, startColumn, wordsOf}
-use Rattle.books.proofs.Ends.{map-append, in-last, Last, last}
+use Rattle.books.proofs.Ends.{map-append, in-last, last}
 use Rattle.books.proofs.Columns.{length-column, length-ends, ids-long, ends-long, numbers-long, starts-long}
-use Rattle.tables.specs.Adding.{Within, withMessage, withSignal, withRoute}
-use Rattle.tables.proofs.Flat.{flat, fromColumn, toColumn, words-flat, column-more, column-last, set-messages, set-signals, set-routes, set-ids, set-ends, set-numbers, set-starts, set-froms, set-tos}
-use Rattle.tables.proofs.Longer.{ends-last, identifiers-more, placements-stay, ends-more, identifiers-stay, placements-more}
+use Rattle.tables.specs.Adding.{Within, withMessage, withRoute}
+use Rattle.tables.proofs.Flat.{fromColumn, toColumn, words-flat, column-more, column-last, set-messages, set-signals, set-routes, set-ids, set-ends, set-numbers, set-starts, set-froms, set-tos}
+use Rattle.tables.proofs.Longer.{ends-last, placements-stay, ends-more, identifiers-stay, placements-more}
 
 -- a column of what f reads off each of a list, with one more
 column-map {ℓ} : {A : Type ℓ} (k : ℕ) (f : A → ℕ) (l : List A) (x : A) → length l < k → set (column k (map f l)) (length l) (f x) ≡ column k (map f (l ++ (x ∷ [])))

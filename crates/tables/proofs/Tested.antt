@@ -1,11 +1,10 @@
 -- The test of the message and signal tables passes just where they are those of a taken book. Assumes nothing.
-use mathlib.Core.Path.{_≡_, refl, sym, ap, _∙_, subst}
+use mathlib.Core.Path.{_≡_, refl, sym, ap, _∙_}
 use mathlib.Core.Bool.{Bool, true, false, _&&_}
-use mathlib.Core.List.{List, [], _∷_, _++_, map}
+use mathlib.Core.List.{List, [], _∷_, _++_}
 use Prim.Native.Nat.{ℕ, _+_, _-_, _≤_, _<_}
 use native.Mathlib.Omega.{arith}
-use lib.Dec.{leb}
-use lib.ListN.{length, take, drop, getD, replicate, length-drop, length-map, take-append-drop}
+use lib.ListN.{length, take, drop, replicate, length-drop, length-map, take-append-drop}
 use lib.Seq.{length-take-le, take-add, drop-drop, drop-at}
 use borrow.Author.Tests.{le-leb}
 use Rattle.books.specs.Book.{Placement, Message, identifiers, numbers, allPlacements}

@@ -5,7 +5,7 @@ use mathlib.Core.Bool.{cond}
 use lib.Dec.{leb, ltb}
 use mathlib.Core.List.{List, [], _∷_, _++_}
 use lib.ListN.{length, getD}
-use Rattle.books.specs.Book.{Placement, Message, Route, Book, numbers, allPlacements, fresh, inLast}
+use Rattle.books.specs.Book.{Placement, Route, Book, numbers, allPlacements, fresh, inLast}
 use Rattle.books.specs.Lines.{isIn, misplaced, meetsEarlier, messageLimit, signalLimit, routeLimit}
 use Rattle.books.specs.Words.{wordsOf}
 pub use Rattle.placing.specs.Placing.{placement}
