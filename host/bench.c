@@ -12,9 +12,9 @@
 struct face {
     uint32_t (*book_read)(const uint8_t *, size_t, uint32_t *, uint32_t *);
     uint32_t (*class_of)(uint32_t, uint32_t, uint32_t *, int64_t *);
-    uint32_t (*frame_read)(const uint32_t *, uint32_t, const uint8_t *, size_t, uint32_t *, size_t, uint8_t *, size_t, int64_t *, size_t, uint32_t *);
+    uint32_t (*frame_read)(const uint32_t *, uint32_t, const uint8_t *, size_t, uint32_t *, size_t, uint8_t *, size_t, int64_t *, size_t, size_t *);
     uint32_t (*frame_pack)(const uint32_t *, uint32_t, const uint32_t *, size_t, uint8_t *, size_t);
-    uint32_t (*spread)(const uint32_t *, uint32_t, uint32_t, uint32_t *, size_t, uint32_t *);
+    uint32_t (*spread)(const uint32_t *, uint32_t, uint32_t, uint32_t *, size_t, size_t *);
     uint32_t (*fault_sum)(const uint32_t *, size_t, uint32_t *);
     uint32_t (*power_step)(uint32_t *, struct pc_observation);
     uint32_t (*sleep_watch)(uint32_t *, uint32_t *, uint32_t, uint32_t);
@@ -31,7 +31,7 @@ static uint32_t no_class(uint32_t a, uint32_t b, uint32_t *c, int64_t *d) {
     (void)a, (void)b, (void)c, (void)d;
     return 0;
 }
-static uint32_t no_frame_read(const uint32_t *a, uint32_t b, const uint8_t *c, size_t d, uint32_t *e, size_t f, uint8_t *g, size_t h, int64_t *i, size_t j, uint32_t *k) {
+static uint32_t no_frame_read(const uint32_t *a, uint32_t b, const uint8_t *c, size_t d, uint32_t *e, size_t f, uint8_t *g, size_t h, int64_t *i, size_t j, size_t *k) {
     (void)a, (void)b, (void)c, (void)d, (void)e, (void)f, (void)g, (void)h, (void)i, (void)j, (void)k;
     return 0;
 }
@@ -39,7 +39,7 @@ static uint32_t no_frame_pack(const uint32_t *a, uint32_t b, const uint32_t *c, 
     (void)a, (void)b, (void)c, (void)d, (void)e, (void)f;
     return 0;
 }
-static uint32_t no_spread(const uint32_t *a, uint32_t b, uint32_t c, uint32_t *d, size_t e, uint32_t *f) {
+static uint32_t no_spread(const uint32_t *a, uint32_t b, uint32_t c, uint32_t *d, size_t e, size_t *f) {
     (void)a, (void)b, (void)c, (void)d, (void)e, (void)f;
     return 0;
 }
@@ -91,7 +91,8 @@ static void make_thirty_bits(void) {
 
 /* The last message of the book that has as many signals as any, a frame for it and values. */
 static void choose_message(void) {
-    uint32_t first = 0, count;
+    uint32_t first = 0;
+    size_t count;
     for (uint32_t m = 0; m < book[PC_BOOK_MESSAGES]; first = book[PC_BOOK_ENDS + m], m++)
         if (book[PC_BOOK_ENDS + m] - first >= signal_count) {
             message = book[PC_BOOK_IDENTIFIERS + m];
@@ -142,7 +143,7 @@ static uint32_t call_class(uint32_t turn) {
 }
 
 static uint32_t call_frame_read(uint32_t turn) {
-    uint32_t count;
+    size_t count;
     (void)turn;
     return face->frame_read(book, message, frame, sizeof frame, raws, 64, classes, 64, thousandths, 64, &count);
 }
@@ -154,7 +155,8 @@ static uint32_t call_frame_pack(uint32_t turn) {
 
 /* From the start of each route in turn. */
 static uint32_t call_spread(uint32_t turn) {
-    uint32_t count, place = book[PC_BOOK_FROM + turn % book[PC_BOOK_ROUTES]];
+    size_t count;
+    uint32_t place = book[PC_BOOK_FROM + turn % book[PC_BOOK_ROUTES]];
     return face->spread(book, PC_BUS(place), PC_IDENTIFIER(place), places, 64, &count);
 }
 

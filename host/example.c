@@ -70,7 +70,8 @@ static uint32_t first_of(uint32_t identifier) {
 
 /* The receive handler: reads the frame, and hands it on to every place it spreads to. */
 static void on_receive(uint32_t bus, uint32_t identifier, const uint8_t *bytes, size_t length) {
-    uint32_t raws[MOST_READINGS], places[PC_MOST_ROUTES], count, refusal;
+    uint32_t raws[MOST_READINGS], places[PC_MOST_ROUTES], refusal;
+    size_t count;
     uint8_t classes[MOST_READINGS];
     int64_t thousandths[MOST_READINGS];
     refusal = pc_frame_read(book, identifier, bytes, length, raws, MOST_READINGS, classes, MOST_READINGS, thousandths, MOST_READINGS, &count);
@@ -78,7 +79,7 @@ static void on_receive(uint32_t bus, uint32_t identifier, const uint8_t *bytes, 
         count_refusal("pc_frame_read", refusal);
         return;
     }
-    for (uint32_t i = 0; i < count; i++) {
+    for (size_t i = 0; i < count; i++) {
         uint32_t number = book[PC_BOOK_NUMBERS + first_of(identifier) + i];
         keep(number, raws[i]);
         if (classes[i] == PC_VALUE)
@@ -89,7 +90,7 @@ static void on_receive(uint32_t bus, uint32_t identifier, const uint8_t *bytes, 
         count_refusal("pc_spread", refusal);
         return;
     }
-    for (uint32_t i = 0; i < count; i++)
+    for (size_t i = 0; i < count; i++)
         send_frame(PC_BUS(places[i]), PC_IDENTIFIER(places[i]), bytes, length);
 }
 

@@ -99,10 +99,10 @@ static uint32_t first_signal(uint32_t identifier) {
 }
 
 static void list_line(const uint8_t *line, size_t length) {
-    uint32_t identifier, raws[MOST_SIGNALS_OF_FRAME], count;
+    uint32_t identifier, raws[MOST_SIGNALS_OF_FRAME];
     uint8_t frame[8], classes[MOST_SIGNALS_OF_FRAME];
     int64_t thousandths[MOST_SIGNALS_OF_FRAME];
-    size_t bytes;
+    size_t bytes, count;
     if (!parse(line, length, &identifier, frame, &bytes)) {
         put_refusal(FRAME_LINE_ILL_FORMED);
         return;
@@ -116,7 +116,7 @@ static void list_line(const uint8_t *line, size_t length) {
     if (count == 0)
         return;
     uint32_t first = first_signal(identifier);
-    for (uint32_t i = 0; i < count; i++)
+    for (size_t i = 0; i < count; i++)
         list_reading(line, book[PC_BOOK_NUMBERS + first + i], raws[i], classes[i], thousandths[i]);
 }
 

@@ -51,7 +51,7 @@ static int places_checksum(const uint32_t book[PC_BOOK_WORDS], uint32_t first, u
 
 uint32_t plain_frame_read_tested(const uint32_t book[PC_BOOK_WORDS], uint32_t identifier, const uint8_t *frame,
                                  size_t frame_length, uint32_t *raws, uint8_t *classes, int64_t *thousandths, size_t room,
-                                 uint32_t *count) {
+                                 size_t *count) {
     uint32_t first, end;
     if (frame_length != PC_FRAME_BYTES)
         return PC_NOT_EIGHT_BYTES;
@@ -76,7 +76,7 @@ uint32_t plain_frame_read_tested(const uint32_t book[PC_BOOK_WORDS], uint32_t id
 
 uint32_t plain_frame_read(const uint32_t book[PC_BOOK_WORDS], uint32_t identifier, const uint8_t *frame, size_t frame_length,
                           uint32_t *raws, size_t raws_length, uint8_t *classes, size_t classes_length,
-                          int64_t *thousandths, size_t thousandths_length, uint32_t *count) {
+                          int64_t *thousandths, size_t thousandths_length, size_t *count) {
     size_t room = raws_length;
     if (classes_length < room)
         room = classes_length;

@@ -278,11 +278,11 @@ static void try_frame_read(void) {
     uint32_t raw_room = any_room(end - first), class_room = any_room(end - first), thousandth_room = any_room(end - first);
     struct lent *b = lend("book", book, sizeof book), *frame = lend("frame", bytes, length);
     struct lent *raws = lend("raws", 0, 4 * raw_room), *classes = lend("classes", 0, class_room);
-    struct lent *thousandths = lend("thousandths", 0, 8 * thousandth_room), *count = lend("count", 0, 4);
+    struct lent *thousandths = lend("thousandths", 0, 8 * thousandth_room), *count = lend("count", 0, sizeof(size_t));
     uint32_t library = pc_frame_read(L(b, uint32_t), identifier, L(frame, uint8_t), length, L(raws, uint32_t), raw_room, L(classes, uint8_t),
-                                     class_room, L(thousandths, int64_t), thousandth_room, L(count, uint32_t));
+                                     class_room, L(thousandths, int64_t), thousandth_room, L(count, size_t));
     uint32_t plain = plain_frame_read(P(b, uint32_t), identifier, P(frame, uint8_t), length, P(raws, uint32_t), raw_room, P(classes, uint8_t),
-                                      class_room, P(thousandths, int64_t), thousandth_room, P(count, uint32_t));
+                                      class_room, P(thousandths, int64_t), thousandth_room, P(count, size_t));
     judge(FRAME_READ, library, plain, 2);
 }
 
@@ -320,9 +320,9 @@ static void try_spread(void) {
     uint32_t routes = book[2] <= 64 ? book[2] : 64, place = book[(once_in(3) ? PC_BOOK_TO : PC_BOOK_FROM) + below(routes ? routes : 1)];
     uint32_t bus = once_in(16) ? 8 + any_number() % 0xFFFFFFF8u : PC_BUS(place);
     uint32_t identifier = once_in(16) ? any_number() : PC_IDENTIFIER(place), room = once_in(3) ? below(8) : below(70);
-    struct lent *b = lend("book", book, sizeof book), *places = lend("places", 0, 4 * room), *count = lend("count", 0, 4);
-    uint32_t library = pc_spread(L(b, uint32_t), bus, identifier, L(places, uint32_t), room, L(count, uint32_t));
-    uint32_t plain = plain_spread(P(b, uint32_t), bus, identifier, P(places, uint32_t), room, P(count, uint32_t));
+    struct lent *b = lend("book", book, sizeof book), *places = lend("places", 0, 4 * room), *count = lend("count", 0, sizeof(size_t));
+    uint32_t library = pc_spread(L(b, uint32_t), bus, identifier, L(places, uint32_t), room, L(count, size_t));
+    uint32_t plain = plain_spread(P(b, uint32_t), bus, identifier, P(places, uint32_t), room, P(count, size_t));
     judge(SPREAD, library, plain, 1);
 }
 

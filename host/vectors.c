@@ -67,14 +67,15 @@ static void catalogue_case(void) {
 }
 
 static void print_spread(uint32_t bus, uint32_t identifier, uint32_t room, const char *word) {
-    uint32_t places[256], count;
+    uint32_t places[256];
+    size_t count;
     uint32_t refusal = FACE(spread)(book, bus, identifier, places, room, &count);
     if (refusal) {
         print_refusal(refusal);
         return;
     }
-    printf("%s\t%" PRIu32, word, count);
-    for (uint32_t i = 0; i < count; i++)
+    printf("%s\t%zu", word, count);
+    for (size_t i = 0; i < count; i++)
         printf("\t%08" PRIX32, places[i]);
     printf("\n");
 }
@@ -111,7 +112,8 @@ static void book_case(void) {
 }
 
 static void read_case(void) {
-    uint32_t identifier = hex(8), room = hex(2), bytes = hex(2), raws[256], count;
+    uint32_t identifier = hex(8), room = hex(2), bytes = hex(2), raws[256];
+    size_t count;
     uint8_t frame[256], classes[256];
     int64_t thousandths[256];
     for (uint32_t i = 0; i < bytes; i++)
@@ -122,8 +124,8 @@ static void read_case(void) {
         print_refusal(refusal);
         return;
     }
-    printf("read\t%" PRIu32, count);
-    for (uint32_t i = 0; i < count; i++)
+    printf("read\t%zu", count);
+    for (size_t i = 0; i < count; i++)
         printf("\t%" PRIu32 "\t%s\t%" PRId64, raws[i], class_words[classes[i]], thousandths[i]);
     printf("\n");
 }

@@ -87,7 +87,7 @@ uint32_t pc_class(uint32_t number, uint32_t raw, uint32_t *class_code, int64_t *
    the least of the three lengths. */
 uint32_t pc_frame_read(const uint32_t book[PC_BOOK_WORDS], uint32_t identifier, const uint8_t *frame, size_t frame_length,
                        uint32_t *raws, size_t raws_length, uint8_t *classes, size_t classes_length,
-                       int64_t *thousandths, size_t thousandths_length, uint32_t *count);
+                       int64_t *thousandths, size_t thousandths_length, size_t *count);
 
 /* Packs a frame from one raw count for each signal of the message, in the book's order. Bits of no signal are 1; 503 is
    filled in, and the value given for it ignored. Refusals 12, 22, 25, 21 (frame_length is not 8), then by the first bad
@@ -98,7 +98,7 @@ uint32_t pc_frame_pack(const uint32_t book[PC_BOOK_WORDS], uint32_t identifier, 
 /* Gives every place that a frame from this place reaches, in the order of the spread; *count is how many, at most 64.
    Refusals 12, 61, 62. */
 uint32_t pc_spread(const uint32_t book[PC_BOOK_WORDS], uint32_t bus, uint32_t identifier, uint32_t *places,
-                   size_t places_length, uint32_t *count);
+                   size_t places_length, size_t *count);
 
 /* The fault sum over the raw counts of 1901 to 1927, in this order. Refusals 31, 32. */
 enum {

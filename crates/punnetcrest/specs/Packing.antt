@@ -1,0 +1,12 @@
+-- Packing a frame in numbers: what the call returns, with the lent frame as it leaves it. Assumes nothing.
+use Prim.Native.Nat.{ℕ}
+use mathlib.Core.List.{List}
+use Rattle.framing.specs.declared.Packing.{Packing}
+use Rattle.framing.specs.Packing.{packingNumber, packing}
+
+abbrev pub inNumbers : Packing × List ℕ → ℕ × List ℕ
+inNumbers out = (packingNumber (out .0), out .1)
+
+-- pc_frame_pack
+abbrev pub packed : List ℕ → ℕ → List ℕ → List ℕ → ℕ × List ℕ
+packed words identifier values frame = inNumbers (packing words identifier values frame)

@@ -1,0 +1,36 @@
+// Reading a frame by a lent book.
+ghost use mathlib.Core.Path.{_≡_};
+ghost use Prim.Native.Nat.{ℕ};
+ghost use Rattle.framing.specs.Reading.{Slices};
+ghost use Rattle.punnetcrest.specs.Unpacking.{unpacked};
+use framing::Reading;
+use record::BOOK_WORDS;
+
+// Writes the raw count, class and thousandths of each signal of the message, and how many there are.
+#[no_mangle]
+pub extern "C" fn pc_frame_read(
+    book: &[u32; BOOK_WORDS],
+    identifier: u32,
+    frame: &[u8],
+    raws: &mut [u32],
+    classes: &mut [u8],
+    thousandths: &mut [i64],
+    count: &mut usize,
+) -> u32
+    ensures { λ r. ⌜ _≡_ {A = ℕ × (Slices × ℕ)} (r, (record { raws = now (raws .exit); classes = now (classes .exit); thousandths = now (thousandths .exit) }, now (count .exit)))
+        (unpacked (now (book .entry)) identifier (now (frame .entry))
+        (record { raws = now (raws .entry); classes = now (classes .entry); thousandths = now (thousandths .entry) }) (now (count .entry))) ⌝ }
+{
+    let answer = frames::read(book, identifier, frame, raws, classes, thousandths);
+    match answer {
+        Reading::Read(n) => {
+            *count = n;
+            0
+        }
+        Reading::NotABook => 12,
+        Reading::NotEightBytes => 21,
+        Reading::UnknownIdentifier => 22,
+        Reading::WrongChecksum => 23,
+        Reading::TooLittleRoom => 24,
+    }
+}
