@@ -4,27 +4,26 @@ use mathlib.Core.Bool.{Bool, true, false, cond, _&&_, _||_, not}
 use mathlib.Core.List.{List, [], _∷_}
 use lib.Dec.{eqb, ltb, leb}
 use lib.ListN.{length}
+pub use Rattle.record.specs.Limits.{identifierLimit}
+use Rattle.record.specs.Limits.{messages, signals, routes, buses, startLimit}
 use Rattle.catalogue.specs.Find.{bitsOf}
 use Rattle.books.specs.Book.{Placement, Message, Route, identifiers, numbers, allPlacements, lastPlacements}
 
--- limits
+-- the limits of document 01, under the names that lines ask for
 abbrev pub messageLimit : ℕ
-messageLimit = 64
+messageLimit = messages
 
 abbrev pub signalLimit : ℕ
-signalLimit = 256
+signalLimit = signals
 
 abbrev pub routeLimit : ℕ
-routeLimit = 64
+routeLimit = routes
 
 abbrev pub busLimit : ℕ
-busLimit = 8
-
-abbrev pub identifierLimit : ℕ
-identifierLimit = 536870912
+busLimit = buses
 
 abbrev pub frameBits : ℕ
-frameBits = 64
+frameBits = startLimit
 
 -- `n` stands in the list
 unfoldable pub isIn : ℕ → List ℕ → Bool

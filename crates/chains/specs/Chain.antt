@@ -45,3 +45,8 @@ module _ (froms tos : List ℕ) where
   -- no two different chains that join the same two places
   abbrev pub Single : Type 0
   Single = (p q : ℕ) (c d : List ℕ) → Doubling p q c d → ⊥
+
+-- no closed chain, and no two different chains that join the same two places
+pub record IsSound (froms tos : List ℕ) : Type 0 where
+  pub loop-free : LoopFree froms tos
+  pub single : Single froms tos

@@ -7,7 +7,7 @@ use Rattle.record.specs.Limits.{textLimit}
 use Rattle.record.specs.Columns.{routeCountOf}
 use Rattle.line.specs.declared.Line.{Line}
 use Rattle.line.specs.declared.Line.the-variants as line
-use Rattle.chains.specs.Chain.{LoopFree, Single}
+use Rattle.chains.specs.Chain.{IsSound}
 use Rattle.books.specs.Book.{Book, Route}
 use Rattle.books.specs.Words.{routeColumns}
 use Rattle.reading.specs.Reading.{passed, linesRead}
@@ -19,10 +19,9 @@ froms rs = map (λ (r : Route). r .from) rs
 abbrev pub tos : List Route → List ℕ
 tos rs = map (λ (r : Route). r .to) rs
 
--- no closed chain, and no two different chains that join the same two places
-pub record Sound (rs : List Route) : Type 0 where
-  pub loop-free : LoopFree (froms rs) (tos rs)
-  pub single : Single (froms rs) (tos rs)
+-- no closed chain of the routes, and no two different chains that join the same two places
+abbrev pub Sound : List Route → Type 0
+Sound rs = IsSound (froms rs) (tos rs)
 
 -- a text is taken with a book: it is not too long, its lines pass and give the book, and the book's routes are sound
 pub record TakenWith (text : List ℕ) (b : Book) : Type 0 where

@@ -2,7 +2,8 @@
 use mathlib.Core.Bool.{Bool, true, false}
 use Prim.Native.Nat.{ℕ, _<_}
 use mathlib.Core.List.{List}
-use Rattle.chains.specs.Chain.{OnClosed, LoopFree, BeginsDoubling, Single}
+pub use Rattle.chains.specs.Chain.{IsSound}
+use Rattle.chains.specs.Chain.{OnClosed, LoopFree, BeginsDoubling}
 use Rattle.verdict.specs.declared.Verdict.{Verdict}
 use Rattle.verdict.specs.declared.Verdict.the-variants.{Loop, Doubling, Sound}
 
@@ -14,11 +15,6 @@ Tells P false = P → ⊥
 -- P holds of route i and of no lower one
 abbrev pub Lowest : (ℕ → Type 0) → ℕ → Type 0
 Lowest P i = P i × ((k : ℕ) → k < i → P k → ⊥)
-
--- no closed chain, and no two different chains that join the same two places
-pub record IsSound (froms tos : List ℕ) : Type 0 where
-  pub loop-free : LoopFree froms tos
-  pub single : Single froms tos
 
 -- 10: a closed chain exists, and the route is the lowest on one
 -- 11: none does, but two different chains join the same two places, and the route is the lowest that begins one of such a pair
