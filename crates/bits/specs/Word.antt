@@ -1,5 +1,5 @@
--- The working side of a frame: its bytes as one number, whose bits the code takes and puts. proofs/Laws.antt says that
--- they are the frame's (`weights`). Assumes nothing.
+-- The working side of a frame: its bytes as one number, whose bits the code takes and puts. proofs/Weights.antt says
+-- that they are the frame's (`weights`). Assumes nothing.
 use mathlib.Core.List.{List, [], _∷_}
 use Prim.Native.Nat.{ℕ, zero, suc, _+_, _-_, _*_, _/_, _%_, _^_, _≤_}
 use lib.ListN.{getD}

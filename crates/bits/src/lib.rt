@@ -1,7 +1,8 @@
 // The bits of a frame of eight bytes: a signal's count taken from its place and put there, and the checksum.
 //
 // A frame is loaded once into a word, byte 0 lowest, and stored once. What a word's bits mean for the frame is in
-// specs/Frame.antt, and proofs/Laws.antt has the laws: what is put is read back, a place beside it stays.
+// specs/Frame.antt, and proofs/Weights.antt that they are the frame's; proofs/Placing.antt has the laws: what is put is read
+// back, a place beside it stays.
 // These functions serve the crates of this repository; a start and a width that lie within the frame are required.
 ghost use mathlib.Core.Path.{_≡_};
 ghost use Prim.Native.Nat.{_+_, _%_, _^_, _<_};

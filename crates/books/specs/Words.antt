@@ -50,7 +50,7 @@ placed [] ss = []
 placed (n ∷ ns) [] = []
 placed (n ∷ ns) (s ∷ ss) = record { number = n; start = s } ∷ placed ns ss
 
--- the messages that columns show: each takes its signals up to its end, n before them
+-- the messages that columns show: each has the signals from the end of the one before it, which is n, to its own end
 unfoldable pub shown : ℕ → List ℕ → List ℕ → List Placement → List Message
 shown n [] es ps = []
 shown n (i ∷ is) [] ps = []
@@ -62,7 +62,7 @@ messagesOf w =
     shown 0 (take (getD w 0 0) (take 64 (drop 3 w))) (take (getD w 0 0) (take 64 (drop 67 w)))
     (placed (take (getD w 1 0) (take 256 (drop 131 w))) (take (getD w 1 0) (take 256 (drop 387 w))))
 
--- two lists of numbers are the same
+-- two lists of numbers are the same, as a test
 unfoldable pub same : List ℕ → List ℕ → Bool
 same [] [] = true
 same [] (y ∷ ys) = false

@@ -1,4 +1,4 @@
--- Identifiers that messages may have. Assumes nothing: these are definitions.
+-- Identifiers that messages may have, as a test on their column. Assumes nothing: these are definitions.
 use mathlib.Core.Bool.{Bool, true, _&&_, _||_, not}
 use mathlib.Core.List.{List, [], _∷_, _++_}
 use Prim.Native.Nat.{ℕ}

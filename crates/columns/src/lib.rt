@@ -44,6 +44,7 @@ pub fn holds(column: &[u32], number: u32) -> bool
     false
 }
 
+// The slot of an identifier: a remainder, so that neighbours fall into different ones.
 fn slot(identifier: u32) -> usize
     ensures { λ r. ⌜ (r ≡ identifier % 251) × (r < 256) ⌝ }
 {

@@ -8,7 +8,7 @@ use mathlib.Core.List.{List, [], _∷_, _++_, map}
 use lib.ListN.{length, getD, take, drop, replicate, length-append, length-map, length-take, length-drop, take-append-drop}
 use lib.Seq.{take-at, drop-at, take-all, take-take, drop-drop, take-add, length-take-le, getD-take, getD-drop}
 use Rattle.record.specs.Limits.{routes}
-use Rattle.record.specs.Columns.{routeCountOf, fromsOf, tosOf}
+use Rattle.record.specs.Columns.{routeCountOf, fromsOf, tosOf, bookWords}
 use Rattle.chains.specs.Chain.{LoopFree, Single}
 use Rattle.verdict.specs.Verdicts.{IsSound}
 use Rattle.routes.specs.Answers.{startPlaces, endPlaces, RoutesTaken}
@@ -19,7 +19,9 @@ use Rattle.books.proofs.Columns.{length-column, take-column, part-of, columns-l
 use Rattle.reading.specs.Written.{Places, no-route, route}
 use Rattle.reading.specs.Taken.{froms, tos, Sound, TakenWith, RoutesStand}
 use Rattle.reading.proofs.Counts.{Routed, text-routed}
-use Rattle.reading.proofs.Exact.{RoutesIn, RoutesFrom, from-routes, routes-from}
+use Rattle.reading.specs.Taken.{RoutesFrom}
+use Rattle.reading.proofs.Exact.{RoutesIn, from-routes, routes-from}
+use Rattle.demands.specs.Loops.{Record}
 
 -- a column past its entries
 past-column : (n k : ℕ) (l : List ℕ) → length l ≡ k → drop k (column n l) ≡ replicate (n - k) 0
@@ -72,6 +74,17 @@ words-routes b g few = record {
       take-all 128 (routeColumns (b .routes)) (omega (arith, length-append (column 64 (froms (b .routes))) (column 64 (tos (b .routes))), length-column 64 (froms (b .routes)) (omega (arith, length-map (b .routes) (λ (r : Route). r .from))), length-column 64 (tos (b .routes)) (omega (arith, length-map (b .routes) (λ (r : Route). r .to)))));
 }
 
+routes-long : (rs : List Route) → length rs ≤ routes → length (routeColumns rs) ≡ 128
+unfolding routeColumns
+routes-long rs few =
+    omega (arith, length-append (column 64 (froms rs)) (column 64 (tos rs)), length-column 64 (froms rs) (omega (arith, length-map rs (λ (r : Route). r .from))), length-column 64 (tos rs) (omega (arith, length-map rs (λ (r : Route). r .to))))
+
+-- a book has as many words as a record
+pub words-long : (b : Book) → good (b .messages) ≡ true → length (b .routes) ≤ routes → length (wordsOf b) ≡ bookWords
+unfolding wordsOf
+words-long b g few =
+    omega (arith, length-append (messageColumns (b .messages)) (routeColumns (b .routes)), columns-long (b .messages) (within (b .messages) g .few) (within (b .messages) g .room), routes-long (b .routes) few)
+
 -- routes of two columns in step
 pairs : List ℕ → List ℕ → List Route
 pairs [] ts = []
@@ -117,11 +130,6 @@ filled : (n k : ℕ) (c : List ℕ) → length c ≡ n → k ≤ n → drop k c 
 unfolding column
 filled n k c l h z =
     sym (take-append-drop k c) ∙ ap (λ (x : List ℕ). take k c ++ x) (z ∙ ap (λ (j : ℕ). replicate (n - j) 0) (sym (length-take-le k c (omega arith))))
-
--- words of a record: 771 entries of 32 bits each
-pub record Record (w : List ℕ) : Type 0 where
-  pub long : length w ≡ 771
-  pub small : (k : ℕ) → getD w k 0 < 4294967296
 
 module _ (w : List ℕ) (r : Record w) (t : RoutesTaken w) where
   f-long : length (fromsOf w) ≡ 64

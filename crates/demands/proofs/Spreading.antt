@@ -4,37 +4,23 @@ use Prim.Native.Nat.{ℕ, _≤_, _<_}
 use native.Mathlib.Omega.{arith}
 use mathlib.Core.List.{List, _++_}
 use lib.ListN.{length, take, drop, length-map}
-use lib.Seq.{take-at}
 use Rattle.record.specs.Place.{placeKey}
 use Rattle.chains.specs.Chain.{LoopFree, Single}
 use Rattle.chains.specs.Spread.{spreadOf}
-use Rattle.chains.proofs.Spreads.{spread-chain, chain-spread, spread-once, spread-few}
+use Rattle.chains.proofs.Spreads.{spread-few}
 use Rattle.routes.specs.declared.Sent.{Sent}
 use Rattle.routes.specs.declared.Sent.the-variants as sent
-use Rattle.routes.specs.Answers.{RoutesTaken, IsPlace, spreadBy, Answer}
+use Rattle.routes.specs.Answers.{endPlaces, RoutesTaken, IsPlace, spreadBy, Answer}
 use Rattle.books.specs.Book.{Book, Route}
 use Rattle.books.specs.Words.{wordsOf}
 use Rattle.books.proofs.Building.{built-good}
 use Rattle.reading.specs.Taken.{froms, tos, TakenWith, Sound, RoutesStand}
 use Rattle.reading.proofs.Passing.{read-built}
 use Rattle.reading.proofs.Counts.{Routed, text-routed}
-use Rattle.demands.specs.Loops.{Lists}
-use Rattle.demands.proofs.RouteTables.{starts-are, ends-are, stand-taken, words-routes}
-
--- the spread of a place by sound routes
-pub spread-lists : (rs : List Route) → Sound rs → (place : ℕ) → Lists rs place (spreadOf (froms rs) (tos rs) place)
-spread-lists rs s place = record {
-  every = λ q c h. chain-spread (froms rs) (tos rs) (s .loop-free) place q c h;
-  once = spread-once (froms rs) (tos rs) (s .loop-free) (s .single) place;
-  nothing-else = λ q h. spread-chain (froms rs) (tos rs) place q h;
-}
-
--- what the call gives: this many places at the front of the room, which list the spread
-pub record Spread (rs : List Route) (place : ℕ) (s : Sent) (after : List ℕ) : Type 0 where
-  pub count : ℕ
-  pub is : s ≡ sent.Places count
-  pub lists : Lists rs place (take count after)
-  pub few : count ≤ length rs
+use Rattle.routes.specs.Listed.{Lists}
+use Rattle.routes.proofs.Listed.{listed}
+use Rattle.demands.specs.Loops.{Spread}
+use Rattle.demands.proofs.RouteTables.{starts-are, ends-are, stand-taken, words-routes, words-long}
 
 module _ (text : List ℕ) (b : Book) (t : TakenWith text b) where
   routed : Routed (b .routes)
@@ -58,6 +44,14 @@ module _ (text : List ℕ) (b : Book) (t : TakenWith text b) where
         spread-few (froms (b .routes)) (tos (b .routes)) (t .sound .loop-free) (t .sound .single) (length-map (b .routes) (λ (r : Route). r .from) ∙ sym (length-map (b .routes) (λ (r : Route). r .to))) place,
       )
 
+  -- what the call lists by the words, it lists by the book's routes
+  by-routes : (bus identifier : ℕ) (room : List ℕ) (n : ℕ) (after : List ℕ) → Answer (wordsOf b) bus identifier room (sent.Places n) after
+      → Lists (froms (b .routes)) (tos (b .routes)) (placeKey bus identifier) (take n after)
+  by-routes bus identifier room n after a =
+      subst (λ (ts : List ℕ). Lists (froms (b .routes)) ts (placeKey bus identifier) (take n after)) (ends-are (wordsOf b) (b .routes) (routed .few) stands)
+      (subst (λ (fs : List ℕ). Lists fs (endPlaces (wordsOf b)) (placeKey bus identifier) (take n after)) (starts-are (wordsOf b) (b .routes) (routed .few) stands)
+      (listed (wordsOf b) (words-long b (built-good (read-built text (t .read))) (routed .few)) bus identifier room n after a))
+
   -- with room enough the call refuses nothing
   pub spread-of-taken : (bus identifier : ℕ) → IsPlace bus identifier → (room : List ℕ) → length (b .routes) ≤ length room
       → (s : Sent) (after : List ℕ) → Answer (wordsOf b) bus identifier room s after → Spread (b .routes) (placeKey bus identifier) s after
@@ -65,11 +59,4 @@ module _ (text : List ℕ) (b : Book) (t : TakenWith text b) where
   spread-of-taken bus identifier p room h sent.NoSuchPlace after a = absurd (a .1 p)
   spread-of-taken bus identifier p room h sent.NoRoom after a = absurd (omega (arith, a .2, spread-small (placeKey bus identifier)))
   spread-of-taken bus identifier p room h (sent.Places n) after a =
-      let place = placeKey bus identifier in
-      let front : take n after ≡ spreadOf (froms (b .routes)) (tos (b .routes)) place = ap (take n) (a .4) ∙ take-at (spreadBy (wordsOf b) place) (drop n room) n (sym (a .2)) ∙ spread-is place in
-      record {
-        count = n;
-        is = refl;
-        lists = subst (λ (l : List ℕ). Lists (b .routes) place l) (sym front) (spread-lists (b .routes) (t .sound) place);
-        few = omega (arith, a .2, spread-small place);
-      }
+      record { count = n; is = refl; lists = by-routes bus identifier room n after a }

@@ -1,10 +1,13 @@
 -- Demand 3, in its own words. Assumes nothing: these are definitions.
 use mathlib.Core.Path.{_≡_}
 use Prim.Native.Nat.{ℕ, _<_}
-use mathlib.Core.List.{List, List·Memᴰ}
-use lib.ListN.{length, getD}
-use Rattle.chains.specs.Chain.{Chain, Closed, Doubling}
-use Rattle.chains.specs.Spread.{Distinct}
+use mathlib.Core.List.{List}
+use lib.ListN.{length, getD, take}
+use Rattle.chains.specs.Chain.{Closed, Doubling}
+use Rattle.record.specs.Columns.{bookWords}
+use Rattle.routes.specs.Listed.{Lists}
+use Rattle.routes.specs.declared.Sent.{Sent}
+use Rattle.routes.specs.declared.Sent.the-variants as sent
 use Rattle.answers.specs.Numbers.{Said, taken, refused}
 use Rattle.books.specs.Book.{Route}
 use Rattle.reading.specs.Taken.{froms, tos}
@@ -35,8 +38,14 @@ pub record IsTaken (s : Said) : Type 0 where
   pub routes : ℕ
   pub is : s ≡ taken messages signals routes
 
--- the list has every place that a chain of the routes reaches from a place, each once, and nothing else
-pub record Lists (rs : List Route) (place : ℕ) (l : List ℕ) : Type 0 where
-  pub every : (q : ℕ) (c : List ℕ) → Chain (froms rs) (tos rs) place c q → List·Memᴰ q l
-  pub once : Distinct l
-  pub nothing-else : (q : ℕ) → List·Memᴰ q l → (c : List ℕ) × Chain (froms rs) (tos rs) place c q
+-- what the spread call gives: this many places at the front of the room, which are every place that a chain of the routes reaches from
+-- the place, each once, and nothing else
+pub record Spread (rs : List Route) (place : ℕ) (s : Sent) (after : List ℕ) : Type 0 where
+  pub count : ℕ
+  pub is : s ≡ sent.Places count
+  pub lists : Lists (froms rs) (tos rs) place (take count after)
+
+-- the words of a record: 771 entries of 32 bits each
+pub record Record (w : List ℕ) : Type 0 where
+  pub long : length w ≡ bookWords
+  pub small : (k : ℕ) → getD w k 0 < 4294967296

@@ -31,8 +31,10 @@ pub enum Answer {
     TooWide,
 }
 
+// The row that stands first in the slice.
 const FIRST: usize = 1901;
 
+// What the counts of one, two and five bits are below.
 const ONE_BIT: u32 = 2;
 
 const TWO_BITS: u32 = 4;

@@ -28,7 +28,7 @@ packingNumber NotEightBytes = 21
 packingNumber TooWide = 26
 packingNumber ReservedOrOutside = 27
 
--- a count of this class is sent; reserved and outside are not
+-- a count of this class is sent; reserved and outside are not. The last two are refusals, which are met before this is asked
 abbrev pub packable : Class → Bool
 packable (Of.Value t) = true
 packable (Of.Invalid r) = true

@@ -5,7 +5,7 @@ use mathlib.Core.List.{List, [], _∷_, _++_, append-assoc}
 use Prim.Native.Nat.{ℕ, _+_, _≤_, _<_}
 use native.Mathlib.Omega.{arith}
 use lib.ListN.{length, drop, getD}
-use Rattle.numerals.specs.Written.{identifierText, decimalText, identifierLimit, decimalLimit}
+use Rattle.numerals.specs.Written.{identifierText, decimalText, hexadecimalLimit, decimalLimit}
 use Rattle.parts.specs.Joined.{join}
 use Rattle.line.specs.declared.Line.{Line}
 use Rattle.line.specs.declared.Line.the-variants.{Message, Signal, Route, IllFormed}
@@ -18,7 +18,7 @@ use Rattle.line.proofs.Starts.{Starts, Started, first-starts}
 pub record MessageAt (text : List ℕ) : Type 0 where
   pub id : ℕ
   pub rest : List ℕ
-  pub small : id < identifierLimit
+  pub small : id < hexadecimalLimit
   pub same : text ≡ identifierText id ++ 10 ∷ rest
 
 pub record SignalAt (text : List ℕ) : Type 0 where
@@ -34,7 +34,7 @@ pub record RouteAt (text : List ℕ) : Type 0 where
   pub b : ℕ
   pub j : ℕ
   pub rest : List ℕ
-  pub small : ((a < decimalLimit) × (i < identifierLimit)) × ((b < decimalLimit) × (j < identifierLimit))
+  pub small : ((a < decimalLimit) × (i < hexadecimalLimit)) × ((b < decimalLimit) × (j < hexadecimalLimit))
   pub same : text ≡ decimalText a ++ 9 ∷ (identifierText i ++ 9 ∷ (decimalText b ++ 9 ∷ (identifierText j ++ 10 ∷ rest)))
 
 -- the first byte tells the kind

@@ -1,7 +1,7 @@
 -- The text of a line, for reading it back. Assumes nothing.
 use Prim.Native.Nat.{ℕ, _<_}
 use mathlib.Core.List.{List, [], _∷_}
-use Rattle.numerals.specs.Written.{identifierText, decimalText, identifierLimit, decimalLimit}
+use Rattle.numerals.specs.Written.{identifierText, decimalText, hexadecimalLimit, decimalLimit}
 use Rattle.parts.specs.Parts.{tab}
 use Rattle.parts.specs.Joined.{join}
 use Rattle.line.specs.declared.Line.{Line}
@@ -22,8 +22,8 @@ lineText l = join tab (fieldsOf l)
 
 -- a line that has a text: its identifiers have 8 hexadecimal digits, its other numbers at most 5 decimal ones
 abbrev pub Writable : Line → Type 0
-Writable (Message i) = i < identifierLimit
+Writable (Message i) = i < hexadecimalLimit
 Writable (Signal n s) = (n < decimalLimit) × (s < decimalLimit)
 Writable (Route a i b j) =
-    ((a < decimalLimit) × (i < identifierLimit)) × ((b < decimalLimit) × (j < identifierLimit))
+    ((a < decimalLimit) × (i < hexadecimalLimit)) × ((b < decimalLimit) × (j < hexadecimalLimit))
 Writable IllFormed = ⊥

@@ -7,10 +7,11 @@ use lib.Dec.{eqb}
 use Rattle.masks.specs.Bit.{bit}
 use Rattle.chains.specs.Spread.{pick}
 
+-- the slot, of 256, where the search for a place begins: eight middle bits of the place times an odd number
 abbrev pub slotOf : ℕ → ℕ
 slotOf place = place * 2654435761 / 16777216 % 256
 
--- from slot `at` on, for so many tries
+-- the number of a place, looked for from slot `at` on, for so many tries; 255 where it has none. A slot holds one more than a number, or 0
 unfoldable pub numberFrom : List ℕ → List ℕ → ℕ → ℕ → ℕ → ℕ
 numberFrom slots keys place zero at = 255
 numberFrom slots keys place (suc tries) at =

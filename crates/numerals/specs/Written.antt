@@ -14,8 +14,8 @@ digitsOf base zero n = []
 digitsOf base (suc k) n = digitByte (n / base ^ k) ∷ digitsOf base k (n % base ^ k)
 
 -- what 8 hexadecimal digits can say is below this
-abbrev pub identifierLimit : ℕ
-identifierLimit = 4294967296
+abbrev pub hexadecimalLimit : ℕ
+hexadecimalLimit = 4294967296
 
 -- an identifier: 8 digits 0-9 A-F
 unfoldable pub identifierText : ℕ → List ℕ

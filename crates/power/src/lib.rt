@@ -1,8 +1,8 @@
 // The power monitor: one step for each observation of a pack's relays, commands, current and voltages.
 //
 // For a gateway that keeps a `State`, off at the start, and calls `step` with each observation. No public function has a
-// `requires`: an observation with a count that no signal can have is refused, and the state is kept. `specs/Rules.antt` has
-// document 01's rules 1 to 5 as a list.
+// `requires`: an observation with a relay that is neither open nor closed, or with another count over its highest, is
+// refused, and the state is kept. `specs/Rules.antt` has document 01's rules 1 to 5 as a list.
 mod observed;
 mod rules;
 
@@ -38,6 +38,7 @@ pub struct Observation {
     pub command: u32,
     // 1604.
     pub emergency_off: u32,
+    // 203.
     pub current: u32,
     // 201 and 202: the voltages on either side of the main positive relay.
     pub inside: u32,

@@ -14,7 +14,7 @@ use Rattle.books.proofs.Building.{good-built, built-good}
 use Rattle.books.proofs.Columns.{taken-stands, stands-taken}
 use Rattle.reading.specs.Reading.{passed, linesRead}
 use Rattle.reading.specs.Written.{bookText, Places, no-route}
-use Rattle.reading.specs.Taken.{Sound, TakenWith, RoutesStand}
+use Rattle.reading.specs.Taken.{Sound, TakenWith, RoutesStand, MessagesFrom, RoutesFrom}
 use Rattle.reading.proofs.Passing.{read-built}
 use Rattle.reading.proofs.Texts.{text-read, text-short}
 use Rattle.reading.proofs.Counts.{Routed, text-routed}
@@ -35,13 +35,6 @@ no-chain p q (i ∷ c) h = let z : i < 0 = h .0 in omega arith
 no-routes-sound : Sound []
 no-routes-sound = record { loop-free = λ p c h. no-chain p p c h; single = λ p q c d h. no-chain p q c (h .one) }
 
--- a text that is taken with a book whose messages stand in the words
-pub record MessagesFrom (w : List ℕ) : Type 0 where
-  pub text : List ℕ
-  pub book : Book
-  pub taken : TakenWith text book
-  pub stand : Stands w (book .messages)
-
 pub from-messages : (w : List ℕ) → messagesTaken w ≡ true → MessagesFrom w
 from-messages w e =
     let t = taken-stands w e in
@@ -55,13 +48,6 @@ from-messages w e =
 
 pub messages-from : (w : List ℕ) → MessagesFrom w → messagesTaken w ≡ true
 messages-from w m = stands-taken w (m .book .messages) (m .stand) (built-good (read-built (m .text) (m .taken .read)))
-
--- a text that is taken with a book whose routes stand in the words
-pub record RoutesFrom (w : List ℕ) : Type 0 where
-  pub text : List ℕ
-  pub book : Book
-  pub taken : TakenWith text book
-  pub stand : RoutesStand w (book .routes)
 
 -- routes that stand in the words, few enough, between places, and sound
 pub record RoutesIn (w : List ℕ) : Type 0 where

@@ -9,7 +9,7 @@ use Rattle.line.specs.declared.Line.{Line}
 use Rattle.line.specs.declared.Line.the-variants as line
 use Rattle.chains.specs.Chain.{IsSound}
 use Rattle.books.specs.Book.{Book, Route}
-use Rattle.books.specs.Words.{routeColumns}
+use Rattle.books.specs.Words.{routeColumns, Stands}
 use Rattle.reading.specs.Reading.{passed, linesRead}
 
 -- the places that routes lead from, and those they lead to
@@ -34,6 +34,21 @@ pub record TakenWith (text : List ℕ) (b : Book) : Type 0 where
 pub record RoutesStand (w : List ℕ) (rs : List Route) : Type 0 where
   pub count : routeCountOf w ≡ length rs
   pub columns : take 128 (drop 643 w) ≡ routeColumns rs
+
+-- "that of no taken book" (12): tables are those of a taken book where some text is taken with a book whose tables they are.
+-- The message and signal tables:
+pub record MessagesFrom (w : List ℕ) : Type 0 where
+  pub text : List ℕ
+  pub book : Book
+  pub taken : TakenWith text book
+  pub stand : Stands w (book .messages)
+
+-- and the routes:
+pub record RoutesFrom (w : List ℕ) : Type 0 where
+  pub text : List ℕ
+  pub book : Book
+  pub taken : TakenWith text book
+  pub stand : RoutesStand w (book .routes)
 
 -- how many M lines, S lines and R lines there are
 unfoldable pub mLines : List Line → ℕ

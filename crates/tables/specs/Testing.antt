@@ -1,4 +1,4 @@
--- How ends part the signals among the messages. Assumes nothing: these are definitions.
+-- How ends part the signals among the messages, as the code tests it. Assumes nothing: these are definitions.
 use mathlib.Core.Bool.{Bool, _&&_}
 use mathlib.Core.List.{List, [], _∷_}
 use Prim.Native.Nat.{ℕ, _-_}
