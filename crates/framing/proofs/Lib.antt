@@ -6,3 +6,4 @@ pub mod Sent
 pub mod Answers
 pub mod ReadBack
 pub mod PackAgain
+pub mod PackedOnce
