@@ -6,6 +6,8 @@ mod tested;
 
 use framing::Packing;
 use framing::Reading;
+pub use lookup::Found;
+pub use lookup::find_message;
 use record::BOOK_WORDS;
 pub use tested::pack_tested;
 pub use tested::read_tested;
