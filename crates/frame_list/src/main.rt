@@ -16,7 +16,7 @@ const ENOUGH: usize = 32769;
 
 const INPUT: usize = 65536;
 
-const OUTPUT: usize = 1048576;
+const OUTPUT: usize = 262144;
 
 // The book's text into a buffer; a file that can't be opened counts as empty text.
 fn read_book(text: &mut [u8]) -> usize {
