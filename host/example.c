@@ -17,6 +17,7 @@ static const char stored_book[] = "M\t18FF21F3\n"
                                   "S\t301\t4\n"
                                   "S\t201\t8\n"
                                   "S\t202\t24\n"
+                                  "R\t0\t18FFFAF3\t1\t18FFFAF3\n"
                                   "R\t0\t18FF21F3\t1\t18FF21F3\n"
                                   "R\t1\t18FF21F3\t2\t18FF21D0\n";
 
@@ -68,14 +69,15 @@ static uint32_t first_of(uint32_t identifier) {
     return 0;
 }
 
-/* The receive handler: reads the frame, and hands it on to every place it spreads to. */
+/* The receive handler: reads the frame, and hands it on to every place it spreads to. A frame that is only handed on needs no
+   message in the book: reading it gives 22, and it has a spread all the same. */
 static void on_receive(uint32_t bus, uint32_t identifier, const uint8_t *bytes, size_t length) {
     uint32_t raws[MOST_READINGS], places[PC_MOST_ROUTES], refusal;
-    size_t count;
+    size_t count = 0;
     uint8_t classes[MOST_READINGS];
     int64_t thousandths[MOST_READINGS];
     refusal = pc_frame_read(book, identifier, bytes, length, raws, MOST_READINGS, classes, MOST_READINGS, thousandths, MOST_READINGS, &count);
-    if (refusal) {
+    if (refusal != PC_DONE && refusal != PC_UNKNOWN_IDENTIFIER) {
         count_refusal("pc_frame_read", refusal);
         return;
     }
@@ -113,6 +115,7 @@ int main(void) {
         return 1;
     on_receive(0, 0x18FF21F3, current, sizeof current);
     on_receive(0, 0x18FF21F3, current, 5);
+    on_receive(0, 0x18FFFAF3, current, sizeof current);
     turn(10, 1);
     seen.command = 1;
     on_receive(0, 0x18FF22F3, relays, sizeof relays);

@@ -44,7 +44,7 @@ enum pc_refusal {
     PC_RELAY_COUNT = 41,          /* neither 1 nor 2 */
     PC_COMMAND_COUNT = 42,        /* 1601 or 1604 over 3 */
     PC_READING_COUNT = 43,        /* current or voltage over 65,535 */
-    PC_CLOCK_WENT_BACK = 51,
+    PC_CLOCK_WENT_BACK = 51,      /* while awake, the time is 2^31 ms (24 days) or more past the last wake, round the circle */
     PC_PLACE_OVER_LIMIT = 61,     /* bus over 7, or identifier of 2^29 or more */
     PC_ROOM_FOR_SPREAD = 62,      /* room for fewer places than the spread has */
     PC_NOT_A_POWER_STATE = 91,    /* this header's own: a state that is none of enum pc_power */
@@ -78,7 +78,7 @@ enum { PC_MOST_MESSAGES = 64, PC_MOST_SIGNALS = 256, PC_MOST_ROUTES = 64, PC_MOS
    Otherwise the book holds the text's tables and *line is 0. Whatever the book and *line held before is lost. */
 uint32_t pc_book_read(const uint8_t *text, size_t text_length, uint32_t book[PC_BOOK_WORDS], uint32_t *line);
 
-/* Classes one raw count of the signal with that number: *class is one of enum pc_class, *thousandths the reading of a
+/* Classes one raw count of the signal with that number: *class_code is one of enum pc_class, *thousandths the reading of a
    value and 0 for any other class. Refusals 3 (no such signal), 26. */
 uint32_t pc_class(uint32_t number, uint32_t raw, uint32_t *class_code, int64_t *thousandths);
 
@@ -140,8 +140,9 @@ uint32_t pc_power_step(uint32_t *state, struct pc_observation seen);
    pc_sleep_start: awake at this time. It refuses nothing. */
 uint32_t pc_sleep_start(uint32_t *last_wake, uint32_t *asleep, uint32_t now);
 
-/* pc_sleep_watch: *asleep becomes 0 where wake is on (not 0), and 1 once wake has been off for 10,000 ms. Refusals 92 (*asleep
-   is neither 0 nor 1), 51. */
+/* pc_sleep_watch: where wake is on (not 0), *asleep becomes 0 and *last_wake this time. Where it is off, *asleep becomes 1
+   from 10,000 ms after the last wake on: the last call with wake on, or the start. Once asleep it stays so until wake is
+   on. Call it more often than every 24 days. Refusals 92 (*asleep is neither 0 nor 1), 51. */
 uint32_t pc_sleep_watch(uint32_t *last_wake, uint32_t *asleep, uint32_t now, uint32_t wake);
 
 #ifdef __cplusplus
