@@ -7,7 +7,7 @@ use mathlib.Core.Bool.{true}
 use mathlib.Core.List.{List, [], _∷_, _++_, map}
 use lib.ListN.{length, getD, take, drop, replicate, length-append, length-map, length-take, length-drop, take-append-drop}
 use lib.Seq.{take-at, drop-at, take-all, take-take, drop-drop, take-add, length-take-le, getD-take, getD-drop}
-use Rattle.record.specs.Limits.{routes}
+use Rattle.record.specs.Limits.{routeLimit}
 use Rattle.record.specs.Columns.{routeCountOf, fromsOf, tosOf, bookWords}
 use Rattle.chains.specs.Chain.{LoopFree, Single}
 use Rattle.verdict.specs.Verdicts.{IsSound}
@@ -29,7 +29,7 @@ unfolding column
 past-column n k l e = drop-at l (replicate (n - length l) 0) k e ∙ ap (λ (j : ℕ). replicate (n - j) 0) e
 
 -- routes that stand in the words
-module _ (w : List ℕ) (rs : List Route) (few : length rs ≤ routes) (s : RoutesStand w rs) where
+module _ (w : List ℕ) (rs : List Route) (few : length rs ≤ routeLimit) (s : RoutesStand w rs) where
   from-count : length (froms rs) ≡ routeCountOf w
   from-count = length-map rs (λ (r : Route). r .from) ∙ sym (s .count)
 
@@ -65,7 +65,7 @@ module _ (w : List ℕ) (rs : List Route) (few : length rs ≤ routes) (s : Rout
   }
 
 -- the words of a book have its routes
-pub words-routes : (b : Book) → good (b .messages) ≡ true → length (b .routes) ≤ routes → RoutesStand (wordsOf b) (b .routes)
+pub words-routes : (b : Book) → good (b .messages) ≡ true → length (b .routes) ≤ routeLimit → RoutesStand (wordsOf b) (b .routes)
 unfolding wordsOf routeColumns
 words-routes b g few = record {
   count = refl;
@@ -74,13 +74,13 @@ words-routes b g few = record {
       take-all 128 (routeColumns (b .routes)) (omega (arith, length-append (column 64 (froms (b .routes))) (column 64 (tos (b .routes))), length-column 64 (froms (b .routes)) (omega (arith, length-map (b .routes) (λ (r : Route). r .from))), length-column 64 (tos (b .routes)) (omega (arith, length-map (b .routes) (λ (r : Route). r .to)))));
 }
 
-routes-long : (rs : List Route) → length rs ≤ routes → length (routeColumns rs) ≡ 128
+routes-long : (rs : List Route) → length rs ≤ routeLimit → length (routeColumns rs) ≡ 128
 unfolding routeColumns
 routes-long rs few =
     omega (arith, length-append (column 64 (froms rs)) (column 64 (tos rs)), length-column 64 (froms rs) (omega (arith, length-map rs (λ (r : Route). r .from))), length-column 64 (tos rs) (omega (arith, length-map rs (λ (r : Route). r .to))))
 
 -- a book has as many words as a record
-pub words-long : (b : Book) → good (b .messages) ≡ true → length (b .routes) ≤ routes → length (wordsOf b) ≡ bookWords
+pub words-long : (b : Book) → good (b .messages) ≡ true → length (b .routes) ≤ routeLimit → length (wordsOf b) ≡ bookWords
 unfolding wordsOf
 words-long b g few =
     omega (arith, length-append (messageColumns (b .messages)) (routeColumns (b .routes)), columns-long (b .messages) (within (b .messages) g .few) (within (b .messages) g .room), routes-long (b .routes) few)

@@ -12,7 +12,7 @@ use borrow.Author.Tests.{lt-leb}
 use Rattle.books.specs.Book.{Book, Message, Placement, Route, noBook, fresh, withPlacement, inLast}
 use Rattle.books.specs.Lines.{signalRefusal, routeRefusal, unknownOrOver, routeLimit}
 use Rattle.books.proofs.Tests.{not-refused, no-refusal, nor}
-use Rattle.books.specs.Good.{Built, none, message, signal}
+use Rattle.books.specs.Built.{Built, none, message, signal}
 use Rattle.books.proofs.Ends.{map-append, in-last, Last, last}
 use Rattle.reading.specs.Reading.{Outcome, passed, refused, onward, refusalOf, withLine, numberedWith, readFrom}
 use Rattle.reading.specs.Written.{signalLine, routeLine, messageLines, bookLines, Places, no-route, route, countUp}

@@ -2,7 +2,7 @@
 use mathlib.Core.Path.{_≡_}
 use Prim.Native.Nat.{ℕ, _+_, _*_, _<_, _/_, _%_}
 use native.Mathlib.Omega.{arith}
-use Rattle.record.specs.Limits.{buses, identifierLimit}
+use Rattle.record.specs.Limits.{busLimit, identifierLimit}
 
 -- the number of a place: bus x 2^29 + identifier
 abbrev pub placeKey : ℕ → ℕ → ℕ
@@ -14,10 +14,10 @@ pub says-both : (bus identifier bus′ identifier′ : ℕ) → identifier < ide
 says-both bus identifier bus′ identifier′ l l′ e = (omega arith, omega arith)
 
 -- it has 32 bits
-pub key-fits : (bus identifier : ℕ) → bus < buses → identifier < identifierLimit → placeKey bus identifier < 4294967296
+pub key-fits : (bus identifier : ℕ) → bus < busLimit → identifier < identifierLimit → placeKey bus identifier < 4294967296
 key-fits bus identifier b l = omega arith
 
 -- and each number of 32 bits is that of a place
 pub key-place : (key : ℕ) → key < 4294967296
-    → (key / identifierLimit < buses) × (key % identifierLimit < identifierLimit) × (placeKey (key / identifierLimit) (key % identifierLimit) ≡ key)
+    → (key / identifierLimit < busLimit) × (key % identifierLimit < identifierLimit) × (placeKey (key / identifierLimit) (key % identifierLimit) ≡ key)
 key-place key l = (omega arith, omega arith, omega arith)
