@@ -24,7 +24,6 @@ use Rattle.book.specs.Answered.{Answered}
 use Rattle.book.proofs.Once.{there, alone}
 use Rattle.book.proofs.read as read
 use Rattle.book.proofs.read_on as read-on
-use Rattle.book.proofs.read_text as read-text
 use Rattle.book.proofs.start as start
 use Rattle.book.proofs.LineReader as L
 use Rattle.book.specs.Reader.{readerAt}
@@ -44,9 +43,6 @@ one-answer 𝓤 clause text says =
     }
 
 module _ {M : Type 1} (𝓤 : URA M) (H : Heap 𝓤) (A : Atoms 𝓤) (mem : Memory → SProp 𝓤) (run : Routine → Fun 𝓤) (κs : Lfts 2) (text book : RefT (List ℕ)) where
-  pub one-read-text : Only 𝓤 (λ (x : Answer × List ℕ). read-text.clauses 𝓤 H A mem run κs (text, (book, tt)) .ensures tt (x .0) (text, (at-last book (x .1), tt)))
-  one-read-text = one-answer 𝓤 _ (now text) (λ x. refl)
-
   pub one-read : Only 𝓤 (λ (x : Answer × List ℕ). read.clauses 𝓤 H A mem run κs (text, (book, tt)) .ensures tt (x .0) (text, (at-last book (x .1), tt)))
   one-read = one-answer 𝓤 _ (now text) (λ x. refl)
 

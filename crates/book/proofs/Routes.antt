@@ -5,8 +5,9 @@ use native.Mathlib.Omega.{arith}
 use mathlib.Core.List.{List, [], _∷_, _++_, map}
 use lib.ListN.{length, take, drop, length-map}
 use lib.Seq.{drop-drop, drop-append-seam, take-append-seam, take-all}
-use Rattle.record.specs.Columns.{routeCountOf, fromsOf, tosOf}
+use Rattle.record.specs.Columns.{idsAt, fromsAt, messageWords, routeCountOf, fromsOf, tosOf}
 use Rattle.books.specs.Book.{Book, Route}
+use Rattle.books.specs.Lines.{routeLimit}
 use Rattle.books.specs.Words.{column, messageColumns, routeColumns, wordsOf}
 use Rattle.books.proofs.Columns.{length-column, take-column, columns-long}
 use Rattle.reading.specs.Taken.{froms, tos}
@@ -17,51 +18,51 @@ use Rattle.verdict.specs.Verdicts.{Judged}
 
 module _ {w : List ℕ} {b : Book} (h : Holds w b) where
   fromColumn : List ℕ
-  fromColumn = column 64 (froms (b .routes))
+  fromColumn = column routeLimit (froms (b .routes))
 
   toColumn : List ℕ
-  toColumn = column 64 (tos (b .routes))
+  toColumn = column routeLimit (tos (b .routes))
 
-  from-few : length (froms (b .routes)) ≤ 64
+  from-few : length (froms (b .routes)) ≤ routeLimit
   from-few = omega (arith, length-map (b .routes) (λ (r : Route). r .from), h .within .routes)
 
-  to-few : length (tos (b .routes)) ≤ 64
+  to-few : length (tos (b .routes)) ≤ routeLimit
   to-few = omega (arith, length-map (b .routes) (λ (r : Route). r .to), h .within .routes)
 
-  after-messages : drop 643 w ≡ fromColumn ++ toColumn
+  after-messages : drop fromsAt w ≡ fromColumn ++ toColumn
   unfolding wordsOf routeColumns fromColumn toColumn
   after-messages =
-      sym (drop-drop 640 3 w) ∙ ap (λ (l : List ℕ). drop 640 (drop 3 l)) (h .words)
+      sym (drop-drop messageWords idsAt w) ∙ ap (λ (l : List ℕ). drop messageWords (drop idsAt l)) (h .words)
       ∙ ap (λ (n : ℕ). drop n (messageColumns (b .messages) ++ routeColumns (b .routes))) (sym (columns-long (b .messages) (h .within .messages) (h .within .signals)))
       ∙ drop-append-seam (messageColumns (b .messages)) (routeColumns (b .routes))
 
   froms-there : fromsOf w ≡ fromColumn
   unfolding fromColumn
   froms-there =
-      ap (take 64) after-messages
-      ∙ ap (λ (n : ℕ). take n (fromColumn ++ toColumn)) (sym (length-column 64 (froms (b .routes)) from-few))
+      ap (take routeLimit) after-messages
+      ∙ ap (λ (n : ℕ). take n (fromColumn ++ toColumn)) (sym (length-column routeLimit (froms (b .routes)) from-few))
       ∙ take-append-seam fromColumn toColumn
 
   tos-there : tosOf w ≡ toColumn
   unfolding fromColumn toColumn
   tos-there =
-      ap (take 64) (sym (drop-drop 64 643 w) ∙ ap (drop 64) after-messages
-      ∙ ap (λ (n : ℕ). drop n (fromColumn ++ toColumn)) (sym (length-column 64 (froms (b .routes)) from-few))
+      ap (take routeLimit) (sym (drop-drop routeLimit fromsAt w) ∙ ap (drop routeLimit) after-messages
+      ∙ ap (λ (n : ℕ). drop n (fromColumn ++ toColumn)) (sym (length-column routeLimit (froms (b .routes)) from-few))
       ∙ drop-append-seam fromColumn toColumn)
-      ∙ take-all 64 toColumn (omega (arith, length-column 64 (tos (b .routes)) to-few))
+      ∙ take-all routeLimit toColumn (omega (arith, length-column routeLimit (tos (b .routes)) to-few))
 
   module _ {count : ℕ} (c : count ≡ routeCountOf w) where
     pub count-is : count ≡ length (b .routes)
     count-is = c ∙ routes-held w b h
 
-    pub count-few : count ≤ 64
+    pub count-few : count ≤ routeLimit
     count-few = omega (arith, count-is, h .within .routes)
 
     -- a part of a column up to the count
-    first-ones : (f : Route → ℕ) {fs p : List ℕ} → fs ≡ column 64 (map f (b .routes)) → p ≡ take (count - 0) (drop 0 fs) → p ≡ map f (b .routes)
+    first-ones : (f : Route → ℕ) {fs p : List ℕ} → fs ≡ column routeLimit (map f (b .routes)) → p ≡ take (count - 0) (drop 0 fs) → p ≡ map f (b .routes)
     first-ones f e q =
         let z : count - 0 ≡ count = omega arith in
-        q ∙ rw (z, e) (take-column 64 count (map f (b .routes)) (length-map (b .routes) f ∙ sym count-is))
+        q ∙ rw (z, e) (take-column routeLimit count (map f (b .routes)) (length-map (b .routes) f ∙ sym count-is))
 
     pub on-routes : (v : Verdict) {fs ts p q : List ℕ} → fs ≡ fromsOf w → ts ≡ tosOf w → p ≡ take (count - 0) (drop 0 fs) → q ≡ take (count - 0) (drop 0 ts)
         → Judged p q v → Judged (froms (b .routes)) (tos (b .routes)) v

@@ -1,8 +1,10 @@
 // The reader of a route book: a text to the words of a book, or to a refusal with its line. `read` is the call for users; it has no
 // `requires`, and whatever text and words are lent it says what it answers and what the words are then (specs/Answered.antt).
+// It starts a line reader at the text's first byte and reads on; `start` and `read_on` are for a text that is read from further on.
 use answers::Answer;
 use answers::Refusal;
 use columns::part;
+use columns::wide;
 use parts::part_from;
 use record::BOOK_WORDS;
 use record::TEXT_LIMIT;
@@ -22,12 +24,6 @@ ghost use Rattle.taking.specs.Taking.{PassedTo};
 ghost use Rattle.verdict.specs.Verdicts.{Judged};
 ghost use Rattle.book.specs.Answered.{Answered};
 ghost use Rattle.book.specs.Reader.{readerAt};
-
-fn wide(x: u32) -> usize
-    ensures { λ r. ⌜ r ≡ x ⌝ }
-{
-    x as usize
-}
 
 // The verdict on the routes of a book.
 fn verdict_on(book: &[u32; BOOK_WORDS]) -> Verdict
@@ -64,8 +60,8 @@ fn answer_passed(text: &[u8], book: &mut [u32; BOOK_WORDS]) -> Answer
     }
 }
 
-// A text into the words, whatever they were: those of its book, or the empty book where it is refused.
-pub fn read_text(text: &[u8], book: &mut [u32; BOOK_WORDS]) -> Answer
+// A whole text into the words: too long, a line refused, or by the verdict on its routes.
+fn read_text(text: &[u8], book: &mut [u32; BOOK_WORDS]) -> Answer
     ensures { λ r. ⌜ Answered (now (text .entry)) (said r) (now (book .exit)) ⌝ }
 {
     record::clear(&mut *book);

@@ -9,7 +9,8 @@ use lib.ListN.{length, length-append}
 use borrow.Author.Tests.{leb-true, leb-false, le-leb, lt-leb, eqb-false, ne-eqb, not-true}
 use Rattle.books.specs.Book.{Placement, Message, identifiers, numbers, allPlacements, fresh, withPlacement, inLast, lastPlacements}
 use Rattle.books.specs.Lines.{isIn, unknownOrOver, misplaced, meetsEarlier, messageRefusal, signalRefusal, identifierLimit, messageLimit, signalLimit}
-use Rattle.books.specs.Good.{Built, none, message, signal, goodAfter, goodFrom, good}
+use Rattle.books.specs.Built.{Built, none, message, signal}
+use Rattle.books.specs.Good.{goodAfter, goodFrom, good}
 use Rattle.books.proofs.Tests.{both, with, neither, nor, not-refused, no-refusal}
 use Rattle.books.proofs.Ends.{map-append, all-append, all-one, count-last, length-more, in-last, last-placements, Last, last}
 

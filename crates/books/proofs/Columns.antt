@@ -7,12 +7,14 @@ use native.Mathlib.Omega.{arith}
 use native.Mathlib.Nat.{le-of-suc-le-suc}
 use mathlib.Core.List.{List, [], _∷_, _++_, map, append-assoc}
 use lib.Dec.{eqb, leb}
-use lib.ListN.{length, getD, take, drop, replicate, length-append, length-replicate, length-map}
+use lib.ListN.{length, take, drop, replicate, length-append, length-replicate, length-map}
 use lib.Seq.{take-at, drop-at, take-take, take-nil, drop-nil, drop-drop, take-all, take-append-le, drop-append-add, length-take-le}
 use borrow.Author.Tests.{eqb-true, eq-eqb, leb-true}
+use Rattle.record.specs.Columns.{messageCountOf, signalCountOf, idsAt, messageWords, idsOf, endsOf, numbersOf, startsOf}
 use Rattle.books.specs.Book.{Placement, Message, Book, identifiers, numbers, allPlacements}
 use Rattle.books.specs.Lines.{messageLimit, signalLimit}
-use Rattle.books.specs.Good.{Built, good, goodFrom}
+use Rattle.books.specs.Built.{Built}
+use Rattle.books.specs.Good.{good, goodFrom}
 use Rattle.books.specs.Words.{column, idColumn, endColumn, numberColumn, startColumn, starts, endsAfter, messageColumns, routeColumns, wordsOf, placed, shown, messagesOf, same, messagesTaken, Stands}
 use Rattle.books.proofs.Tests.{both, with}
 use Rattle.books.proofs.Building.{good-built, built-good}
@@ -33,24 +35,24 @@ part-of n (suc k) (suc m) [] h = refl
 part-of n (suc k) (suc m) (x ∷ l) h = part-of n k m l (omega arith)
 
 -- four columns one after the other
-module _ (a b c d : List ℕ) (la : length a ≡ 64) (lb : length b ≡ 64) (lc : length c ≡ 256) (ld : length d ≡ 256) where
-  pub first-part : take 64 (drop 0 (a ++ (b ++ (c ++ d)))) ≡ a
-  first-part = take-at a (b ++ (c ++ d)) 64 la
+module _ (a b c d : List ℕ) (la : length a ≡ messageLimit) (lb : length b ≡ messageLimit) (lc : length c ≡ signalLimit) (ld : length d ≡ signalLimit) where
+  pub first-part : take messageLimit (drop 0 (a ++ (b ++ (c ++ d)))) ≡ a
+  first-part = take-at a (b ++ (c ++ d)) messageLimit la
 
-  pub second-part : take 64 (drop 64 (a ++ (b ++ (c ++ d)))) ≡ b
-  second-part = ap (take 64) (drop-at a (b ++ (c ++ d)) 64 la) ∙ take-at b (c ++ d) 64 lb
+  pub second-part : take messageLimit (drop messageLimit (a ++ (b ++ (c ++ d)))) ≡ b
+  second-part = ap (take messageLimit) (drop-at a (b ++ (c ++ d)) messageLimit la) ∙ take-at b (c ++ d) messageLimit lb
 
-  pub third-part : take 256 (drop 128 (a ++ (b ++ (c ++ d)))) ≡ c
-  third-part = ap (take 256) (sym (drop-drop 64 64 (a ++ (b ++ (c ++ d)))) ∙ ap (drop 64) (drop-at a (b ++ (c ++ d)) 64 la) ∙ drop-at b (c ++ d) 64 lb) ∙ take-at c d 256 lc
+  pub third-part : take signalLimit (drop (messageLimit + messageLimit) (a ++ (b ++ (c ++ d)))) ≡ c
+  third-part = ap (take signalLimit) (sym (drop-drop messageLimit messageLimit (a ++ (b ++ (c ++ d)))) ∙ ap (drop messageLimit) (drop-at a (b ++ (c ++ d)) messageLimit la) ∙ drop-at b (c ++ d) messageLimit lb) ∙ take-at c d signalLimit lc
 
-  pub fourth-part : take 256 (drop 384 (a ++ (b ++ (c ++ d)))) ≡ d
+  pub fourth-part : take signalLimit (drop (messageLimit + (messageLimit + signalLimit)) (a ++ (b ++ (c ++ d)))) ≡ d
   fourth-part =
-      ap (take 256)
-      (sym (drop-drop 320 64 (a ++ (b ++ (c ++ d)))) ∙ ap (drop 320) (drop-at a (b ++ (c ++ d)) 64 la) ∙
-      sym (drop-drop 256 64 (b ++ (c ++ d))) ∙ ap (drop 256) (drop-at b (c ++ d) 64 lb) ∙ drop-at c d 256 lc) ∙
-      take-all 256 d (omega arith)
+      ap (take signalLimit)
+      (sym (drop-drop (messageLimit + signalLimit) messageLimit (a ++ (b ++ (c ++ d)))) ∙ ap (drop (messageLimit + signalLimit)) (drop-at a (b ++ (c ++ d)) messageLimit la) ∙
+      sym (drop-drop signalLimit messageLimit (b ++ (c ++ d))) ∙ ap (drop signalLimit) (drop-at b (c ++ d) messageLimit lb) ∙ drop-at c d signalLimit lc) ∙
+      take-all signalLimit d (omega arith)
 
-  pub four-long : length (a ++ (b ++ (c ++ d))) ≡ 640
+  pub four-long : length (a ++ (b ++ (c ++ d))) ≡ messageWords
   four-long = omega (arith, length-append a (b ++ (c ++ d)), length-append b (c ++ d), length-append c d)
 
 placed-back : (ps : List Placement) → placed (numbers ps) (starts ps) ≡ ps
@@ -75,42 +77,42 @@ length-ends n (m ∷ ms) = ap suc (length-ends (n + length (m .placements)) ms)
 
 -- the columns of messages within the limits
 module _ (ms : List Message) (few : length ms ≤ messageLimit) (room : length (allPlacements ms) ≤ signalLimit) where
-  pub ids-long : length (idColumn ms) ≡ 64
-  ids-long = length-column 64 (identifiers ms) (omega (arith, length-map ms (λ (m : Message). m .identifier)))
+  pub ids-long : length (idColumn ms) ≡ messageLimit
+  ids-long = length-column messageLimit (identifiers ms) (omega (arith, length-map ms (λ (m : Message). m .identifier)))
 
-  pub ends-long : length (endColumn ms) ≡ 64
-  ends-long = length-column 64 (endsAfter 0 ms) (omega (arith, length-ends 0 ms))
+  pub ends-long : length (endColumn ms) ≡ messageLimit
+  ends-long = length-column messageLimit (endsAfter 0 ms) (omega (arith, length-ends 0 ms))
 
-  pub numbers-long : length (numberColumn ms) ≡ 256
-  numbers-long = length-column 256 (numbers (allPlacements ms)) (omega (arith, length-map (allPlacements ms) (λ (p : Placement). p .number)))
+  pub numbers-long : length (numberColumn ms) ≡ signalLimit
+  numbers-long = length-column signalLimit (numbers (allPlacements ms)) (omega (arith, length-map (allPlacements ms) (λ (p : Placement). p .number)))
 
-  pub starts-long : length (startColumn ms) ≡ 256
-  starts-long = length-column 256 (starts (allPlacements ms)) (omega (arith, length-map (allPlacements ms) (λ (p : Placement). p .start)))
+  pub starts-long : length (startColumn ms) ≡ signalLimit
+  starts-long = length-column signalLimit (starts (allPlacements ms)) (omega (arith, length-map (allPlacements ms) (λ (p : Placement). p .start)))
 
-  pub columns-long : length (messageColumns ms) ≡ 640
+  pub columns-long : length (messageColumns ms) ≡ messageWords
   unfolding messageColumns
   columns-long = four-long (idColumn ms) (endColumn ms) (numberColumn ms) (startColumn ms) ids-long ends-long numbers-long starts-long
 
 -- what stands in the words is what they show
 module _ (w : List ℕ) (ms : List Message) (few : length ms ≤ messageLimit) (room : length (allPlacements ms) ≤ signalLimit) (s : Stands w ms) where
-  from-columns : (n k : ℕ) (c : List ℕ) → n + k ≤ 640 → take n (drop k (messageColumns ms)) ≡ c → take n (drop (3 + k) w) ≡ c
-  from-columns n k c h e = ap (take n) (sym (drop-drop k 3 w)) ∙ sym (part-of n k 640 (drop 3 w) h) ∙ ap (λ (l : List ℕ). take n (drop k l)) (s .columns) ∙ e
+  from-columns : (n k : ℕ) (c : List ℕ) → n + k ≤ messageWords → take n (drop k (messageColumns ms)) ≡ c → take n (drop (idsAt + k) w) ≡ c
+  from-columns n k c h e = ap (take n) (sym (drop-drop k idsAt w)) ∙ sym (part-of n k messageWords (drop idsAt w) h) ∙ ap (λ (l : List ℕ). take n (drop k l)) (s .columns) ∙ e
 
-  pub ids-stand : take 64 (drop 3 w) ≡ idColumn ms
+  pub ids-stand : idsOf w ≡ idColumn ms
   unfolding messageColumns
-  ids-stand = from-columns 64 0 _ (omega arith) (first-part (idColumn ms) (endColumn ms) (numberColumn ms) (startColumn ms) (ids-long ms few room) (ends-long ms few room) (numbers-long ms few room) (starts-long ms few room))
+  ids-stand = from-columns messageLimit 0 _ (omega arith) (first-part (idColumn ms) (endColumn ms) (numberColumn ms) (startColumn ms) (ids-long ms few room) (ends-long ms few room) (numbers-long ms few room) (starts-long ms few room))
 
-  pub ends-stand : take 64 (drop 67 w) ≡ endColumn ms
+  pub ends-stand : endsOf w ≡ endColumn ms
   unfolding messageColumns
-  ends-stand = from-columns 64 64 _ (omega arith) (second-part (idColumn ms) (endColumn ms) (numberColumn ms) (startColumn ms) (ids-long ms few room) (ends-long ms few room) (numbers-long ms few room) (starts-long ms few room))
+  ends-stand = from-columns messageLimit messageLimit _ (omega arith) (second-part (idColumn ms) (endColumn ms) (numberColumn ms) (startColumn ms) (ids-long ms few room) (ends-long ms few room) (numbers-long ms few room) (starts-long ms few room))
 
-  pub numbers-stand : take 256 (drop 131 w) ≡ numberColumn ms
+  pub numbers-stand : numbersOf w ≡ numberColumn ms
   unfolding messageColumns
-  numbers-stand = from-columns 256 128 _ (omega arith) (third-part (idColumn ms) (endColumn ms) (numberColumn ms) (startColumn ms) (ids-long ms few room) (ends-long ms few room) (numbers-long ms few room) (starts-long ms few room))
+  numbers-stand = from-columns signalLimit (messageLimit + messageLimit) _ (omega arith) (third-part (idColumn ms) (endColumn ms) (numberColumn ms) (startColumn ms) (ids-long ms few room) (ends-long ms few room) (numbers-long ms few room) (starts-long ms few room))
 
-  pub starts-stand : take 256 (drop 387 w) ≡ startColumn ms
+  pub starts-stand : startsOf w ≡ startColumn ms
   unfolding messageColumns
-  starts-stand = from-columns 256 384 _ (omega arith) (fourth-part (idColumn ms) (endColumn ms) (numberColumn ms) (startColumn ms) (ids-long ms few room) (ends-long ms few room) (numbers-long ms few room) (starts-long ms few room))
+  starts-stand = from-columns signalLimit (messageLimit + (messageLimit + signalLimit)) _ (omega arith) (fourth-part (idColumn ms) (endColumn ms) (numberColumn ms) (startColumn ms) (ids-long ms few room) (ends-long ms few room) (numbers-long ms few room) (starts-long ms few room))
 
   pub shows : messagesOf w ≡ ms
   unfolding messagesOf
@@ -122,10 +124,10 @@ module _ (w : List ℕ) (ms : List Message) (few : length ms ≤ messageLimit) (
         ends-stand,
         numbers-stand,
         starts-stand,
-        take-column 64 (length ms) (identifiers ms) (length-map ms (λ (m : Message). m .identifier)),
-        take-column 64 (length ms) (endsAfter 0 ms) (length-ends 0 ms),
-        take-column 256 (length (allPlacements ms)) (numbers (allPlacements ms)) (length-map (allPlacements ms) (λ (p : Placement). p .number)),
-        take-column 256 (length (allPlacements ms)) (starts (allPlacements ms)) (length-map (allPlacements ms) (λ (p : Placement). p .start)),
+        take-column messageLimit (length ms) (identifiers ms) (length-map ms (λ (m : Message). m .identifier)),
+        take-column messageLimit (length ms) (endsAfter 0 ms) (length-ends 0 ms),
+        take-column signalLimit (length (allPlacements ms)) (numbers (allPlacements ms)) (length-map (allPlacements ms) (λ (p : Placement). p .number)),
+        take-column signalLimit (length (allPlacements ms)) (starts (allPlacements ms)) (length-map (allPlacements ms) (λ (p : Placement). p .start)),
         placed-back,
       )
       (shown-back 0 ms)
@@ -160,8 +162,8 @@ unfolding messagesTaken
 taken-stands w e =
     let ms = messagesOf w in
     let a = both _ (good ms) e in
-    let b = both (eqb (getD w 0 0) (length ms)) _ (a .0) in
-    let c = both (eqb (getD w 1 0) (length (allPlacements ms))) _ (b .1) in
+    let b = both (eqb (messageCountOf w) (length ms)) _ (a .0) in
+    let c = both (eqb (signalCountOf w) (length (allPlacements ms))) _ (b .1) in
     (record { messages = eqb-true _ _ (b .0); signals = eqb-true _ _ (c .0); columns = same-equal _ _ (c .1) }, a .1)
 
 -- and words in which good messages stand pass it
@@ -170,13 +172,13 @@ unfolding messagesTaken
 stands-taken w ms s g =
     rw (shows w ms (within ms g .few) (within ms g .room) s)
     (with _ (good ms)
-    (with (eqb (getD w 0 0) (length ms)) _ (eq-eqb _ _ (s .messages))
-    (with (eqb (getD w 1 0) (length (allPlacements ms))) _ (eq-eqb _ _ (s .signals)) (rw (s .columns) (equal-same (messageColumns ms))))) g)
+    (with (eqb (messageCountOf w) (length ms)) _ (eq-eqb _ _ (s .messages))
+    (with (eqb (signalCountOf w) (length (allPlacements ms))) _ (eq-eqb _ _ (s .signals)) (rw (s .columns) (equal-same (messageColumns ms))))) g)
 
 -- the words of a book have its messages
 pub words-stand : (b : Book) → good (b .messages) ≡ true → Stands (wordsOf b) (b .messages)
 unfolding wordsOf
-words-stand b g = record { messages = refl; signals = refl; columns = take-at (messageColumns (b .messages)) (routeColumns (b .routes)) 640 (columns-long (b .messages) (within (b .messages) g .few) (within (b .messages) g .room)) }
+words-stand b g = record { messages = refl; signals = refl; columns = take-at (messageColumns (b .messages)) (routeColumns (b .routes)) messageWords (columns-long (b .messages) (within (b .messages) g .few) (within (b .messages) g .room)) }
 
 -- refusal 12 for the message and signal tables, exactly: they are those of messages that lines build
 pub record Shown (w : List ℕ) : Type 0 where

@@ -1,4 +1,6 @@
 pub mod Book
+pub mod Fixed
 pub mod Lines
+pub mod Built
 pub mod Good
 pub mod Words

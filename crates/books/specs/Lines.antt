@@ -4,26 +4,14 @@ use mathlib.Core.Bool.{Bool, true, false, cond, _&&_, _||_, not}
 use mathlib.Core.List.{List, [], _∷_}
 use lib.Dec.{eqb, ltb, leb}
 use lib.ListN.{length}
-pub use Rattle.record.specs.Limits.{identifierLimit}
-use Rattle.record.specs.Limits.{messages, signals, routes, buses, startLimit}
+pub use Rattle.record.specs.Limits.{messageLimit, signalLimit, routeLimit, busLimit, identifierLimit, startLimit}
 use Rattle.catalogue.specs.Find.{bitsOf}
 use Rattle.books.specs.Book.{Placement, Message, Route, identifiers, numbers, allPlacements, lastPlacements}
+use Rattle.books.specs.Fixed.{checksumNumber, checksumStart, counterNumber, counterStart}
 
--- the limits of document 01, under the names that lines ask for
-abbrev pub messageLimit : ℕ
-messageLimit = messages
-
-abbrev pub signalLimit : ℕ
-signalLimit = signals
-
-abbrev pub routeLimit : ℕ
-routeLimit = routes
-
-abbrev pub busLimit : ℕ
-busLimit = buses
-
+-- a frame has 64 bits
 abbrev pub frameBits : ℕ
-frameBits = startLimit
+frameBits = 64
 
 -- `n` stands in the list
 unfoldable pub isIn : ℕ → List ℕ → Bool
@@ -32,13 +20,14 @@ isIn n (m ∷ ms) = eqb n m || isIn n ms
 
 -- refusal 3 of an `S` line: number not in the catalogue, or start over its limit
 unfoldable pub unknownOrOver : Placement → Bool
-unknownOrOver p = eqb (bitsOf (p .number)) 0 || leb frameBits (p .start)
+unknownOrOver p = eqb (bitsOf (p .number)) 0 || leb startLimit (p .start)
 
 -- refusal 7: start + bits over 64, or 503 or 504 at a wrong start
 unfoldable pub misplaced : Placement → Bool
 misplaced p =
     ltb frameBits (p .start + bitsOf (p .number)) ||
-    ((eqb (p .number) 503 && not (eqb (p .start) 60)) || (eqb (p .number) 504 && not (eqb (p .start) 56)))
+    ((eqb (p .number) checksumNumber && not (eqb (p .start) checksumStart)) ||
+    (eqb (p .number) counterNumber && not (eqb (p .start) counterStart)))
 
 -- the two have a frame bit in common: each starts before the other ends
 unfoldable pub meets : Placement → Placement → Bool

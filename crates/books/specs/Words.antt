@@ -1,11 +1,14 @@
--- How a book stands in its 771 words: counts, then columns, each filled up with 0. Assumes nothing: these are definitions.
+-- How a book stands in its words: counts, then columns, each filled up with 0; and which words are those of a taken book.
+-- Assumes nothing: these are definitions.
 use mathlib.Core.Path.{_≡_}
 use Prim.Native.Nat.{ℕ, _+_, _-_}
 use mathlib.Core.Bool.{Bool, true, false, _&&_}
 use mathlib.Core.List.{List, [], _∷_, _++_, map}
 use lib.Dec.{eqb}
-use lib.ListN.{length, getD, take, drop, replicate}
+use lib.ListN.{length, take, drop, replicate}
+use Rattle.record.specs.Columns.{messageCountOf, signalCountOf, idsOf, endsOf, numbersOf, startsOf, messageColumnsOf}
 use Rattle.books.specs.Book.{Placement, Message, Route, Book, identifiers, numbers, allPlacements}
+use Rattle.books.specs.Lines.{messageLimit, signalLimit, routeLimit}
 use Rattle.books.specs.Good.{good}
 
 -- a column of n entries: those that are there, and 0 past them
@@ -22,22 +25,22 @@ endsAfter n (m ∷ ms) = (n + length (m .placements)) ∷ endsAfter (n + length 
 
 -- the columns of the messages
 abbrev pub idColumn : List Message → List ℕ
-idColumn ms = column 64 (identifiers ms)
+idColumn ms = column messageLimit (identifiers ms)
 
 abbrev pub endColumn : List Message → List ℕ
-endColumn ms = column 64 (endsAfter 0 ms)
+endColumn ms = column messageLimit (endsAfter 0 ms)
 
 abbrev pub numberColumn : List Message → List ℕ
-numberColumn ms = column 256 (numbers (allPlacements ms))
+numberColumn ms = column signalLimit (numbers (allPlacements ms))
 
 abbrev pub startColumn : List Message → List ℕ
-startColumn ms = column 256 (starts (allPlacements ms))
+startColumn ms = column signalLimit (starts (allPlacements ms))
 
 unfoldable pub messageColumns : List Message → List ℕ
 messageColumns ms = idColumn ms ++ (endColumn ms ++ (numberColumn ms ++ startColumn ms))
 
 unfoldable pub routeColumns : List Route → List ℕ
-routeColumns rs = column 64 (map (λ (r : Route). r .from) rs) ++ column 64 (map (λ (r : Route). r .to) rs)
+routeColumns rs = column routeLimit (map (λ (r : Route). r .from) rs) ++ column routeLimit (map (λ (r : Route). r .to) rs)
 
 unfoldable pub wordsOf : Book → List ℕ
 wordsOf b =
@@ -50,19 +53,20 @@ placed [] ss = []
 placed (n ∷ ns) [] = []
 placed (n ∷ ns) (s ∷ ss) = record { number = n; start = s } ∷ placed ns ss
 
--- the messages that columns show: each has the signals from the end of the one before it, which is n, to its own end
+-- the messages with these identifiers and ends, whose signals are the placements in turn: each message has those from the end
+-- of the message before it to its own end. The first of them begins at n, and the placements are those from n on.
 unfoldable pub shown : ℕ → List ℕ → List ℕ → List Placement → List Message
 shown n [] es ps = []
 shown n (i ∷ is) [] ps = []
 shown n (i ∷ is) (e ∷ es) ps = record { identifier = i; placements = take (e - n) ps } ∷ shown e is es (drop (e - n) ps)
 
--- the messages that a record of words shows
+-- the messages that words show: as many as are counted, by the columns
 unfoldable pub messagesOf : List ℕ → List Message
 messagesOf w =
-    shown 0 (take (getD w 0 0) (take 64 (drop 3 w))) (take (getD w 0 0) (take 64 (drop 67 w)))
-    (placed (take (getD w 1 0) (take 256 (drop 131 w))) (take (getD w 1 0) (take 256 (drop 387 w))))
+    shown 0 (take (messageCountOf w) (idsOf w)) (take (messageCountOf w) (endsOf w))
+    (placed (take (signalCountOf w) (numbersOf w)) (take (signalCountOf w) (startsOf w)))
 
--- two lists of numbers are the same, as a test
+-- the test whether two lists have the same numbers in the same order
 unfoldable pub same : List ℕ → List ℕ → Bool
 same [] [] = true
 same [] (y ∷ ys) = false
@@ -72,12 +76,12 @@ same (x ∷ xs) (y ∷ ys) = eqb x y && same xs ys
 -- the message and signal tables are those of a taken book: the words stand as the messages that they show would, and these are good
 unfoldable pub messagesTaken : List ℕ → Bool
 messagesTaken w =
-    (eqb (getD w 0 0) (length (messagesOf w)) && (eqb (getD w 1 0) (length (allPlacements (messagesOf w))) &&
-    same (take 640 (drop 3 w)) (messageColumns (messagesOf w)))) &&
+    (eqb (messageCountOf w) (length (messagesOf w)) && (eqb (signalCountOf w) (length (allPlacements (messagesOf w))) &&
+    same (messageColumnsOf w) (messageColumns (messagesOf w)))) &&
     good (messagesOf w)
 
 -- the messages stand in the words: their counts and their columns. The routes are not asked.
 pub record Stands (w : List ℕ) (ms : List Message) : Type 0 where
-  pub messages : getD w 0 0 ≡ length ms
-  pub signals : getD w 1 0 ≡ length (allPlacements ms)
-  pub columns : take 640 (drop 3 w) ≡ messageColumns ms
+  pub messages : messageCountOf w ≡ length ms
+  pub signals : signalCountOf w ≡ length (allPlacements ms)
+  pub columns : messageColumnsOf w ≡ messageColumns ms

@@ -7,8 +7,8 @@ use mathlib.Core.Bool.{true}
 use mathlib.Core.List.{List, [], _∷_, _++_, map}
 use lib.ListN.{length, getD, take, drop, replicate, length-append, length-map, length-take, length-drop, take-append-drop}
 use lib.Seq.{take-at, drop-at, take-all, take-take, drop-drop, take-add, length-take-le, getD-take, getD-drop}
-use Rattle.record.specs.Limits.{routes}
-use Rattle.record.specs.Columns.{routeCountOf, fromsOf, tosOf, bookWords}
+use Rattle.record.specs.Limits.{routeLimit}
+use Rattle.record.specs.Columns.{fromsAt, tosAt, messageWords, routeWords, routeCountOf, fromsOf, tosOf, bookWords}
 use Rattle.chains.specs.Chain.{LoopFree, Single}
 use Rattle.verdict.specs.Verdicts.{IsSound}
 use Rattle.routes.specs.Answers.{startPlaces, endPlaces, RoutesTaken}
@@ -29,58 +29,58 @@ unfolding column
 past-column n k l e = drop-at l (replicate (n - length l) 0) k e ∙ ap (λ (j : ℕ). replicate (n - j) 0) e
 
 -- routes that stand in the words
-module _ (w : List ℕ) (rs : List Route) (few : length rs ≤ routes) (s : RoutesStand w rs) where
+module _ (w : List ℕ) (rs : List Route) (few : length rs ≤ routeLimit) (s : RoutesStand w rs) where
   from-count : length (froms rs) ≡ routeCountOf w
   from-count = length-map rs (λ (r : Route). r .from) ∙ sym (s .count)
 
   to-count : length (tos rs) ≡ routeCountOf w
   to-count = length-map rs (λ (r : Route). r .to) ∙ sym (s .count)
 
-  froms-long : length (column 64 (froms rs)) ≡ 64
-  froms-long = length-column 64 (froms rs) (omega (arith, length-map rs (λ (r : Route). r .from)))
+  froms-long : length (column routeLimit (froms rs)) ≡ routeLimit
+  froms-long = length-column routeLimit (froms rs) (omega (arith, length-map rs (λ (r : Route). r .from)))
 
-  froms-stand : fromsOf w ≡ column 64 (froms rs)
+  froms-stand : fromsOf w ≡ column routeLimit (froms rs)
   unfolding routeColumns
-  froms-stand = sym (part-of 64 0 128 (drop 643 w) (omega arith)) ∙ ap (take 64) (s .columns) ∙ take-at (column 64 (froms rs)) (column 64 (tos rs)) 64 froms-long
+  froms-stand = sym (part-of routeLimit 0 routeWords (drop fromsAt w) (omega arith)) ∙ ap (take routeLimit) (s .columns) ∙ take-at (column routeLimit (froms rs)) (column routeLimit (tos rs)) routeLimit froms-long
 
-  tos-stand : tosOf w ≡ column 64 (tos rs)
+  tos-stand : tosOf w ≡ column routeLimit (tos rs)
   unfolding routeColumns
   tos-stand =
-      ap (take 64) (sym (drop-drop 64 643 w)) ∙ sym (part-of 64 64 128 (drop 643 w) (omega arith)) ∙ ap (λ (l : List ℕ). take 64 (drop 64 l)) (s .columns) ∙
-      ap (take 64) (drop-at (column 64 (froms rs)) (column 64 (tos rs)) 64 froms-long) ∙
-      take-all 64 (column 64 (tos rs)) (omega (arith, length-column 64 (tos rs) (omega (arith, length-map rs (λ (r : Route). r .to)))))
+      ap (take routeLimit) (sym (drop-drop routeLimit fromsAt w)) ∙ sym (part-of routeLimit routeLimit routeWords (drop fromsAt w) (omega arith)) ∙ ap (λ (l : List ℕ). take routeLimit (drop routeLimit l)) (s .columns) ∙
+      ap (take routeLimit) (drop-at (column routeLimit (froms rs)) (column routeLimit (tos rs)) routeLimit froms-long) ∙
+      take-all routeLimit (column routeLimit (tos rs)) (omega (arith, length-column routeLimit (tos rs) (omega (arith, length-map rs (λ (r : Route). r .to)))))
 
   pub starts-are : startPlaces w ≡ froms rs
-  starts-are = ap (take (routeCountOf w)) froms-stand ∙ take-column 64 (routeCountOf w) (froms rs) from-count
+  starts-are = ap (take (routeCountOf w)) froms-stand ∙ take-column routeLimit (routeCountOf w) (froms rs) from-count
 
   pub ends-are : endPlaces w ≡ tos rs
-  ends-are = ap (take (routeCountOf w)) tos-stand ∙ take-column 64 (routeCountOf w) (tos rs) to-count
+  ends-are = ap (take (routeCountOf w)) tos-stand ∙ take-column routeLimit (routeCountOf w) (tos rs) to-count
 
   pub stand-taken : Sound rs → RoutesTaken w
   stand-taken h = record {
     few = omega (arith, s .count);
-    no-more-froms = ap (drop (routeCountOf w)) froms-stand ∙ past-column 64 (routeCountOf w) (froms rs) from-count;
-    no-more-tos = ap (drop (routeCountOf w)) tos-stand ∙ past-column 64 (routeCountOf w) (tos rs) to-count;
+    no-more-froms = ap (drop (routeCountOf w)) froms-stand ∙ past-column routeLimit (routeCountOf w) (froms rs) from-count;
+    no-more-tos = ap (drop (routeCountOf w)) tos-stand ∙ past-column routeLimit (routeCountOf w) (tos rs) to-count;
     sound = rw (starts-are, ends-are) (record { loop-free = h .loop-free; single = h .single });
   }
 
 -- the words of a book have its routes
-pub words-routes : (b : Book) → good (b .messages) ≡ true → length (b .routes) ≤ routes → RoutesStand (wordsOf b) (b .routes)
+pub words-routes : (b : Book) → good (b .messages) ≡ true → length (b .routes) ≤ routeLimit → RoutesStand (wordsOf b) (b .routes)
 unfolding wordsOf routeColumns
 words-routes b g few = record {
   count = refl;
   columns =
-      ap (take 128) (drop-at (messageColumns (b .messages)) (routeColumns (b .routes)) 640 (columns-long (b .messages) (within (b .messages) g .few) (within (b .messages) g .room))) ∙
-      take-all 128 (routeColumns (b .routes)) (omega (arith, length-append (column 64 (froms (b .routes))) (column 64 (tos (b .routes))), length-column 64 (froms (b .routes)) (omega (arith, length-map (b .routes) (λ (r : Route). r .from))), length-column 64 (tos (b .routes)) (omega (arith, length-map (b .routes) (λ (r : Route). r .to)))));
+      ap (take routeWords) (drop-at (messageColumns (b .messages)) (routeColumns (b .routes)) messageWords (columns-long (b .messages) (within (b .messages) g .few) (within (b .messages) g .room))) ∙
+      take-all routeWords (routeColumns (b .routes)) (omega (arith, length-append (column routeLimit (froms (b .routes))) (column routeLimit (tos (b .routes))), length-column routeLimit (froms (b .routes)) (omega (arith, length-map (b .routes) (λ (r : Route). r .from))), length-column routeLimit (tos (b .routes)) (omega (arith, length-map (b .routes) (λ (r : Route). r .to)))));
 }
 
-routes-long : (rs : List Route) → length rs ≤ routes → length (routeColumns rs) ≡ 128
+routes-long : (rs : List Route) → length rs ≤ routeLimit → length (routeColumns rs) ≡ routeWords
 unfolding routeColumns
 routes-long rs few =
-    omega (arith, length-append (column 64 (froms rs)) (column 64 (tos rs)), length-column 64 (froms rs) (omega (arith, length-map rs (λ (r : Route). r .from))), length-column 64 (tos rs) (omega (arith, length-map rs (λ (r : Route). r .to))))
+    omega (arith, length-append (column routeLimit (froms rs)) (column routeLimit (tos rs)), length-column routeLimit (froms rs) (omega (arith, length-map rs (λ (r : Route). r .from))), length-column routeLimit (tos rs) (omega (arith, length-map rs (λ (r : Route). r .to))))
 
 -- a book has as many words as a record
-pub words-long : (b : Book) → good (b .messages) ≡ true → length (b .routes) ≤ routes → length (wordsOf b) ≡ bookWords
+pub words-long : (b : Book) → good (b .messages) ≡ true → length (b .routes) ≤ routeLimit → length (wordsOf b) ≡ bookWords
 unfolding wordsOf
 words-long b g few =
     omega (arith, length-append (messageColumns (b .messages)) (routeColumns (b .routes)), columns-long (b .messages) (within (b .messages) g .few) (within (b .messages) g .room), routes-long (b .routes) few)
@@ -132,11 +132,11 @@ filled n k c l h z =
     sym (take-append-drop k c) ∙ ap (λ (x : List ℕ). take k c ++ x) (z ∙ ap (λ (j : ℕ). replicate (n - j) 0) (sym (length-take-le k c (omega arith))))
 
 module _ (w : List ℕ) (r : Record w) (t : RoutesTaken w) where
-  f-long : length (fromsOf w) ≡ 64
-  f-long = length-take-le 64 (drop 643 w) (omega (arith, length-drop 643 w, r .long))
+  f-long : length (fromsOf w) ≡ routeLimit
+  f-long = length-take-le routeLimit (drop fromsAt w) (omega (arith, length-drop fromsAt w, r .long))
 
-  t-long : length (tosOf w) ≡ 64
-  t-long = length-take-le 64 (drop 707 w) (omega (arith, length-drop 707 w, r .long))
+  t-long : length (tosOf w) ≡ routeLimit
+  t-long = length-take-le routeLimit (drop tosAt w) (omega (arith, length-drop tosAt w, r .long))
 
   start-count : length (startPlaces w) ≡ routeCountOf w
   start-count = length-take-le (routeCountOf w) (fromsOf w) (omega (arith, f-long, t .few))
@@ -163,8 +163,8 @@ module _ (w : List ℕ) (r : Record w) (t : RoutesTaken w) where
       few = omega (arith, shown-count, t .few);
       places =
           pair-places (startPlaces w) (endPlaces w)
-          (small-take (routeCountOf w) (fromsOf w) (small-take 64 (drop 643 w) (small-drop 643 w (r .small))))
-          (small-take (routeCountOf w) (tosOf w) (small-take 64 (drop 707 w) (small-drop 707 w (r .small))));
+          (small-take (routeCountOf w) (fromsOf w) (small-take routeLimit (drop fromsAt w) (small-drop fromsAt w (r .small))))
+          (small-take (routeCountOf w) (tosOf w) (small-take routeLimit (drop tosAt w) (small-drop tosAt w (r .small))));
     };
     sound =
         let a = pair-froms (startPlaces w) (endPlaces w) in-step in
@@ -173,10 +173,10 @@ module _ (w : List ℕ) (r : Record w) (t : RoutesTaken w) where
     stand = record {
       count = sym shown-count;
       columns =
-          take-add 64 64 (drop 643 w) ∙
-          ap (λ (x : List ℕ). fromsOf w ++ x) (ap (take 64) (drop-drop 64 643 w)) ∙
-          ap (λ (x : List ℕ). x ++ tosOf w) (filled 64 (routeCountOf w) (fromsOf w) f-long (t .few) (t .no-more-froms) ∙ ap (column 64) (sym (pair-froms (startPlaces w) (endPlaces w) in-step))) ∙
-          ap (λ (x : List ℕ). column 64 (froms shown) ++ x) (filled 64 (routeCountOf w) (tosOf w) t-long (t .few) (t .no-more-tos) ∙ ap (column 64) (sym (pair-tos (startPlaces w) (endPlaces w) in-step)));
+          take-add routeLimit routeLimit (drop fromsAt w) ∙
+          ap (λ (x : List ℕ). fromsOf w ++ x) (ap (take routeLimit) (drop-drop routeLimit fromsAt w)) ∙
+          ap (λ (x : List ℕ). x ++ tosOf w) (filled routeLimit (routeCountOf w) (fromsOf w) f-long (t .few) (t .no-more-froms) ∙ ap (column routeLimit) (sym (pair-froms (startPlaces w) (endPlaces w) in-step))) ∙
+          ap (λ (x : List ℕ). column routeLimit (froms shown) ++ x) (filled routeLimit (routeCountOf w) (tosOf w) t-long (t .few) (t .no-more-tos) ∙ ap (column routeLimit) (sym (pair-tos (startPlaces w) (endPlaces w) in-step)));
     };
   }
 

@@ -25,7 +25,7 @@ fn read_first(text: &mut [u8], size: usize) {
 
 fn take_first(text: &[u8], size: usize, book: &mut [u32; BOOK_WORDS]) {
     if size <= text.len() {
-        book::read_text(&text[..size], book);
+        book::read(&text[..size], book);
     }
 }
 

@@ -9,7 +9,7 @@ use lib.ListN.{length, take, drop}
 use Rattle.books.specs.Words.{placed, messagesOf}
 use Rattle.framing.specs.Messages.{messageOf}
 use Rattle.record.specs.Columns.{numbersOf, startsOf}
-use Rattle.record.specs.Limits.{signals}
+use Rattle.record.specs.Limits.{signalLimit}
 use Rattle.messages.specs.Signals.{AllFit, messageFrom}
 use Rattle.frames.specs.declared.lookup.Found.{Found}
 use Rattle.frames.specs.declared.lookup.Found.the-variants.{Signals, Nothing}
@@ -26,7 +26,7 @@ part from to column = take (to - from) (drop from column)
 -- the parts of the columns from one place to before another are the placements of the identifier's message
 pub record Spans (words : List ℕ) (identifier from to : ℕ) : Type 0 where
   pub order : from ≤ to
-  pub inside : to ≤ signals
+  pub inside : to ≤ signalLimit
   pub found : messageOf identifier (messagesOf words) ≡ some (messageFrom identifier (part from to (numbersOf words)) (part from to (startsOf words)))
   pub many : length (placed (part from to (numbersOf words)) (part from to (startsOf words))) ≡ to - from
   pub same : length (part from to (startsOf words)) ≡ length (part from to (numbersOf words))

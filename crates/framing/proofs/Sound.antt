@@ -11,7 +11,7 @@ use lib.Dec.{eqb, ltb, leb}
 use borrow.Author.Tests.{ltb-false, eqb-true, eqb-false, eq-eqb}
 use Rattle.bits.specs.Word.{Fits}
 use Rattle.books.specs.Book.{Placement, Message, numbers}
-use Rattle.books.specs.Lines.{isIn, unknownOrOver, misplaced, meets, meetsEarlier, frameBits, identifierLimit}
+use Rattle.books.specs.Lines.{isIn, unknownOrOver, misplaced, meets, meetsEarlier, frameBits, identifierLimit, startLimit}
 use Rattle.books.specs.Good.{goodAfter, goodFrom, good}
 use Rattle.books.proofs.Tests.{both, neither}
 use Rattle.catalogue.specs.Find.{bitsOf}
@@ -88,13 +88,13 @@ passed before p e =
 sits : {before : List Placement} (p : Placement) → Passed before p → Sits p
 unfolding unknownOrOver misplaced
 sits p h =
-    let a = or-false (eqb (bitsOf (p .number)) 0) (leb frameBits (p .start)) (h .known) in
+    let a = or-false (eqb (bitsOf (p .number)) 0) (leb startLimit (p .start)) (h .known) in
     let some : bitsOf (p .number) ≡ 0 → ⊥ = eqb-false (bitsOf (p .number)) 0 (a .0) in
     let c = or-false (ltb frameBits (p .start + bitsOf (p .number))) _ (h .inside) in
-    let d = or-false (eqb (p .number) 503 && not (eqb (p .start) 60)) _ (c .1) in
+    let d = or-false (eqb (p .number) checksumNumber && not (eqb (p .start) checksumStart)) _ (c .1) in
     record {
       fits = record { some = omega arith; most = few-bits (p .number); inside = ltb-false frameBits (p .start + bitsOf (p .number)) (c .0) };
-      check = λ e. eqb-true (p .start) 60 (go (eqb (p .number) 503) (eqb (p .start) 60) (eq-eqb (p .number) 503 e) (d .0));
+      check = λ e. eqb-true (p .start) checksumStart (go (eqb (p .number) checksumNumber) (eqb (p .start) checksumStart) (eq-eqb (p .number) checksumNumber e) (d .0));
     }
   where
     go : (a b : Bool) → a ≡ true → a && not b ≡ false → b ≡ true

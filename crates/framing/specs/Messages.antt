@@ -6,6 +6,7 @@ use Prim.Native.Nat.{ℕ}
 use lib.Dec.{eqb}
 use lib.ListN.{length, drop}
 use Rattle.books.specs.Book.{Placement, Message, numbers}
+pub use Rattle.books.specs.Fixed.{checksumNumber, checksumStart}
 use Rattle.books.specs.Lines.{isIn}
 use Rattle.bits.specs.Frame.{countAt}
 use Rattle.catalogue.specs.Find.{bitsOf}
@@ -16,13 +17,7 @@ use Rattle.catalogue.specs.declared.Class.{Class}
 abbrev pub frameBytes : ℕ
 frameBytes = 8
 
--- the checksum is signal 503; by house rule it sits at start 60, and it has 4 bits
-abbrev pub checksumNumber : ℕ
-checksumNumber = 503
-
-abbrev pub checksumStart : ℕ
-checksumStart = 60
-
+-- the checksum, signal 503, has 4 bits
 abbrev pub checksumBits : ℕ
 checksumBits = 4
 

@@ -27,7 +27,7 @@ use Rattle.framing.specs.Messages.{frameBytes, messageOf, classIn}
 use Rattle.framing.specs.Reading.{readingNumber, checksumHolds}
 use Rattle.printing.specs.Put.{Put, PutWithin}
 use Rattle.record.specs.Columns.{numbersOf, startsOf}
-use Rattle.record.specs.Limits.{signals}
+use Rattle.record.specs.Limits.{signalLimit}
 use Rattle.signal_lines.specs.Printed.{signalLine, refusedLine, illFormedLine}
 use Rattle.listing.specs.Printout.{signalLines, messageLines, frameListing, printed, printout}
 use Rattle.listing.specs.Working.{lineRoom, longest, wordLines, messageText, Listable}
@@ -86,7 +86,7 @@ wider {old} {at} {text} {text′} {new} {next} most more h e p =
 module _ {old new : List ℕ} {at next : ℕ} where
   -- the message, by its checksum
   module _ (identifier word : ℕ) (ns ss : List ℕ) {b : Bool} (c : b ≡ checkHolds identifier word ns) where
-    pub message-signals : b ≡ true → length ns ≤ signals → PutWithin old at (lineRoom * length ns) (wordLines identifier word (placed ns ss)) new next
+    pub message-signals : b ≡ true → length ns ≤ signalLimit → PutWithin old at (lineRoom * length ns) (wordLines identifier word (placed ns ss)) new next
         → PutWithin old at longest (messageText identifier word ns ss) new next
     unfolding messageText
     message-signals e m p = wider (lineRoom * length ns) longest (omega arith) (rw (sym c ∙ e)) p

@@ -11,7 +11,7 @@ use Rattle.books.specs.Words.{placed}
 use Rattle.messages.specs.Signals.{AllFit, classFrom, checkHolds}
 use Rattle.framing.specs.declared.Reading.the-variants.{WrongChecksum}
 use Rattle.framing.specs.Reading.{readingNumber}
-use Rattle.record.specs.Limits.{signals}
+use Rattle.record.specs.Limits.{signalLimit}
 use Rattle.signal_lines.specs.Printed.{signalLine, refusedLine}
 use Rattle.listing.specs.declared.Fitted.{Fitted}
 use Rattle.listing.specs.declared.Fitted.the-variants.{Next, NoRoom}
@@ -38,7 +38,7 @@ pub record Roomy (out : List ℕ) (at : ℕ) (ns ss : List ℕ) : Type 0 where
 pub record Listable (out : List ℕ) (at : ℕ) (ns ss : List ℕ) : Type 0 where
   pub same : length ss ≡ length ns
   pub fit : AllFit (placed ns ss)
-  pub many : length ns ≤ signals
+  pub many : length ns ≤ signalLimit
   pub inside : at + longest ≤ length out
 
 -- a frame's word by its message: refusal 23, or a line for each signal

@@ -12,6 +12,7 @@ use borrow.Author.Tests.{ne-eqb, lt-ltb, le-ltb, le-leb, lt-leb, leb-false, ltb-
 use Rattle.catalogue.specs.Find.{bitsOf}
 use Rattle.catalogue.proofs.Found.{few-bits}
 use Rattle.books.specs.Book.{Placement, numbers}
+use Rattle.books.specs.Fixed.{checksumNumber, checksumStart, counterNumber, counterStart}
 use Rattle.books.specs.Lines.{unknownOrOver, misplaced, meets, meetsEarlier, frameBits}
 use Rattle.books.specs.Words.{placed}
 use Rattle.books.proofs.Tests.{neither, both-false}
@@ -24,15 +25,15 @@ module _ (n s b : ℕ) (e : b ≡ bitsOf n) where
   past-end h = rw (← e, lt-ltb _ _ h)
 
   module _ (h : s + b ≤ 64) where
-    pub sum-placed : n ≡ 503 → misplaced (placement n s) ≡ not (eqb s 60)
+    pub sum-placed : n ≡ checksumNumber → misplaced (placement n s) ≡ not (eqb s checksumStart)
     unfolding misplaced
-    sum-placed f = rw (← e, le-ltb _ _ h, f) (or-false (not (eqb s 60)))
+    sum-placed f = rw (← e, le-ltb _ _ h, f) (or-false (not (eqb s checksumStart)))
 
-    pub counter-placed : n ≡ 504 → misplaced (placement n s) ≡ not (eqb s 56)
+    pub counter-placed : n ≡ counterNumber → misplaced (placement n s) ≡ not (eqb s counterStart)
     unfolding misplaced
     counter-placed f = rw (← e, le-ltb _ _ h, f)
 
-    pub well-placed : (n ≡ 503 → ⊥) → (n ≡ 504 → ⊥) → misplaced (placement n s) ≡ false
+    pub well-placed : (n ≡ checksumNumber → ⊥) → (n ≡ counterNumber → ⊥) → misplaced (placement n s) ≡ false
     unfolding misplaced
     well-placed f g = rw (← e, le-ltb _ _ h, ne-eqb _ _ f, ne-eqb _ _ g)
 

@@ -10,22 +10,34 @@ ghost use Rattle.books.specs.Good.{goodAfter};
 ghost use Rattle.books.specs.Words.{placed};
 ghost use Rattle.masks.specs.Bit.{bit};
 ghost use Rattle.placing.specs.Placing.{placement, standsAlone, inRun, Marked};
+ghost use Rattle.record.specs.Limits.{startLimit};
 use columns::wide;
 use record::START_LIMIT;
 
+const FRAME_BITS: u32 = 64;
+
+// The two signals that the house rule gives a start.
+const CHECKSUM: u32 = 503;
+
+const CHECKSUM_START: u32 = 60;
+
+const COUNTER: u32 = 504;
+
+const COUNTER_START: u32 = 56;
+
 // Whether a signal of the catalogue stands where it may not, by itself.
 pub fn is_misplaced(number: u32, start: u32, bits: u32) -> bool
-    requires { ⌜ (start < 64) × (bits ≤ 32) × (bits ≡ bitsOf number) ⌝ }
+    requires { ⌜ (start < startLimit) × (bits ≤ 32) × (bits ≡ bitsOf number) ⌝ }
     ensures { λ r. ⌜ r ≡ misplaced (placement number start) ⌝ }
 {
-    if start + bits > 64 {
+    if start + bits > FRAME_BITS {
         return true;
     }
-    if number == 503 {
-        return start != 60;
+    if number == CHECKSUM {
+        return start != CHECKSUM_START;
     }
-    if number == 504 {
-        return start != 56;
+    if number == COUNTER {
+        return start != COUNTER_START;
     }
     false
 }

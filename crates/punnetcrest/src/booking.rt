@@ -30,7 +30,7 @@ fn number_of(why: Refusal) -> u32
 pub extern "C" fn pc_book_read(text: &[u8], book: &mut [u32; BOOK_WORDS], line: &mut u32) -> u32
     ensures { λ r. ⌜ BookRead (now (text .entry)) r (now (book .exit)) (now (line .exit)) ⌝ }
 {
-    let answer = book::read_text(text, book);
+    let answer = book::read(text, book);
     match answer {
         Answer::Taken(_, _, _) => {
             *line = 0;

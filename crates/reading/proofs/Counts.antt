@@ -11,7 +11,7 @@ use borrow.Author.Tests.{leb-false}
 use Rattle.line.specs.declared.Line.{Line}
 use Rattle.line.specs.declared.Line.the-variants as line
 use Rattle.record.specs.Limits.{identifierLimit}
-use Rattle.record.specs.Place.{placeKey, key-fits}
+use Rattle.record.specs.Place.{placeKey, placeLimit, key-fits}
 use Rattle.books.specs.Book.{Book, Message, Placement, Route, noBook, fresh, inLast, withPlacement, allPlacements}
 use Rattle.books.specs.Lines.{routeRefusal, signalRefusal, busLimit, routeLimit}
 use Rattle.books.proofs.Tests.{not-refused, both-false}
@@ -89,7 +89,7 @@ pub record Routed (rs : List Route) : Type 0 where
   pub few : length rs ≤ routeLimit
   pub places : Places rs
 
-places-more : {rs : List Route} (r : Route) → Places rs → r .from < 4294967296 → r .to < 4294967296 → Places (rs ++ (r ∷ []))
+places-more : {rs : List Route} (r : Route) → Places rs → r .from < placeLimit → r .to < placeLimit → Places (rs ++ (r ∷ []))
 places-more r no-route f t = route f t no-route
 places-more r (route g u p) f t = route g u (places-more r p f t)
 

@@ -8,7 +8,7 @@ use lib.ListN.{length}
 use Rattle.chains.specs.Chain.{Chain}
 use Rattle.books.specs.Book.{Book, Message, Route}
 use Rattle.books.specs.Lines.{routeLimit}
-use Rattle.books.specs.Good.{Built, none}
+use Rattle.books.specs.Built.{Built, none}
 use Rattle.books.specs.Words.{messagesTaken, messagesOf, Stands}
 use Rattle.books.proofs.Building.{good-built, built-good}
 use Rattle.books.proofs.Columns.{taken-stands, stands-taken}

@@ -8,7 +8,7 @@ use lib.ListN.{length}
 use Rattle.line.specs.declared.Line.{Line}
 use Rattle.line.specs.declared.Line.the-variants as line
 use Rattle.books.specs.Book.{Book, Message, Placement, noBook}
-use Rattle.books.specs.Good.{Built, none, message, signal}
+use Rattle.books.specs.Built.{Built, none, message, signal}
 use Rattle.reading.specs.Reading.{Outcome, passed, refused, onward, refusalOf, withLine, numberedWith, readFrom, meanings, linesRead}
 
 -- lines that pass: the first is not refused, and the others pass

@@ -23,8 +23,8 @@ use Rattle.record.specs.Place.{key-place}
 use Rattle.catalogue.specs.Find.{bitsOf}
 use Rattle.books.proofs.Known.{known-small}
 use Rattle.books.specs.Book.{Book, Message, Placement, Route, noBook, fresh, allPlacements}
-use Rattle.books.specs.Lines.{messageRefusal, signalRefusal, unknownOrOver, isIn, messageLimit, signalLimit, routeLimit, frameBits}
-use Rattle.books.specs.Good.{Built, none, message, signal}
+use Rattle.books.specs.Lines.{messageRefusal, signalRefusal, unknownOrOver, isIn, messageLimit, signalLimit, routeLimit, startLimit}
+use Rattle.books.specs.Built.{Built, none, message, signal}
 use Rattle.books.proofs.Tests.{not-refused, both-false}
 use Rattle.books.proofs.Building.{built-good}
 use Rattle.books.proofs.Columns.{Within, within}
@@ -63,8 +63,8 @@ message-writable ms i e = let a = leb-false identifierLimit i (not-refused (leb 
 signal-writable : (ms : List Message) (p : Placement) → signalRefusal ms p ≡ 0 → Writable (signalLine p)
 unfolding signalRefusal unknownOrOver
 signal-writable ms p e =
-    let a = both-false (eqb (bitsOf (p .number)) 0) (leb frameBits (p .start)) (not-refused (unknownOrOver p) 2 _ e .0) in
-    let b = leb-false frameBits (p .start) (a .1) in
+    let a = both-false (eqb (bitsOf (p .number)) 0) (leb startLimit (p .start)) (not-refused (unknownOrOver p) 2 _ e .0) in
+    let b = leb-false startLimit (p .start) (a .1) in
     (omega (arith, known-small (p .number) (eqb-false (bitsOf (p .number)) 0 (a .0))), omega arith)
 
 messages-writable : {ms : List Message} → Built ms → AllWritable (messageLines ms)

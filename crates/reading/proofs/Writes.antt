@@ -7,12 +7,12 @@ use lib.ListN.{length, length-append, length-map}
 use Rattle.line.specs.declared.Line.{Line}
 use Rattle.line.specs.declared.Line.the-variants as line
 use Rattle.record.specs.Limits.{identifierLimit}
-use Rattle.record.specs.Place.{placeKey, key-place}
+use Rattle.record.specs.Place.{placeKey, placeLimit, key-place}
 use borrow.Author.Tests.{lt-leb}
 use Rattle.books.specs.Book.{Book, Message, Placement, Route, noBook, fresh, withPlacement, inLast}
 use Rattle.books.specs.Lines.{signalRefusal, routeRefusal, unknownOrOver, routeLimit}
 use Rattle.books.proofs.Tests.{not-refused, no-refusal, nor}
-use Rattle.books.specs.Good.{Built, none, message, signal}
+use Rattle.books.specs.Built.{Built, none, message, signal}
 use Rattle.books.proofs.Ends.{map-append, in-last, Last, last}
 use Rattle.reading.specs.Reading.{Outcome, passed, refused, onward, refusalOf, withLine, numberedWith, readFrom}
 use Rattle.reading.specs.Written.{signalLine, routeLine, messageLines, bookLines, Places, no-route, route, countUp}
@@ -67,7 +67,7 @@ messages-read (signal {ms} p b e) =
     ap (readFrom 1 noBook []) (lines-signal ms p e) ∙ read-append 1 noBook [] (messageLines ms) (signalLine p ∷ []) (messages-read b) ∙ goes-on _ _ _ e
 
 -- the line of a route passes, and gives the route
-route-taken : (before : List Route) (r : Route) → length before < routeLimit → r .from < 4294967296 → r .to < 4294967296
+route-taken : (before : List Route) (r : Route) → length before < routeLimit → r .from < placeLimit → r .to < placeLimit
     → routeRefusal before (r .from / identifierLimit) (r .from % identifierLimit) (r .to / identifierLimit) (r .to % identifierLimit) ≡ 0
 unfolding routeRefusal
 route-taken before r h f t =
@@ -80,7 +80,7 @@ route-taken before r h f t =
 abbrev pub between : ℕ → ℕ → Route
 between f t = record { from = f; to = t }
 
-route-back : (r : Route) → r .from < 4294967296 → r .to < 4294967296
+route-back : (r : Route) → r .from < placeLimit → r .to < placeLimit
     → between (placeKey (r .from / identifierLimit) (r .from % identifierLimit)) (placeKey (r .to / identifierLimit) (r .to % identifierLimit)) ≡ r
 route-back r f t =
     ap (λ (x : ℕ). between x (placeKey (r .to / identifierLimit) (r .to % identifierLimit))) (key-place (r .from) f .2) ∙ ap (between (r .from)) (key-place (r .to) t .2)

@@ -2,9 +2,9 @@
 use mathlib.Core.Path.{_≡_}
 use Prim.Native.Nat.{ℕ, suc, _≤_}
 use mathlib.Core.List.{List, [], _∷_, map}
-use lib.ListN.{length, getD, take, drop}
+use lib.ListN.{length}
 use Rattle.record.specs.Limits.{textLimit}
-use Rattle.record.specs.Columns.{routeCountOf}
+use Rattle.record.specs.Columns.{routeCountOf, routeColumnsOf}
 use Rattle.line.specs.declared.Line.{Line}
 use Rattle.line.specs.declared.Line.the-variants as line
 use Rattle.chains.specs.Chain.{IsSound}
@@ -33,7 +33,7 @@ pub record TakenWith (text : List ℕ) (b : Book) : Type 0 where
 -- the routes stand in the words: their count and their columns. The messages are not asked.
 pub record RoutesStand (w : List ℕ) (rs : List Route) : Type 0 where
   pub count : routeCountOf w ≡ length rs
-  pub columns : take 128 (drop 643 w) ≡ routeColumns rs
+  pub columns : routeColumnsOf w ≡ routeColumns rs
 
 -- "that of no taken book" (12): tables are those of a taken book where some text is taken with a book whose tables they are.
 -- The message and signal tables:

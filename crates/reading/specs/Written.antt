@@ -2,6 +2,7 @@
 use Prim.Native.Nat.{ℕ, zero, suc, _<_, _/_, _%_}
 use mathlib.Core.List.{List, [], _∷_, _++_, map}
 use Rattle.record.specs.Limits.{identifierLimit}
+use Rattle.record.specs.Place.{placeLimit}
 use Rattle.parts.specs.Joined.{textOfLines}
 use Rattle.line.specs.Written.{lineText}
 use Rattle.line.specs.declared.Line.{Line}
@@ -26,10 +27,10 @@ bookLines b = messageLines (b .messages) ++ map routeLine (b .routes)
 unfoldable pub bookText : Book → List ℕ
 bookText b = textOfLines (map lineText (bookLines b))
 
--- the places of routes are numbers of 32 bits: a bus below 8 and an identifier below 2^29
+-- the places of routes are places: each has a bus and an identifier within their limits
 pub data Places : List Route → Type 0 where
   no-route : Places []
-  route : {r : Route} {rs : List Route} → r .from < 4294967296 → r .to < 4294967296 → Places rs → Places (r ∷ rs)
+  route : {r : Route} {rs : List Route} → r .from < placeLimit → r .to < placeLimit → Places rs → Places (r ∷ rs)
 
 -- the line numbers of k lines from n on
 unfoldable pub countUp : ℕ → ℕ → List ℕ

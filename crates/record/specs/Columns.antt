@@ -1,43 +1,88 @@
--- The columns of a book's words, and the empty book. Assumes nothing: these are definitions.
-use Prim.Native.Nat.{ℕ}
+-- The words of a book: three counts, then six columns, each at its greatest length; and the empty book.
+-- Assumes nothing: these are definitions.
+use Prim.Native.Nat.{ℕ, _+_}
 use mathlib.Core.List.{List}
 use lib.ListN.{getD, take, drop, replicate}
-use Rattle.record.specs.Limits.{messages, signals, routes}
+use Rattle.record.specs.Limits.{messageLimit, signalLimit, routeLimit}
 
--- how many M, S and R lines the words say there are
+-- ---- where the counts of M, S and R lines stand, and where each column begins: where the one before it ends
+
+abbrev pub messageCountAt : ℕ
+messageCountAt = 0
+
+abbrev pub signalCountAt : ℕ
+signalCountAt = 1
+
+abbrev pub routeCountAt : ℕ
+routeCountAt = 2
+
+abbrev pub idsAt : ℕ
+idsAt = 3
+
+abbrev pub endsAt : ℕ
+endsAt = idsAt + messageLimit
+
+abbrev pub numbersAt : ℕ
+numbersAt = endsAt + messageLimit
+
+abbrev pub startsAt : ℕ
+startsAt = numbersAt + signalLimit
+
+abbrev pub fromsAt : ℕ
+fromsAt = startsAt + signalLimit
+
+abbrev pub tosAt : ℕ
+tosAt = fromsAt + routeLimit
+
+-- how many words a book has, and how many of them are the columns of the messages and signals, and those of the routes
+abbrev pub bookWords : ℕ
+bookWords = tosAt + routeLimit
+
+abbrev pub messageWords : ℕ
+messageWords = messageLimit + (messageLimit + (signalLimit + signalLimit))
+
+abbrev pub routeWords : ℕ
+routeWords = routeLimit + routeLimit
+
+-- ---- what the words say
+
+-- how many M, S and R lines there are
 abbrev pub messageCountOf : List ℕ → ℕ
-messageCountOf w = getD w 0 0
+messageCountOf w = getD w messageCountAt 0
 
 abbrev pub signalCountOf : List ℕ → ℕ
-signalCountOf w = getD w 1 0
+signalCountOf w = getD w signalCountAt 0
 
 abbrev pub routeCountOf : List ℕ → ℕ
-routeCountOf w = getD w 2 0
+routeCountOf w = getD w routeCountAt 0
 
 -- for each message its identifier, and how many signals there are up to its last one
 abbrev pub idsOf : List ℕ → List ℕ
-idsOf w = take messages (drop 3 w)
+idsOf w = take messageLimit (drop idsAt w)
 
 abbrev pub endsOf : List ℕ → List ℕ
-endsOf w = take messages (drop 67 w)
+endsOf w = take messageLimit (drop endsAt w)
 
 -- for each signal its number and its start
 abbrev pub numbersOf : List ℕ → List ℕ
-numbersOf w = take signals (drop 131 w)
+numbersOf w = take signalLimit (drop numbersAt w)
 
 abbrev pub startsOf : List ℕ → List ℕ
-startsOf w = take signals (drop 387 w)
+startsOf w = take signalLimit (drop startsAt w)
 
 -- for each route the place it leads from and the place it leads to
 abbrev pub fromsOf : List ℕ → List ℕ
-fromsOf w = take routes (drop 643 w)
+fromsOf w = take routeLimit (drop fromsAt w)
 
 abbrev pub tosOf : List ℕ → List ℕ
-tosOf w = take routes (drop 707 w)
+tosOf w = take routeLimit (drop tosAt w)
 
--- three counts and the six columns
-abbrev pub bookWords : ℕ
-bookWords = 771
+-- the columns of the messages and signals, one after the other, and those of the routes
+abbrev pub messageColumnsOf : List ℕ → List ℕ
+messageColumnsOf w = take messageWords (drop idsAt w)
+
+abbrev pub routeColumnsOf : List ℕ → List ℕ
+routeColumnsOf w = take routeWords (drop fromsAt w)
 
 -- the empty book has every entry 0
 unfoldable pub emptyBook : List ℕ

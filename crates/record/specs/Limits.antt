@@ -2,18 +2,18 @@
 use Prim.Native.Nat.{ℕ}
 
 -- how many lines of each kind a book may have
-abbrev pub messages : ℕ
-messages = 64
+abbrev pub messageLimit : ℕ
+messageLimit = 64
 
-abbrev pub signals : ℕ
-signals = 256
+abbrev pub signalLimit : ℕ
+signalLimit = 256
 
-abbrev pub routes : ℕ
-routes = 64
+abbrev pub routeLimit : ℕ
+routeLimit = 64
 
 -- buses are 0 to 7
-abbrev pub buses : ℕ
-buses = 8
+abbrev pub busLimit : ℕ
+busLimit = 8
 
 -- identifiers are below 2^29
 abbrev pub identifierLimit : ℕ

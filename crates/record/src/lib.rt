@@ -3,7 +3,7 @@
 ghost use mathlib.Core.Path.{_≡_};
 ghost use Prim.Native.Nat.{_<_};
 ghost use lib.ListN.{length};
-ghost use Rattle.record.specs.Limits.{messages, signals, routes, buses, identifierLimit};
+ghost use Rattle.record.specs.Limits.{messageLimit, signalLimit, routeLimit, busLimit, identifierLimit};
 ghost use Rattle.record.specs.Place.{placeKey};
 ghost use Rattle.record.specs.Columns.{messageCountOf, signalCountOf, routeCountOf, idsOf, endsOf, numbersOf, startsOf, fromsOf, tosOf, emptyBook};
 
@@ -76,7 +76,7 @@ pub fn route_count(book: &[u32; BOOK_WORDS]) -> u32
 
 // The messages' identifiers.
 pub fn ids(book: &[u32; BOOK_WORDS]) -> &[u32]
-    ensures { λ r. ⌜ (now r ≡ idsOf (now (book .entry))) × (length (now r) ≡ messages) ⌝ }
+    ensures { λ r. ⌜ (now r ≡ idsOf (now (book .entry))) × (length (now r) ≡ messageLimit) ⌝ }
 {
     let words: &[u32] = book;
     &words[IDS..IDS_END]
@@ -84,7 +84,7 @@ pub fn ids(book: &[u32; BOOK_WORDS]) -> &[u32]
 
 // For each message, how many signals there are up to its last one.
 pub fn ends(book: &[u32; BOOK_WORDS]) -> &[u32]
-    ensures { λ r. ⌜ (now r ≡ endsOf (now (book .entry))) × (length (now r) ≡ messages) ⌝ }
+    ensures { λ r. ⌜ (now r ≡ endsOf (now (book .entry))) × (length (now r) ≡ messageLimit) ⌝ }
 {
     let words: &[u32] = book;
     &words[ENDS..ENDS_END]
@@ -92,7 +92,7 @@ pub fn ends(book: &[u32; BOOK_WORDS]) -> &[u32]
 
 // The signals' numbers, message by message.
 pub fn numbers(book: &[u32; BOOK_WORDS]) -> &[u32]
-    ensures { λ r. ⌜ (now r ≡ numbersOf (now (book .entry))) × (length (now r) ≡ signals) ⌝ }
+    ensures { λ r. ⌜ (now r ≡ numbersOf (now (book .entry))) × (length (now r) ≡ signalLimit) ⌝ }
 {
     let words: &[u32] = book;
     &words[NUMBERS..NUMBERS_END]
@@ -100,7 +100,7 @@ pub fn numbers(book: &[u32; BOOK_WORDS]) -> &[u32]
 
 // The signals' starts, in step with their numbers.
 pub fn starts(book: &[u32; BOOK_WORDS]) -> &[u32]
-    ensures { λ r. ⌜ (now r ≡ startsOf (now (book .entry))) × (length (now r) ≡ signals) ⌝ }
+    ensures { λ r. ⌜ (now r ≡ startsOf (now (book .entry))) × (length (now r) ≡ signalLimit) ⌝ }
 {
     let words: &[u32] = book;
     &words[STARTS..STARTS_END]
@@ -108,7 +108,7 @@ pub fn starts(book: &[u32; BOOK_WORDS]) -> &[u32]
 
 // The places that the routes lead from.
 pub fn froms(book: &[u32; BOOK_WORDS]) -> &[u32]
-    ensures { λ r. ⌜ (now r ≡ fromsOf (now (book .entry))) × (length (now r) ≡ routes) ⌝ }
+    ensures { λ r. ⌜ (now r ≡ fromsOf (now (book .entry))) × (length (now r) ≡ routeLimit) ⌝ }
 {
     let words: &[u32] = book;
     &words[FROMS..FROMS_END]
@@ -116,7 +116,7 @@ pub fn froms(book: &[u32; BOOK_WORDS]) -> &[u32]
 
 // The places that the routes lead to, in step with those they lead from.
 pub fn tos(book: &[u32; BOOK_WORDS]) -> &[u32]
-    ensures { λ r. ⌜ (now r ≡ tosOf (now (book .entry))) × (length (now r) ≡ routes) ⌝ }
+    ensures { λ r. ⌜ (now r ≡ tosOf (now (book .entry))) × (length (now r) ≡ routeLimit) ⌝ }
 {
     let words: &[u32] = book;
     &words[TOS..TOS_END]
@@ -131,7 +131,7 @@ pub fn clear(book: &mut [u32; BOOK_WORDS])
 
 // The place that is an identifier on a bus.
 pub fn place(bus: u32, identifier: u32) -> u32
-    requires { ⌜ (bus < buses) × (identifier < identifierLimit) ⌝ }
+    requires { ⌜ (bus < busLimit) × (identifier < identifierLimit) ⌝ }
     ensures { λ r. ⌜ r ≡ placeKey bus identifier ⌝ }
 {
     bus * IDENTIFIER_LIMIT + identifier

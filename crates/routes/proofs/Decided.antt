@@ -5,7 +5,7 @@ use native.Mathlib.Omega.{arith}
 use native.Mathlib.Decide.{ℕ-discrete, decLe}
 use mathlib.Core.List.{List, _++_, List-discrete}
 use lib.ListN.{length, drop, replicate}
-use Rattle.record.specs.Limits.{routes, buses, identifierLimit}
+use Rattle.record.specs.Limits.{routeLimit, busLimit, identifierLimit}
 use Rattle.record.specs.Place.{placeKey}
 use Rattle.record.specs.Columns.{routeCountOf, fromsOf, tosOf}
 use Rattle.verdict.specs.Verdicts.{IsSound, Judged}
@@ -29,11 +29,11 @@ sound-or-not fs ts = go (judged fs ts)
 
 taken-or-not : (w : List ℕ) → Dec (RoutesTaken w)
 taken-or-not w =
-    go (decLe (routeCountOf w) routes) (List-discrete ℕ-discrete (drop (routeCountOf w) (fromsOf w)) (replicate (routes - routeCountOf w) 0))
-    (List-discrete ℕ-discrete (drop (routeCountOf w) (tosOf w)) (replicate (routes - routeCountOf w) 0)) (sound-or-not (startPlaces w) (endPlaces w))
+    go (decLe (routeCountOf w) routeLimit) (List-discrete ℕ-discrete (drop (routeCountOf w) (fromsOf w)) (replicate (routeLimit - routeCountOf w) 0))
+    (List-discrete ℕ-discrete (drop (routeCountOf w) (tosOf w)) (replicate (routeLimit - routeCountOf w) 0)) (sound-or-not (startPlaces w) (endPlaces w))
   where
-    go : Dec (routeCountOf w ≤ routes) → Dec (drop (routeCountOf w) (fromsOf w) ≡ replicate (routes - routeCountOf w) 0)
-        → Dec (drop (routeCountOf w) (tosOf w) ≡ replicate (routes - routeCountOf w) 0) → Dec (IsSound (startPlaces w) (endPlaces w)) → Dec (RoutesTaken w)
+    go : Dec (routeCountOf w ≤ routeLimit) → Dec (drop (routeCountOf w) (fromsOf w) ≡ replicate (routeLimit - routeCountOf w) 0)
+        → Dec (drop (routeCountOf w) (tosOf w) ≡ replicate (routeLimit - routeCountOf w) 0) → Dec (IsSound (startPlaces w) (endPlaces w)) → Dec (RoutesTaken w)
     go (yes a) (yes b) (yes c) (yes d) = yes (record { few = a; no-more-froms = b; no-more-tos = c; sound = d })
     go (no n) b c d = no (λ r. n (r .few))
     go (yes a) (no n) c d = no (λ r. n (r .no-more-froms))
@@ -41,9 +41,9 @@ taken-or-not w =
     go (yes a) (yes b) (yes c) (no n) = no (λ r. n (r .sound))
 
 place-or-not : (bus identifier : ℕ) → Dec (IsPlace bus identifier)
-place-or-not bus identifier = go (decLe buses bus) (decLe identifierLimit identifier)
+place-or-not bus identifier = go (decLe busLimit bus) (decLe identifierLimit identifier)
   where
-    go : Dec (buses ≤ bus) → Dec (identifierLimit ≤ identifier) → Dec (IsPlace bus identifier)
+    go : Dec (busLimit ≤ bus) → Dec (identifierLimit ≤ identifier) → Dec (IsPlace bus identifier)
     go (yes a) b = no (λ p. omega (arith, p .on-bus))
     go (no a) (yes b) = no (λ p. omega (arith, p .identified))
     go (no a) (no b) = yes (record { on-bus = omega arith; identified = omega arith })

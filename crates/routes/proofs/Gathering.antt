@@ -4,7 +4,7 @@ use Prim.Native.Nat.{ℕ, _≤_}
 use native.Mathlib.Omega.{arith}
 use mathlib.Core.List.{List}
 use lib.ListN.{length}
-use Rattle.record.specs.Limits.{routes}
+use Rattle.record.specs.Limits.{routeLimit}
 use Rattle.chains.specs.Spread.{spreadOf}
 use Rattle.chains.proofs.Spreads.{spread-few}
 use Rattle.verdict.specs.Verdicts.{IsSound}
@@ -13,7 +13,7 @@ use Rattle.sending.specs.Writing.{Ready, Written}
 use Rattle.routes.specs.Gathered.{Gathered}
 use Rattle.routes.proofs.Front.{front}
 
-module _ (w fs ts : List ℕ) (taken : RoutesTaken w) (starts : fs ≡ startPlaces w) (ends : ts ≡ endPlaces w) (pairs : length fs ≡ length ts) (many : length fs ≤ routes) (p : ℕ) (room : List ℕ) (entries : length room ≡ routes) where
+module _ (w fs ts : List ℕ) (taken : RoutesTaken w) (starts : fs ≡ startPlaces w) (ends : ts ≡ endPlaces w) (pairs : length fs ≡ length ts) (many : length fs ≤ routeLimit) (p : ℕ) (room : List ℕ) (entries : length room ≡ routeLimit) where
   sound : IsSound fs ts
   sound = subst (λ (l : List ℕ). IsSound fs l) (sym ends) (subst (λ (l : List ℕ). IsSound l (endPlaces w)) (sym starts) (taken .sound))
 

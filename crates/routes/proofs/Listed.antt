@@ -7,7 +7,8 @@ use mathlib.Core.List.{List, _++_}
 use lib.ListN.{length, getD, take, drop, length-drop}
 use lib.Seq.{length-take-le, take-append-seam}
 use Rattle.record.specs.Place.{placeKey}
-use Rattle.record.specs.Columns.{routeCountOf, bookWords}
+use Rattle.record.specs.Limits.{routeLimit}
+use Rattle.record.specs.Columns.{fromsAt, tosAt, routeCountOf, bookWords}
 use Rattle.chains.proofs.Spreads.{chain-spread, spread-chain, spread-once, spread-few, no-routes}
 use Rattle.routes.specs.Answers.{startPlaces, endPlaces, RoutesTaken, spreadBy, Answer}
 use Rattle.routes.specs.Listed.{Lists}
@@ -17,10 +18,10 @@ module _ (w : List ℕ) (words : length w ≡ bookWords) (bus identifier : ℕ) 
   taken : RoutesTaken w
   taken = answer .0
 
-  long : (from : ℕ) → from ≤ 707 → length (take (routeCountOf w) (take 64 (drop from w))) ≡ routeCountOf w
+  long : (from : ℕ) → from ≤ tosAt → length (take (routeCountOf w) (take routeLimit (drop from w))) ≡ routeCountOf w
   long from l =
-      length-take-le (routeCountOf w) (take 64 (drop from w))
-      (let e = length-take-le 64 (drop from w) (omega (arith, length-drop from w)) in omega (arith, e, taken .few))
+      length-take-le (routeCountOf w) (take routeLimit (drop from w))
+      (let e = length-take-le routeLimit (drop from w) (omega (arith, length-drop from w)) in omega (arith, e, taken .few))
 
   front : take n after ≡ spreadBy w (placeKey bus identifier)
   front =
@@ -36,7 +37,7 @@ module _ (w : List ℕ) (words : length w ≡ bookWords) (bus identifier : ℕ) 
         every = λ q c k. chain-spread (startPlaces w) (endPlaces w) (sound .loop-free) (placeKey bus identifier) q c k;
         only = spread-chain (startPlaces w) (endPlaces w) (placeKey bus identifier);
         once = spread-once (startPlaces w) (endPlaces w) (sound .loop-free) (sound .single) (placeKey bus identifier);
-        few = spread-few (startPlaces w) (endPlaces w) (sound .loop-free) (sound .single) (long 643 (omega arith) ∙ sym (long 707 (omega arith))) (placeKey bus identifier);
+        few = spread-few (startPlaces w) (endPlaces w) (sound .loop-free) (sound .single) (long fromsAt (omega arith) ∙ sym (long tosAt (omega arith))) (placeKey bus identifier);
       })
 
   -- a place without routes has an empty spread

@@ -4,7 +4,7 @@ use mathlib.Core.Bool.{Bool, true, false}
 use Prim.Native.Nat.{ℕ, _-_, _≤_}
 use mathlib.Core.List.{List}
 use lib.ListN.{length, take, drop, replicate, length-drop}
-use Rattle.record.specs.Limits.{routes}
+use Rattle.record.specs.Limits.{routeLimit}
 use Rattle.record.specs.Columns.{routeCountOf, fromsOf, tosOf}
 use Rattle.zeros.specs.Zeros.{zeros}
 use Rattle.zeros.proofs.Laws.{zeros-are, are-zeros}
@@ -23,17 +23,17 @@ told-no false t e = t
 
 -- one column, of which n entries count
 module _ (column wanted : List ℕ) (n count : ℕ) (same : column ≡ wanted) (counted : n ≡ count) where
-  past : length column ≡ routes → zeros (drop n column) ≡ true → drop count wanted ≡ replicate (routes - count) 0
+  past : length column ≡ routeLimit → zeros (drop n column) ≡ true → drop count wanted ≡ replicate (routeLimit - count) 0
   past l z =
-      subst (λ (m : ℕ). drop m wanted ≡ replicate (routes - m) 0) counted
-      (subst (λ (c : List ℕ). drop n c ≡ replicate (routes - n) 0) same
+      subst (λ (m : ℕ). drop m wanted ≡ replicate (routeLimit - m) 0) counted
+      (subst (λ (c : List ℕ). drop n c ≡ replicate (routeLimit - n) 0) same
       (zeros-are (drop n column) z ∙ ap (λ (k : ℕ). replicate k 0) (length-drop n column ∙ ap (λ (k : ℕ). k - n) l)))
 
-  past-back : drop count wanted ≡ replicate (routes - count) 0 → zeros (drop n column) ≡ true
+  past-back : drop count wanted ≡ replicate (routeLimit - count) 0 → zeros (drop n column) ≡ true
   past-back e =
       ap zeros
-      (subst (λ (c : List ℕ). drop n c ≡ replicate (routes - count) 0) (sym same) (subst (λ (m : ℕ). drop m wanted ≡ replicate (routes - count) 0) (sym counted) e))
-      ∙ are-zeros (routes - count)
+      (subst (λ (c : List ℕ). drop n c ≡ replicate (routeLimit - count) 0) (sym same) (subst (λ (m : ℕ). drop m wanted ≡ replicate (routeLimit - count) 0) (sym counted) e))
+      ∙ are-zeros (routeLimit - count)
 
   pub part : take n column ≡ take count wanted
   part = ap (λ (c : List ℕ). take n c) same ∙ ap (λ (m : ℕ). take m wanted) counted
@@ -46,10 +46,10 @@ module _ (w f t : List ℕ) (n : ℕ) (counted : n ≡ routeCountOf w) (froms : 
   tos-past r = past-back t (tosOf w) n (routeCountOf w) tos counted (r .no-more-tos)
 
   -- with nothing past the count, the tables are taken just where they are sound
-  pub tells : n ≤ routes → length f ≡ routes → length t ≡ routes → zeros (drop n f) ≡ true → zeros (drop n t) ≡ true → (r : Bool)
+  pub tells : n ≤ routeLimit → length f ≡ routeLimit → length t ≡ routeLimit → zeros (drop n f) ≡ true → zeros (drop n t) ≡ true → (r : Bool)
       → Tells (IsSound (take n f) (take n t)) r → Tells (RoutesTaken w) r
   tells few lf lt zf zt true s = record {
-    few = subst (λ (m : ℕ). m ≤ routes) counted few;
+    few = subst (λ (m : ℕ). m ≤ routeLimit) counted few;
     no-more-froms = past f (fromsOf w) n (routeCountOf w) froms counted lf zf;
     no-more-tos = past t (tosOf w) n (routeCountOf w) tos counted lt zt;
     sound = subst (λ (ts : List ℕ). IsSound (take (routeCountOf w) (fromsOf w)) ts) (part t (tosOf w) n (routeCountOf w) tos counted)

@@ -3,7 +3,7 @@ use mathlib.Core.Path.{_≡_}
 use Prim.Native.Nat.{ℕ, _-_, _<_, _≤_}
 use mathlib.Core.List.{List, _++_}
 use lib.ListN.{length, take, drop, replicate}
-use Rattle.record.specs.Limits.{routes, buses, identifierLimit}
+use Rattle.record.specs.Limits.{routeLimit, busLimit, identifierLimit}
 use Rattle.record.specs.Place.{placeKey}
 use Rattle.record.specs.Columns.{routeCountOf, fromsOf, tosOf}
 use Rattle.verdict.specs.Verdicts.{IsSound}
@@ -20,14 +20,14 @@ endPlaces w = take (routeCountOf w) (tosOf w)
 
 -- the route tables are those of a taken book: no more routes than a book has, 0 past them, no closed chain, no doubling
 pub record RoutesTaken (w : List ℕ) : Type 0 where
-  pub few : routeCountOf w ≤ routes
-  pub no-more-froms : drop (routeCountOf w) (fromsOf w) ≡ replicate (routes - routeCountOf w) 0
-  pub no-more-tos : drop (routeCountOf w) (tosOf w) ≡ replicate (routes - routeCountOf w) 0
+  pub few : routeCountOf w ≤ routeLimit
+  pub no-more-froms : drop (routeCountOf w) (fromsOf w) ≡ replicate (routeLimit - routeCountOf w) 0
+  pub no-more-tos : drop (routeCountOf w) (tosOf w) ≡ replicate (routeLimit - routeCountOf w) 0
   pub sound : IsSound (startPlaces w) (endPlaces w)
 
 -- a bus and an identifier within their limits make a place
 pub record IsPlace (bus identifier : ℕ) : Type 0 where
-  pub on-bus : bus < buses
+  pub on-bus : bus < busLimit
   pub identified : identifier < identifierLimit
 
 -- the spread of a place by the routes of the words

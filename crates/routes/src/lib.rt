@@ -5,9 +5,8 @@ ghost use mathlib.Core.Path.{_≡_};
 ghost use mathlib.Core.List.{_++_};
 ghost use Prim.Native.Nat.{_≤_};
 ghost use lib.ListN.{length, take, drop};
-ghost use Rattle.record.specs.Limits.{routes};
+ghost use Rattle.record.specs.Limits.{routeLimit};
 ghost use Rattle.record.specs.Columns.{routeCountOf};
-ghost use Rattle.zeros.specs.Zeros.{zeros};
 ghost use Rattle.verdict.specs.Verdicts.{Tells};
 ghost use Rattle.routes.specs.Answers.{RoutesTaken, spreadBy, Answer};
 ghost use Rattle.routes.specs.Gathered.{Gathered};
@@ -15,6 +14,7 @@ use record::BOOK_WORDS;
 use record::BUSES;
 use record::IDENTIFIER_LIMIT;
 use record::ROUTES;
+use zeros::zero_past;
 
 // What came of a call for a spread.
 pub enum Sent {
@@ -61,16 +61,8 @@ fn first(column: &[u32], n: usize) -> &[u32]
     &column[..n]
 }
 
-// Whether a column has nothing but 0 past its first n entries.
-fn no_more(column: &[u32], n: usize) -> bool
-    requires { ⌜ n ≤ length (now column) ⌝ }
-    ensures { λ r. ⌜ r ≡ zeros (drop n (now (column .entry))) ⌝ }
-{
-    zeros::all_zero(&column[n..])
-}
-
 // Whether the route columns are those of a taken book.
-pub fn routes_taken(book: &[u32; BOOK_WORDS]) -> bool
+fn routes_taken(book: &[u32; BOOK_WORDS]) -> bool
     ensures { λ r. ⌜ Tells (RoutesTaken (now (book .entry))) r ⌝ }
 {
     let n = count(book);
@@ -79,10 +71,10 @@ pub fn routes_taken(book: &[u32; BOOK_WORDS]) -> bool
     }
     let froms = record::froms(book);
     let tos = record::tos(book);
-    if !no_more(froms, n) {
+    if !zero_past(froms, n) {
         return false;
     }
-    if !no_more(tos, n) {
+    if !zero_past(tos, n) {
         return false;
     }
     verdict::sound(first(froms, n), first(tos, n))
@@ -90,7 +82,7 @@ pub fn routes_taken(book: &[u32; BOOK_WORDS]) -> bool
 
 // Writes the spread of `place` by the routes of the book to the front of `places`.
 fn gather(book: &[u32; BOOK_WORDS], place: u32, places: &mut [u32]) -> usize
-    requires { ⌜ RoutesTaken (now book) × (length (now places) ≡ routes) ⌝ }
+    requires { ⌜ RoutesTaken (now book) × (length (now places) ≡ routeLimit) ⌝ }
     ensures { λ r. ⌜ Gathered (spreadBy (now (book .entry)) place) (now (places .exit)) r ⌝ }
 {
     let n = count(book);

@@ -1,19 +1,20 @@
 -- The rule, from a test that is computed over a whole table, and a lemma that turns it into the rule at each row.
 -- Assumes nothing.
+use mathlib.Core.Path.{_≡_}
 use mathlib.Core.Logic.{_⊎_, inl, inr}
 use mathlib.Core.Bool.{Bool, true, false, _&&_, _||_}
 use mathlib.Core.List.{List, [], _∷_}
 use Prim.Native.Nat.{ℕ, zero, suc, _+_, _*_, _^_, _≤_, _<_}
 use native.Mathlib.Nat.{le-of-suc-le-suc, not-suc-le-zero, lt-trans}
 use native.Mathlib.Omega.{arith}
-use lib.Dec.{T, leb, ltb, leb→le, ltb→lt}
+use lib.Dec.{T, eqb, leb, ltb, eqb→eq, leb→le, ltb→lt}
 use lib.Ieee.Fits.{and-l, and-r}
 use lib.IntN.{natAbs}
 use lib.ListN.{length, getD}
 use Rattle.rows.specs.declared.Mark.{Mark}
 use Rattle.rows.specs.declared.Row.{Row}
-use Rattle.rows.specs.Rows.{blank}
-use Rattle.rows.specs.Rule.{Rule, Apart, Kept, mostBits, exactDoubles}
+use Rattle.rows.specs.Rows.{blank, unmarkedKind, invalidKind, absentKind, errorKind, reservedKind}
+use Rattle.rows.specs.Rule.{Rule, Apart, IsKind, Kinded, a-mark, no-mark, Kept, mostBits, exactDoubles}
 
 -- ---- tests of one row
 
@@ -40,13 +41,50 @@ apart→ m m' t n p q p' q' = go (or (ltb (m .last) (m .first)) _ t)
     go (inl x) = let y = ltb→lt (m .last) (m .first) x in omega arith
     go (inr x) = go2 (or (ltb (m' .last) (m' .first)) (ltb (m .last) (m' .first) || ltb (m' .last) (m .first)) x)
 
+-- one of the four kinds
+abbrev isKind : ℕ → Bool
+isKind k = eqb k invalidKind || (eqb k absentKind || (eqb k errorKind || eqb k reservedKind))
+
+isKind→ : (k : ℕ) → T (isKind k) → IsKind k
+isKind→ k t = go (or (eqb k invalidKind) (eqb k absentKind || (eqb k errorKind || eqb k reservedKind)) t)
+  where
+    go3 : T (eqb k errorKind) ⊎ T (eqb k reservedKind) → (k ≡ errorKind) ⊎ (k ≡ reservedKind)
+    go3 (inl x) = inl (eqb→eq k errorKind x)
+    go3 (inr x) = inr (eqb→eq k reservedKind x)
+
+    go2 : T (eqb k absentKind) ⊎ T (eqb k errorKind || eqb k reservedKind) → (k ≡ absentKind) ⊎ ((k ≡ errorKind) ⊎ (k ≡ reservedKind))
+    go2 (inl x) = inl (eqb→eq k absentKind x)
+    go2 (inr x) = inr (go3 (or (eqb k errorKind) (eqb k reservedKind) x))
+
+    go : T (eqb k invalidKind) ⊎ T (eqb k absentKind || (eqb k errorKind || eqb k reservedKind)) → IsKind k
+    go (inl x) = inl (eqb→eq k invalidKind x)
+    go (inr x) = inr (go2 (or (eqb k absentKind) (eqb k errorKind || eqb k reservedKind) x))
+
+-- a mark, or none
+abbrev kinded : Mark → Bool
+kinded m = (isKind (m .kind) && leb (m .first) (m .last)) || (eqb (m .kind) unmarkedKind && ltb (m .last) (m .first))
+
+kinded→ : (m : Mark) → T (kinded m) → Kinded m
+kinded→ m t = go (or (isKind (m .kind) && leb (m .first) (m .last)) (eqb (m .kind) unmarkedKind && ltb (m .last) (m .first)) t)
+  where
+    go : T (isKind (m .kind) && leb (m .first) (m .last)) ⊎ T (eqb (m .kind) unmarkedKind && ltb (m .last) (m .first)) → Kinded m
+    go (inl x) =
+        let a = and-l (isKind (m .kind)) (leb (m .first) (m .last)) x in
+        let b = and-r (isKind (m .kind)) (leb (m .first) (m .last)) x in
+        a-mark (isKind→ (m .kind) a) (leb→le (m .first) (m .last) b)
+    go (inr x) =
+        let a = and-l (eqb (m .kind) unmarkedKind) (ltb (m .last) (m .first)) x in
+        let b = and-r (eqb (m .kind) unmarkedKind) (ltb (m .last) (m .first)) x in
+        no-mark (eqb→eq (m .kind) unmarkedKind a) (ltb→lt (m .last) (m .first) b)
+
 -- a test for each field of the rule, in its order
 abbrev right : Row → Bool
 right r =
     leb 1 (r .bits) && (leb (r .bits) mostBits && (leb 1 (r .resolution) && (leb (r .lowest) (r .highest) && (ltb (r .highest) (2 ^ r .bits)
     && (ltb (r .mark1 .last) (2 ^ r .bits) && (ltb (r .mark2 .last) (2 ^ r .bits) && (ltb (r .mark3 .last) (2 ^ r .bits)
     && (apart (r .mark1) (r .mark2) && (apart (r .mark1) (r .mark3) && (apart (r .mark2) (r .mark3)
-    && (leb (2 ^ r .bits * r .resolution + natAbs (r .offset)) exactDoubles)))))))))))
+    && (kinded (r .mark1) && (kinded (r .mark2) && (kinded (r .mark3)
+    && (leb (2 ^ r .bits * r .resolution + natAbs (r .offset)) exactDoubles))))))))))))))
 
 right→ : (r : Row) → T (right r) → Rule r
 right→ r t0 =
@@ -61,6 +99,9 @@ right→ r t0 =
     let t9 = and-r (apart (r .mark1) (r .mark2)) _ t8 in
     let t10 = and-r (apart (r .mark1) (r .mark3)) _ t9 in
     let t11 = and-r (apart (r .mark2) (r .mark3)) _ t10 in
+    let t12 = and-r (kinded (r .mark1)) _ t11 in
+    let t13 = and-r (kinded (r .mark2)) _ t12 in
+    let t14 = and-r (kinded (r .mark3)) _ t13 in
     record {
       some-bits = leb→le 1 (r .bits) (and-l (leb 1 (r .bits)) _ t0);
       few-bits = leb→le (r .bits) mostBits (and-l (leb (r .bits) mostBits) _ t1);
@@ -73,7 +114,10 @@ right→ r t0 =
       apart12 = apart→ (r .mark1) (r .mark2) (and-l (apart (r .mark1) (r .mark2)) _ t8);
       apart13 = apart→ (r .mark1) (r .mark3) (and-l (apart (r .mark1) (r .mark3)) _ t9);
       apart23 = apart→ (r .mark2) (r .mark3) (and-l (apart (r .mark2) (r .mark3)) _ t10);
-      small = leb→le (2 ^ r .bits * r .resolution + natAbs (r .offset)) exactDoubles t11;
+      mark1-kind = kinded→ (r .mark1) (and-l (kinded (r .mark1)) _ t11);
+      mark2-kind = kinded→ (r .mark2) (and-l (kinded (r .mark2)) _ t12);
+      mark3-kind = kinded→ (r .mark3) (and-l (kinded (r .mark3)) _ t13);
+      small = leb→le (2 ^ r .bits * r .resolution + natAbs (r .offset)) exactDoubles t14;
     }
 
 -- ---- over the table: each row is right, and has a number above m, and so on from its own number

@@ -16,6 +16,9 @@ abbrev pub minus : ℕ → ℤ
 minus n = negℤ (pos n)
 
 -- the kinds of marks, by their codes in the table
+abbrev pub unmarkedKind : ℕ
+unmarkedKind = 0
+
 abbrev pub invalidKind : ℕ
 invalidKind = 1
 
@@ -45,7 +48,7 @@ reserved first last = mark reservedKind first last
 
 -- no mark: an interval with no code in it
 abbrev pub unmarked : Mark
-unmarked = mark 0 1 0
+unmarked = mark unmarkedKind 1 0
 
 abbrev pub row : ℕ → ℕ → ℕ → ℤ → ℕ → ℕ → Mark → Mark → Mark → Row
 row number bits resolution offset lowest highest mark1 mark2 mark3 =

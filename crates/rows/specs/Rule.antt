@@ -1,13 +1,15 @@
 -- The rule that the whole catalogue keeps: numbers rise, bits are 1 to 32, lowest <= highest < 2^bits, mark intervals lie
--- within the bits and do not meet each other. Beside that, a resolution is no zero, and every reading is so small that a
--- double holds it exactly. Assumes nothing.
+-- within the bits and do not meet each other. Beside that, each mark is of one of the four kinds, a resolution is no zero, and
+-- every reading is so small that a double holds it exactly. Assumes nothing.
+use mathlib.Core.Path.{_≡_}
+use mathlib.Core.Logic.{_⊎_}
 use mathlib.Core.List.{List}
 use Prim.Native.Nat.{ℕ, _+_, _*_, _^_, _≤_, _<_}
 use lib.ListN.{getD, length}
 use lib.IntN.{natAbs}
 use Rattle.rows.specs.declared.Mark.{Mark}
 use Rattle.rows.specs.declared.Row.{Row}
-use Rattle.rows.specs.Rows.{blank}
+use Rattle.rows.specs.Rows.{blank, unmarkedKind, invalidKind, absentKind, errorKind, reservedKind}
 
 abbrev pub mostBits : ℕ
 mostBits = 32
@@ -19,6 +21,15 @@ exactDoubles = 2 ^ 53
 -- no code belongs to both marks
 abbrev pub Apart : Mark → Mark → Type 0
 Apart m m' = (n : ℕ) → m .first ≤ n → n ≤ m .last → m' .first ≤ n → n ≤ m' .last → ⊥
+
+-- invalid, absent, error, reserved
+abbrev pub IsKind : ℕ → Type 0
+IsKind k = (k ≡ invalidKind) ⊎ ((k ≡ absentKind) ⊎ ((k ≡ errorKind) ⊎ (k ≡ reservedKind)))
+
+-- a mark is of one of the four kinds and has a code; where there is no mark, there is no code
+pub data Kinded (m : Mark) : Type 0 where
+  a-mark : IsKind (m .kind) → m .first ≤ m .last → Kinded m
+  no-mark : m .kind ≡ unmarkedKind → m .last < m .first → Kinded m
 
 pub record Rule (r : Row) : Type 0 where
   pub some-bits : 1 ≤ r .bits
@@ -32,6 +43,9 @@ pub record Rule (r : Row) : Type 0 where
   pub apart12 : Apart (r .mark1) (r .mark2)
   pub apart13 : Apart (r .mark1) (r .mark3)
   pub apart23 : Apart (r .mark2) (r .mark3)
+  pub mark1-kind : Kinded (r .mark1)
+  pub mark2-kind : Kinded (r .mark2)
+  pub mark3-kind : Kinded (r .mark3)
   pub small : 2 ^ r .bits * r .resolution + natAbs (r .offset) ≤ exactDoubles
 
 pub record Kept (rs : List Row) : Type 0 where

@@ -6,7 +6,9 @@ use native.Mathlib.Nat.{zero-add, suc-add}
 use native.Mathlib.Omega.{arith}
 use lib.ListN.{length, set, replicate, length-append}
 use lib.Seq.{set-append-left, set-append-seam, append-snoc}
+use Rattle.record.specs.Columns.{messageCountAt, signalCountAt, routeCountAt, idsAt, endsAt, numbersAt, startsAt, fromsAt, tosAt}
 use Rattle.books.specs.Book.{Route, Book, allPlacements}
+use Rattle.books.specs.Lines.{messageLimit, signalLimit, routeLimit}
 use Rattle.books.specs.Words.{column, idColumn, endColumn, numberColumn, startColumn, messageColumns, routeColumns, wordsOf}
 
 -- ---- a column with one entry more
@@ -42,10 +44,10 @@ pub flat : ℕ → ℕ → ℕ → List ℕ → List ℕ → List ℕ → List �
 flat m s r a b c d e f = m ∷ s ∷ r ∷ (a ++ (b ++ (c ++ (d ++ (e ++ f)))))
 
 abbrev pub fromColumn : List Route → List ℕ
-fromColumn rs = column 64 (map (λ (r : Route). r .from) rs)
+fromColumn rs = column routeLimit (map (λ (r : Route). r .from) rs)
 
 abbrev pub toColumn : List Route → List ℕ
-toColumn rs = column 64 (map (λ (r : Route). r .to) rs)
+toColumn rs = column routeLimit (map (λ (r : Route). r .to) rs)
 
 pub words-flat : (b : Book) → wordsOf b ≡ flat (length (b .messages)) (length (allPlacements (b .messages))) (length (b .routes))
     (idColumn (b .messages)) (endColumn (b .messages)) (numberColumn (b .messages)) (startColumn (b .messages)) (fromColumn (b .routes)) (toColumn (b .routes))
@@ -53,54 +55,54 @@ unfolding wordsOf messageColumns routeColumns flat
 words-flat b = simp append-assoc
 
 module _ (m s r : ℕ) (a b c d e f : List ℕ) where
-  pub set-messages : (v : ℕ) → set (flat m s r a b c d e f) 0 v ≡ flat v s r a b c d e f
+  pub set-messages : (v : ℕ) → set (flat m s r a b c d e f) messageCountAt v ≡ flat v s r a b c d e f
   unfolding flat
   set-messages v = refl
 
-  pub set-signals : (v : ℕ) → set (flat m s r a b c d e f) 1 v ≡ flat m v r a b c d e f
+  pub set-signals : (v : ℕ) → set (flat m s r a b c d e f) signalCountAt v ≡ flat m v r a b c d e f
   unfolding flat
   set-signals v = refl
 
-  pub set-routes : (v : ℕ) → set (flat m s r a b c d e f) 2 v ≡ flat m s v a b c d e f
+  pub set-routes : (v : ℕ) → set (flat m s r a b c d e f) routeCountAt v ≡ flat m s v a b c d e f
   unfolding flat
   set-routes v = refl
 
   module _ (i v : ℕ) where
-    pub set-ids : i < length a → set (flat m s r a b c d e f) (3 + i) v ≡ flat m s r (set a i v) b c d e f
+    pub set-ids : i < length a → set (flat m s r a b c d e f) (idsAt + i) v ≡ flat m s r (set a i v) b c d e f
     unfolding flat
-    set-ids h = set-part (m ∷ s ∷ r ∷ []) a (b ++ (c ++ (d ++ (e ++ f)))) 3 i v refl h
+    set-ids h = set-part (m ∷ s ∷ r ∷ []) a (b ++ (c ++ (d ++ (e ++ f)))) idsAt i v refl h
 
-    module _ (la : length a ≡ 64) where
-      pub set-ends : i < length b → set (flat m s r a b c d e f) (67 + i) v ≡ flat m s r a (set b i v) c d e f
+    module _ (la : length a ≡ messageLimit) where
+      pub set-ends : i < length b → set (flat m s r a b c d e f) (endsAt + i) v ≡ flat m s r a (set b i v) c d e f
       unfolding flat
-      set-ends h = set-part (m ∷ s ∷ r ∷ a) b (c ++ (d ++ (e ++ f))) 67 i v (ap (λ (n : ℕ). suc (suc (suc n))) la) h
+      set-ends h = set-part (m ∷ s ∷ r ∷ a) b (c ++ (d ++ (e ++ f))) endsAt i v (ap (λ (n : ℕ). suc (suc (suc n))) la) h
 
-      module _ (lb : length b ≡ 64) where
-        pub set-numbers : i < length c → set (flat m s r a b c d e f) (131 + i) v ≡ flat m s r a b (set c i v) d e f
+      module _ (lb : length b ≡ messageLimit) where
+        pub set-numbers : i < length c → set (flat m s r a b c d e f) (numbersAt + i) v ≡ flat m s r a b (set c i v) d e f
         unfolding flat
         set-numbers h =
             simp append-assoc at
-            (set-part (m ∷ s ∷ r ∷ (a ++ b)) c (d ++ (e ++ f)) 131 i v
+            (set-part (m ∷ s ∷ r ∷ (a ++ b)) c (d ++ (e ++ f)) numbersAt i v
             (ap (λ (n : ℕ). suc (suc (suc n))) (length-append a b ∙ (cc))) h)
 
-        module _ (lc : length c ≡ 256) where
-          pub set-starts : i < length d → set (flat m s r a b c d e f) (387 + i) v ≡ flat m s r a b c (set d i v) e f
+        module _ (lc : length c ≡ signalLimit) where
+          pub set-starts : i < length d → set (flat m s r a b c d e f) (startsAt + i) v ≡ flat m s r a b c (set d i v) e f
           unfolding flat
           set-starts h =
               simp append-assoc at
-              (set-part (m ∷ s ∷ r ∷ (a ++ (b ++ c))) d (e ++ f) 387 i v (omega (arith, length-append a (b ++ c), length-append b c)) h)
+              (set-part (m ∷ s ∷ r ∷ (a ++ (b ++ c))) d (e ++ f) startsAt i v (omega (arith, length-append a (b ++ c), length-append b c)) h)
 
-          module _ (ld : length d ≡ 256) where
-            pub set-froms : i < length e → set (flat m s r a b c d e f) (643 + i) v ≡ flat m s r a b c d (set e i v) f
+          module _ (ld : length d ≡ signalLimit) where
+            pub set-froms : i < length e → set (flat m s r a b c d e f) (fromsAt + i) v ≡ flat m s r a b c d (set e i v) f
             unfolding flat
             set-froms h =
                 simp append-assoc at
-                (set-part (m ∷ s ∷ r ∷ (a ++ (b ++ (c ++ d)))) e f 643 i v
+                (set-part (m ∷ s ∷ r ∷ (a ++ (b ++ (c ++ d)))) e f fromsAt i v
                 (omega (arith, length-append a (b ++ (c ++ d)), length-append b (c ++ d), length-append c d)) h)
 
-            pub set-tos : length e ≡ 64 → set (flat m s r a b c d e f) (707 + i) v ≡ flat m s r a b c d e (set f i v)
+            pub set-tos : length e ≡ routeLimit → set (flat m s r a b c d e f) (tosAt + i) v ≡ flat m s r a b c d e (set f i v)
             unfolding flat
             set-tos le =
                 simp append-assoc at
-                (set-past-at (m ∷ s ∷ r ∷ (a ++ (b ++ (c ++ (d ++ e))))) f 707 i v
+                (set-past-at (m ∷ s ∷ r ∷ (a ++ (b ++ (c ++ (d ++ e))))) f tosAt i v
                 (omega (arith, length-append a (b ++ (c ++ (d ++ e))), length-append b (c ++ (d ++ e)), length-append c (d ++ e), length-append d e)))

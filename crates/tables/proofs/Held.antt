@@ -8,10 +8,11 @@ use lib.ListN.{length, take, drop, getD, replicate, length-append, length-map}
 use lib.Seq.{take-at, drop-at, getD-at}
 use borrow.Author.Tests.{le-ltb}
 use Rattle.books.specs.Book.{Placement, Message, Book, identifiers, numbers, allPlacements, lastPlacements}
+use Rattle.books.specs.Lines.{messageLimit, signalLimit}
 use Rattle.books.specs.Words.{column, starts, endsAfter, endColumn, numberColumn, startColumn, messageColumns, routeColumns, wordsOf, placed, Stands}
 use Rattle.books.proofs.Ends.{map-append, last-placements, last}
 use Rattle.books.proofs.Columns.{take-column, length-ends, columns-long, ids-stand, ends-stand, numbers-stand, starts-stand}
-use Rattle.record.specs.Columns.{messageCountOf, signalCountOf, routeCountOf, idsOf, endsOf, numbersOf, startsOf}
+use Rattle.record.specs.Columns.{messageWords, messageCountOf, signalCountOf, routeCountOf, idsOf, endsOf, numbersOf, startsOf}
 use Rattle.tables.specs.Adding.{Holds, lastBegin}
 use Rattle.tables.proofs.Longer.{all-last, ends-last}
 
@@ -51,8 +52,8 @@ begin-next front k m =
     in
     let two : 2 ≤ all = omega (arith, length-append before (m ∷ []), length-append front (k ∷ [])) in
     let at : length (endsAfter 0 front) ≡ all - 2 = omega (arith, length-append before (m ∷ []), length-append front (k ∷ []), length-ends 0 front) in
-    begin-second all (endColumn (before ++ (m ∷ []))) two ∙ ap (λ (l : List ℕ). getD (column 64 l) (all - 2) 0) e ∙
-    column-at 64 (endsAfter 0 front) t u (all - 2) at ∙ zero-add (length (allPlacements before))
+    begin-second all (endColumn (before ++ (m ∷ []))) two ∙ ap (λ (l : List ℕ). getD (column messageLimit l) (all - 2) 0) e ∙
+    column-at messageLimit (endsAfter 0 front) t u (all - 2) at ∙ zero-add (length (allPlacements before))
 
 begin-last : (before : List Message) (m : Message) → lastBegin (length (before ++ (m ∷ []))) (endColumn (before ++ (m ∷ []))) ≡ length (allPlacements before)
 unfolding lastBegin allPlacements
@@ -73,9 +74,9 @@ part-last before m =
     let b = begin-last before m in
     let all = all-last before m in
     let l = last-placements before m in
-    let part : (f : Placement → ℕ) → take (length (allPlacements ms) - lastBegin (length ms) (endColumn ms)) (drop (lastBegin (length ms) (endColumn ms)) (column 256 (map f (allPlacements ms)))) ≡ map f (lastPlacements ms) =
-    λ f. rw l (ap (λ (ps : List Placement). take (length (allPlacements ms) - lastBegin (length ms) (endColumn ms)) (drop (lastBegin (length ms) (endColumn ms)) (column 256 (map f ps)))) all ∙
-    rest-of-column 256 (lastBegin (length ms) (endColumn ms)) (length (allPlacements ms)) f (allPlacements before) (m .placements) b (ap length all))
+    let part : (f : Placement → ℕ) → take (length (allPlacements ms) - lastBegin (length ms) (endColumn ms)) (drop (lastBegin (length ms) (endColumn ms)) (column signalLimit (map f (allPlacements ms)))) ≡ map f (lastPlacements ms) =
+    λ f. rw l (ap (λ (ps : List Placement). take (length (allPlacements ms) - lastBegin (length ms) (endColumn ms)) (drop (lastBegin (length ms) (endColumn ms)) (column signalLimit (map f ps)))) all ∙
+    rest-of-column signalLimit (lastBegin (length ms) (endColumn ms)) (length (allPlacements ms)) f (allPlacements before) (m .placements) b (ap length all))
     in
     record {
       first = omega (arith, b, ap length all, length-append (allPlacements before) (m .placements));
@@ -95,7 +96,7 @@ module _ (w : List ℕ) (b : Book) (h : Holds w b) where
       (record {
         messages = refl;
         signals = refl;
-        columns = take-at (messageColumns (b .messages)) (routeColumns (b .routes)) 640 (columns-long (b .messages) (h .within .messages) (h .within .signals));
+        columns = take-at (messageColumns (b .messages)) (routeColumns (b .routes)) messageWords (columns-long (b .messages) (h .within .messages) (h .within .signals));
       })
 
   pub messages-held : messageCountOf w ≡ length (b .messages)
@@ -106,12 +107,12 @@ module _ (w : List ℕ) (b : Book) (h : Holds w b) where
 
   pub routes-held : routeCountOf w ≡ length (b .routes)
   unfolding wordsOf
-  routes-held = ap (λ (v : List ℕ). getD v 2 0) (h .words)
+  routes-held = ap routeCountOf (h .words)
 
   pub ids-held : take (messageCountOf w) (idsOf w) ≡ identifiers (b .messages)
   ids-held =
       rw (messages-held, ids-stand w (b .messages) (h .within .messages) (h .within .signals) stands)
-      (take-column 64 (length (b .messages)) (identifiers (b .messages)) (length-map (b .messages) (λ (m : Message). m .identifier)))
+      (take-column messageLimit (length (b .messages)) (identifiers (b .messages)) (length-map (b .messages) (λ (m : Message). m .identifier)))
 
   ends-held : endsOf w ≡ endColumn (b .messages)
   ends-held = ends-stand w (b .messages) (h .within .messages) (h .within .signals) stands

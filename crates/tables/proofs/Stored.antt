@@ -5,7 +5,9 @@ use Prim.Native.Nat.{ℕ, _+_, _-_, _<_}
 use native.Mathlib.Nat.{zero-add}
 use native.Mathlib.Omega.{arith}
 use lib.ListN.{length, set, length-append, length-map, length-set}
+use Rattle.record.specs.Columns.{messageCountAt, signalCountAt, routeCountAt, idsAt, endsAt, numbersAt, startsAt, fromsAt, tosAt}
 use Rattle.books.specs.Book.{Placement, Message, Route, Book, identifiers, numbers, allPlacements, fresh, withPlacement, inLast}
+use Rattle.books.specs.Lines.{messageLimit, signalLimit, routeLimit}
 use Rattle.books.specs.Words.{column, starts, endsAfter, idColumn, endColumn, numberColumn, startColumn, wordsOf}
 use Rattle.books.proofs.Ends.{map-append, in-last, last}
 use Rattle.books.proofs.Columns.{length-column, length-ends, ids-long, ends-long, numbers-long, starts-long}
@@ -25,14 +27,14 @@ length-more l x = length-append l (x ∷ [])
 
 -- ---- a message
 
-module _ (b : Book) (i : ℕ) (h : Within b) (room : length (b .messages) < 64) where
+module _ (b : Book) (i : ℕ) (h : Within b) (room : length (b .messages) < messageLimit) where
   ends-one-more : set (endColumn (b .messages)) (length (b .messages)) (length (allPlacements (b .messages))) ≡ endColumn (b .messages ++ (fresh i ∷ []))
   ends-one-more =
       ap (λ (n : ℕ). set (endColumn (b .messages)) n (length (allPlacements (b .messages)))) (sym (length-ends 0 (b .messages))) ∙
-      column-more 64 (endsAfter 0 (b .messages)) (length (allPlacements (b .messages))) (omega (arith, length-ends 0 (b .messages))) ∙
-      ap (column 64) (sym (ends-more (b .messages) i))
+      column-more messageLimit (endsAfter 0 (b .messages)) (length (allPlacements (b .messages))) (omega (arith, length-ends 0 (b .messages))) ∙
+      ap (column messageLimit) (sym (ends-more (b .messages) i))
 
-  pub message-stored : set (set (set (wordsOf b) (3 + length (b .messages)) i) (67 + length (b .messages)) (length (allPlacements (b .messages)))) 0 (length (b .messages) + 1)
+  pub message-stored : set (set (set (wordsOf b) (idsAt + length (b .messages)) i) (endsAt + length (b .messages)) (length (allPlacements (b .messages)))) messageCountAt (length (b .messages) + 1)
       ≡ wordsOf (withMessage b i)
   message-stored =
       let n = length (b .messages) in
@@ -49,7 +51,7 @@ module _ (b : Book) (i : ℕ) (h : Within b) (room : length (b .messages) < 64) 
       let one = set-ids n s r ids ends numbers′ starts′ froms tos n i (omega arith) in
       let two = set-ends n s r (set ids n i) ends numbers′ starts′ froms tos n s (length-set ids n i ∙ li) (omega arith) in
       let three = set-messages n s r (set ids n i) (set ends n s) numbers′ starts′ froms tos (n + 1) in
-      let c : set ids n i ≡ idColumn (b .messages ++ (fresh i ∷ [])) = column-map 64 (λ (m : Message). m .identifier) (b .messages) (fresh i) room in
+      let c : set ids n i ≡ idColumn (b .messages ++ (fresh i ∷ [])) = column-map messageLimit (λ (m : Message). m .identifier) (b .messages) (fresh i) room in
       let d : set ends n s ≡ endColumn (b .messages ++ (fresh i ∷ [])) = ends-one-more in
       let p : allPlacements (b .messages ++ (fresh i ∷ [])) ≡ allPlacements (b .messages) = placements-stay (b .messages) i in
       let k : length (b .messages ++ (fresh i ∷ [])) ≡ n + 1 = length-more (b .messages) (fresh i) in
@@ -58,7 +60,7 @@ module _ (b : Book) (i : ℕ) (h : Within b) (room : length (b .messages) < 64) 
 -- ---- a signal, in the last message
 
 module _ (before : List Message) (m : Message) (rs : List Route) (p : Placement) (h : Within (record { messages = before ++ (m ∷ []); routes = rs }))
-    (room : length (allPlacements (before ++ (m ∷ []))) < 256) where
+    (room : length (allPlacements (before ++ (m ∷ []))) < signalLimit) where
   all-longer : length (allPlacements (before ++ (withPlacement m p ∷ []))) ≡ length (allPlacements (before ++ (m ∷ []))) + 1
   all-longer = ap length (placements-more before m p) ∙ length-more (allPlacements (before ++ (m ∷ []))) p
 
@@ -66,17 +68,17 @@ module _ (before : List Message) (m : Message) (rs : List Route) (p : Placement)
   ends-last-more =
       let s = length (allPlacements (before ++ (m ∷ []))) in
       let at : length (before ++ (m ∷ [])) - 1 ≡ length (endsAfter 0 before) = omega (arith, length-more before m, length-ends 0 before) in
-      ap (λ (l : List ℕ). set (column 64 l) (length (before ++ (m ∷ [])) - 1) (s + 1)) (ends-last 0 before m) ∙
-      ap (λ (n : ℕ). set (column 64 (endsAfter 0 before ++ ((0 + s) ∷ []))) n (s + 1)) at ∙
-      column-last 64 (endsAfter 0 before) (0 + s) (s + 1) ∙
-      ap (λ (n : ℕ). column 64 (endsAfter 0 before ++ (n ∷ []))) (sym (zero-add (length (allPlacements (before ++ (withPlacement m p ∷ [])))) ∙ all-longer)) ∙
-      ap (column 64) (sym (ends-last 0 before (withPlacement m p)))
+      ap (λ (l : List ℕ). set (column messageLimit l) (length (before ++ (m ∷ [])) - 1) (s + 1)) (ends-last 0 before m) ∙
+      ap (λ (n : ℕ). set (column messageLimit (endsAfter 0 before ++ ((0 + s) ∷ []))) n (s + 1)) at ∙
+      column-last messageLimit (endsAfter 0 before) (0 + s) (s + 1) ∙
+      ap (λ (n : ℕ). column messageLimit (endsAfter 0 before ++ (n ∷ []))) (sym (zero-add (length (allPlacements (before ++ (withPlacement m p ∷ [])))) ∙ all-longer)) ∙
+      ap (column messageLimit) (sym (ends-last 0 before (withPlacement m p)))
 
   lines-stored : set (set (set (set (wordsOf (record { messages = before ++ (m ∷ []); routes = rs }))
-      (131 + length (allPlacements (before ++ (m ∷ [])))) (p .number))
-      (387 + length (allPlacements (before ++ (m ∷ [])))) (p .start))
-      (67 + (length (before ++ (m ∷ [])) - 1)) (length (allPlacements (before ++ (m ∷ []))) + 1))
-      1 (length (allPlacements (before ++ (m ∷ []))) + 1)
+      (numbersAt + length (allPlacements (before ++ (m ∷ [])))) (p .number))
+      (startsAt + length (allPlacements (before ++ (m ∷ [])))) (p .start))
+      (endsAt + (length (before ++ (m ∷ [])) - 1)) (length (allPlacements (before ++ (m ∷ []))) + 1))
+      signalCountAt (length (allPlacements (before ++ (m ∷ []))) + 1)
       ≡ wordsOf (record { messages = before ++ (withPlacement m p ∷ []); routes = rs })
   lines-stored =
       let ms = before ++ (m ∷ []) in
@@ -100,8 +102,8 @@ module _ (before : List Message) (m : Message) (rs : List Route) (p : Placement)
       let two = set-starts n s r ids ends nums′ sts froms tos s (p .start) li le (length-set nums s (p .number) ∙ ln) (omega arith) in
       let three = set-ends n s r ids ends nums′ sts′ froms tos (n - 1) (s + 1) li (omega (arith, length-more before m)) in
       let four = set-signals n s r ids (set ends (n - 1) (s + 1)) nums′ sts′ froms tos (s + 1) in
-      let c : nums′ ≡ column 256 (numbers (allPlacements ms ++ (p ∷ []))) = column-map 256 (λ (q : Placement). q .number) (allPlacements ms) p room in
-      let d : sts′ ≡ column 256 (starts (allPlacements ms ++ (p ∷ []))) = column-map 256 (λ (q : Placement). q .start) (allPlacements ms) p room in
+      let c : nums′ ≡ column signalLimit (numbers (allPlacements ms ++ (p ∷ []))) = column-map signalLimit (λ (q : Placement). q .number) (allPlacements ms) p room in
+      let d : sts′ ≡ column signalLimit (starts (allPlacements ms ++ (p ∷ []))) = column-map signalLimit (λ (q : Placement). q .start) (allPlacements ms) p room in
       let e : allPlacements ns ≡ allPlacements ms ++ (p ∷ []) = placements-more before m p in
       let f : set ends (n - 1) (s + 1) ≡ endColumn ns = ends-last-more in
       let g : identifiers ns ≡ identifiers ms = identifiers-stay before m p in
@@ -112,26 +114,26 @@ module _ (before : List Message) (m : Message) (rs : List Route) (p : Placement)
 -- the same, of a book with messages
 abbrev Stores : Placement → List Route → List Message → Type 0
 Stores p rs ms =
-    set (set (set (set (wordsOf (record { messages = ms; routes = rs })) (131 + length (allPlacements ms)) (p .number)) (387 + length (allPlacements ms)) (p .start))
-    (67 + (length ms - 1)) (length (allPlacements ms) + 1)) 1 (length (allPlacements ms) + 1)
+    set (set (set (set (wordsOf (record { messages = ms; routes = rs })) (numbersAt + length (allPlacements ms)) (p .number)) (startsAt + length (allPlacements ms)) (p .start))
+    (endsAt + (length ms - 1)) (length (allPlacements ms) + 1)) signalCountAt (length (allPlacements ms) + 1)
     ≡ wordsOf (record { messages = inLast ms p; routes = rs })
 
-pub signal-stored : (ms : List Message) (rs : List Route) (p : Placement) → Within (record { messages = ms; routes = rs }) → 0 < length ms → length (allPlacements ms) < 256 → Stores p rs ms
+pub signal-stored : (ms : List Message) (rs : List Route) (p : Placement) → Within (record { messages = ms; routes = rs }) → 0 < length ms → length (allPlacements ms) < signalLimit → Stores p rs ms
 signal-stored [] rs p h some room = absurd (omega arith)
 signal-stored (x ∷ xs) rs p h some room =
     let l = last x xs in
     let ms = l .before ++ (l .last ∷ []) in
     let e : x ∷ xs ≡ ms = l .whole in
     let k : Within (record { messages = ms; routes = rs }) = subst (λ (ns : List Message). Within (record { messages = ns; routes = rs })) e h in
-    let g : length (allPlacements ms) < 256 = subst (λ (ns : List Message). length (allPlacements ns) < 256) e room in
+    let g : length (allPlacements ms) < signalLimit = subst (λ (ns : List Message). length (allPlacements ns) < signalLimit) e room in
     subst (Stores p rs) (sym e)
     (lines-stored (l .before) (l .last) rs p k g ∙
     ap (λ (ns : List Message). wordsOf (record { messages = ns; routes = rs })) (sym (in-last (l .before) (l .last) p)))
 
 -- ---- a route
 
-module _ (b : Book) (x : Route) (h : Within b) (room : length (b .routes) < 64) where
-  pub route-stored : set (set (set (wordsOf b) (643 + length (b .routes)) (x .from)) (707 + length (b .routes)) (x .to)) 2 (length (b .routes) + 1) ≡ wordsOf (withRoute b x)
+module _ (b : Book) (x : Route) (h : Within b) (room : length (b .routes) < routeLimit) where
+  pub route-stored : set (set (set (wordsOf b) (fromsAt + length (b .routes)) (x .from)) (tosAt + length (b .routes)) (x .to)) routeCountAt (length (b .routes) + 1) ≡ wordsOf (withRoute b x)
   route-stored =
       let n = length (b .messages) in
       let s = length (allPlacements (b .messages)) in
@@ -147,13 +149,13 @@ module _ (b : Book) (x : Route) (h : Within b) (room : length (b .routes) < 64) 
       let le = ends-long (b .messages) (h .messages) (h .signals) in
       let ln = numbers-long (b .messages) (h .messages) (h .signals) in
       let ls = starts-long (b .messages) (h .messages) (h .signals) in
-      let lf : length froms ≡ 64 = length-column 64 (map (λ (y : Route). y .from) rs) (omega (arith, length-map rs (λ (y : Route). y .from))) in
+      let lf : length froms ≡ routeLimit = length-column routeLimit (map (λ (y : Route). y .from) rs) (omega (arith, length-map rs (λ (y : Route). y .from))) in
       let froms′ = set froms r (x .from) in
       let tos′ = set tos r (x .to) in
       let one = set-froms n s r ids ends nums sts froms tos r (x .from) li le ln ls (omega arith) in
       let two = set-tos n s r ids ends nums sts froms′ tos r (x .to) li le ln ls (length-set froms r (x .from) ∙ lf) in
       let three = set-routes n s r ids ends nums sts froms′ tos′ (r + 1) in
-      let c : froms′ ≡ fromColumn (rs ++ (x ∷ [])) = column-map 64 (λ (y : Route). y .from) rs x room in
-      let d : tos′ ≡ toColumn (rs ++ (x ∷ [])) = column-map 64 (λ (y : Route). y .to) rs x room in
+      let c : froms′ ≡ fromColumn (rs ++ (x ∷ [])) = column-map routeLimit (λ (y : Route). y .from) rs x room in
+      let d : tos′ ≡ toColumn (rs ++ (x ∷ [])) = column-map routeLimit (λ (y : Route). y .to) rs x room in
       let k : length (rs ++ (x ∷ [])) ≡ r + 1 = length-more rs x in
       cc (words-flat b, words-flat (withRoute b x))

@@ -14,7 +14,7 @@ use Rattle.books.specs.Words.{column, starts, endsAfter, idColumn, endColumn, n
 use Rattle.books.proofs.Tests.{both, with}
 use Rattle.books.proofs.Columns.{take-column, length-ends, within, ids-stand, ends-stand, numbers-stand, starts-stand, taken-stands, stands-taken}
 use Rattle.columns.specs.Identifiers.{distinctAfter}
-use Rattle.record.specs.Columns.{messageCountOf, signalCountOf, idsOf, endsOf, numbersOf, startsOf}
+use Rattle.record.specs.Columns.{idsAt, endsAt, numbersAt, messageCountOf, signalCountOf, idsOf, endsOf, numbersOf, startsOf, messageColumnsOf}
 use Rattle.zeros.specs.Zeros.{zeros}
 use Rattle.zeros.proofs.Laws.{zeros-are, are-zeros}
 use Rattle.placing.proofs.Placing.{placed-numbers}
@@ -42,19 +42,21 @@ placed-starts (x ∷ ns) [] e = absurd (omega (arith, e))
 placed-starts (x ∷ ns) (y ∷ ss) e = ap (_∷_ y) (placed-starts ns ss (omega (arith, e)))
 
 -- the four columns are one after the other
-columns-whole : (w : List ℕ) → take 640 (drop 3 w) ≡ idsOf w ++ (endsOf w ++ (numbersOf w ++ startsOf w))
+columns-whole : (w : List ℕ) → messageColumnsOf w ≡ idsOf w ++ (endsOf w ++ (numbersOf w ++ startsOf w))
 columns-whole w =
-    take-add 64 576 (drop 3 w) ∙ ap (λ (l : List ℕ). idsOf w ++ l)
-    (ap (take 576) (drop-drop 64 3 w) ∙ take-add 64 512 (drop 67 w) ∙ ap (λ (l : List ℕ). endsOf w ++ l)
-    (ap (take 512) (drop-drop 64 67 w) ∙ take-add 256 256 (drop 131 w) ∙ ap (λ (l : List ℕ). numbersOf w ++ l)
-    (ap (take 256) (drop-drop 256 131 w))))
+    take-add messageLimit (messageLimit + (signalLimit + signalLimit)) (drop idsAt w) ∙ ap (λ (l : List ℕ). idsOf w ++ l)
+    (ap (take (messageLimit + (signalLimit + signalLimit))) (drop-drop messageLimit idsAt w) ∙
+    take-add messageLimit (signalLimit + signalLimit) (drop endsAt w) ∙ ap (λ (l : List ℕ). endsOf w ++ l)
+    (ap (take (signalLimit + signalLimit)) (drop-drop messageLimit endsAt w) ∙
+    take-add signalLimit signalLimit (drop numbersAt w) ∙ ap (λ (l : List ℕ). numbersOf w ++ l)
+    (ap (take signalLimit) (drop-drop signalLimit numbersAt w))))
 
 -- what the columns' lengths are, which the words of a book always have
 pub record Long (w : List ℕ) : Type 0 where
-  pub ids : length (idsOf w) ≡ 64
-  pub ends : length (endsOf w) ≡ 64
-  pub numbers : length (numbersOf w) ≡ 256
-  pub starts : length (startsOf w) ≡ 256
+  pub ids : length (idsOf w) ≡ messageLimit
+  pub ends : length (endsOf w) ≡ messageLimit
+  pub numbers : length (numbersOf w) ≡ signalLimit
+  pub starts : length (startsOf w) ≡ signalLimit
 
 -- all parts of the test pass
 pub record Checked (w : List ℕ) : Type 0 where
@@ -127,12 +129,12 @@ module _ (w : List ℕ) (l : Long w) (c : Checked w) where
   standing =
       let a = both (zeros (drop (messageCountOf w) (idsOf w))) _ (c .messages-rest) in
       let b = both (zeros (drop (signalCountOf w) (numbersOf w))) _ (c .signals-rest) in
-      let i : idsOf w ≡ idColumn (messagesOf w) = column-zero 64 (messageCountOf w) (idsOf w) (l .ids) (c .few) (a .0) ∙ ap (column 64) (sym shows-ids) in
-      let e : endsOf w ≡ endColumn (messagesOf w) = column-zero 64 (messageCountOf w) (endsOf w) (l .ends) (c .few) (a .1) ∙ ap (column 64) (sym shows-ends) in
+      let i : idsOf w ≡ idColumn (messagesOf w) = column-zero messageLimit (messageCountOf w) (idsOf w) (l .ids) (c .few) (a .0) ∙ ap (column messageLimit) (sym shows-ids) in
+      let e : endsOf w ≡ endColumn (messagesOf w) = column-zero messageLimit (messageCountOf w) (endsOf w) (l .ends) (c .few) (a .1) ∙ ap (column messageLimit) (sym shows-ends) in
       let n : numbersOf w ≡ numberColumn (messagesOf w) =
-      column-zero 256 (signalCountOf w) (numbersOf w) (l .numbers) (c .room) (b .0) ∙ ap (column 256) (sym (ap numbers shows-all ∙ placed-numbers ns ss starts-few)) in
+      column-zero signalLimit (signalCountOf w) (numbersOf w) (l .numbers) (c .room) (b .0) ∙ ap (column signalLimit) (sym (ap numbers shows-all ∙ placed-numbers ns ss starts-few)) in
       let s : startsOf w ≡ startColumn (messagesOf w) =
-      column-zero 256 (signalCountOf w) (startsOf w) (l .starts) (c .room) (b .1) ∙ ap (column 256) (sym (ap starts shows-all ∙ placed-starts ns ss starts-few)) in
+      column-zero signalLimit (signalCountOf w) (startsOf w) (l .starts) (c .room) (b .1) ∙ ap (column signalLimit) (sym (ap starts shows-all ∙ placed-starts ns ss starts-few)) in
       record { messages = count-messages; signals = count-signals; columns = cc (columns-whole w) }
 
   pub checked-taken : messagesTaken w ≡ true
@@ -178,19 +180,19 @@ module _ (w : List ℕ) (t : messagesTaken w ≡ true) where
         few = omega (arith, stood .messages, few′);
         room = omega (arith, stood .signals, room′);
         messages-rest = rw (stood .messages, ids-in, ends-in)
-            (with _ _ (zero-column 64 _ (identifiers (messagesOf w)) ids-are) (zero-column 64 _ (endsAfter 0 (messagesOf w)) e-are));
+            (with _ _ (zero-column messageLimit _ (identifiers (messagesOf w)) ids-are) (zero-column messageLimit _ (endsAfter 0 (messagesOf w)) e-are));
         signals-rest = rw (stood .signals, numbers-in, starts-in)
-            (with _ _ (zero-column 256 _ (numbers ps) n-are) (zero-column 256 _ (starts ps) s-are));
-        new = rw (stood .messages, ids-in, take-column 64 (length (messagesOf w)) (identifiers (messagesOf w)) ids-are) (good-distinct [] (messagesOf w) each);
+            (with _ _ (zero-column signalLimit _ (numbers ps) n-are) (zero-column signalLimit _ (starts ps) s-are));
+        new = rw (stood .messages, ids-in, take-column messageLimit (length (messagesOf w)) (identifiers (messagesOf w)) ids-are) (good-distinct [] (messagesOf w) each);
         parts = rw (
           stood .messages,
           stood .signals,
           ends-in,
           numbers-in,
           starts-in,
-          take-column 64 (length (messagesOf w)) (endsAfter 0 (messagesOf w)) e-are,
-          take-column 256 (length ps) (numbers ps) n-are,
-          take-column 256 (length ps) (starts ps) s-are,
+          take-column messageLimit (length (messagesOf w)) (endsAfter 0 (messagesOf w)) e-are,
+          take-column signalLimit (length ps) (numbers ps) n-are,
+          take-column signalLimit (length ps) (starts ps) s-are,
           placed-back,
         )
             (good-parted [] 0 (messagesOf w) each);
@@ -230,7 +232,7 @@ repeated w m ids em ei f = fails w (λ c. true-false (c .new) (sym (rw (em, ei))
 -- the last part, where the others pass
 module _ (w : List ℕ) (m s : ℕ) (ids ends ns ss : List ℕ) (em : m ≡ messageCountOf w) (es : s ≡ signalCountOf w)
     (ei : ids ≡ idsOf w) (ee : ends ≡ endsOf w) (en : ns ≡ numbersOf w) (et : ss ≡ startsOf w)
-    (li : length ids ≡ 64) (le : length ends ≡ 64) (ln : length ns ≡ 256) (ls : length ss ≡ 256)
+    (li : length ids ≡ messageLimit) (le : length ends ≡ messageLimit) (ln : length ns ≡ signalLimit) (ls : length ss ≡ signalLimit)
     (few : m ≤ messageLimit) (room : s ≤ signalLimit)
     (mz : zeros (drop m ids) && zeros (drop m ends) ≡ true) (sz : zeros (drop s ns) && zeros (drop s ss) ≡ true) (d : distinctAfter [] (take m ids) ≡ true) where
   long : Long w

@@ -2,6 +2,8 @@
 ghost use mathlib.Core.Path.{_≡_};
 ghost use Prim.Native.Nat.{_+_, _-_, _<_, _≤_};
 ghost use lib.ListN.{set};
+ghost use Rattle.books.specs.Lines.{messageLimit, signalLimit, routeLimit};
+ghost use Rattle.record.specs.Columns.{messageCountAt, signalCountAt, routeCountAt, idsAt, endsAt, numbersAt, startsAt, fromsAt, tosAt};
 use columns::wide;
 use record::BOOK_WORDS;
 use record::ENDS;
@@ -16,8 +18,8 @@ use record::TOS;
 
 // A message after `count` others. It has no signals yet, so it ends where they end.
 pub fn put_message(book: &mut [u32; BOOK_WORDS], count: u32, identifier: u32, end: u32)
-    requires { ⌜ count < 64 ⌝ }
-    ensures { λ _. ⌜ now (book .exit) ≡ set (set (set (now (book .entry)) (3 + count) identifier) (67 + count) end) 0 (count + 1) ⌝ }
+    requires { ⌜ count < messageLimit ⌝ }
+    ensures { λ _. ⌜ now (book .exit) ≡ set (set (set (now (book .entry)) (idsAt + count) identifier) (endsAt + count) end) messageCountAt (count + 1) ⌝ }
 {
     let at = wide(count);
     book[IDS + at] = identifier;
@@ -33,8 +35,8 @@ pub fn put_signal(
     number: u32,
     start: u32,
 )
-    requires { ⌜ (0 < messages) × (messages ≤ 64) × (signals < 256) ⌝ }
-    ensures { λ _. ⌜ now (book .exit) ≡ set (set (set (set (now (book .entry)) (131 + signals) number) (387 + signals) start) (67 + (messages - 1)) (signals + 1)) 1 (signals + 1) ⌝ }
+    requires { ⌜ (0 < messages) × (messages ≤ messageLimit) × (signals < signalLimit) ⌝ }
+    ensures { λ _. ⌜ now (book .exit) ≡ set (set (set (set (now (book .entry)) (numbersAt + signals) number) (startsAt + signals) start) (endsAt + (messages - 1)) (signals + 1)) signalCountAt (signals + 1) ⌝ }
 {
     let at = wide(signals);
     let last = wide(messages) - 1;
@@ -46,8 +48,8 @@ pub fn put_signal(
 
 // A route after `count` others.
 pub fn put_route(book: &mut [u32; BOOK_WORDS], count: u32, from: u32, to: u32)
-    requires { ⌜ count < 64 ⌝ }
-    ensures { λ _. ⌜ now (book .exit) ≡ set (set (set (now (book .entry)) (643 + count) from) (707 + count) to) 2 (count + 1) ⌝ }
+    requires { ⌜ count < routeLimit ⌝ }
+    ensures { λ _. ⌜ now (book .exit) ≡ set (set (set (now (book .entry)) (fromsAt + count) from) (tosAt + count) to) routeCountAt (count + 1) ⌝ }
 {
     let at = wide(count);
     book[FROMS + at] = from;

@@ -10,21 +10,14 @@ use columns::wide;
 use record::BOOK_WORDS;
 use record::MESSAGES;
 use record::SIGNALS;
+use zeros::zero_past;
 
-// Whether the entries past a count are 0.
-fn rest_zero(column: &[u32], count: usize) -> bool
-    requires { ⌜ count ≤ length (now column) ⌝ }
-    ensures { λ r. ⌜ r ≡ zeros (drop count (now (column .entry))) ⌝ }
-{
-    zeros::all_zero(&column[count..])
-}
-
-// The same of two columns in step.
+// Whether the entries past a count are 0 in two columns in step.
 fn rests_zero(one: &[u32], other: &[u32], count: usize) -> bool
     requires { ⌜ (count ≤ length (now one)) × (count ≤ length (now other)) ⌝ }
     ensures { λ r. ⌜ r ≡ zeros (drop count (now (one .entry))) && zeros (drop count (now (other .entry))) ⌝ }
 {
-    rest_zero(one, count) & rest_zero(other, count)
+    zero_past(one, count) & zero_past(other, count)
 }
 
 // Whether the ends part the signals among the messages, and each message's signals stand where they may.

@@ -1,9 +1,11 @@
 // Whether the entries past a count are 0, as those of an empty or a taken book are.
 ghost use mathlib.Core.Path.{_≡_};
+ghost use Prim.Native.Nat.{_≤_};
+ghost use lib.ListN.{length, drop};
 ghost use Rattle.zeros.specs.Zeros.{zeros};
 
 // Whether every entry is 0. All bits are gathered first, and tested once.
-pub fn all_zero(entries: &[u32]) -> bool
+fn all_zero(entries: &[u32]) -> bool
     ensures { λ r. ⌜ r ≡ zeros (now (entries .entry)) ⌝ }
 {
     let mut all: u32 = 0;
@@ -13,4 +15,12 @@ pub fn all_zero(entries: &[u32]) -> bool
         i += 1;
     }
     all == 0
+}
+
+// Whether every entry of a column past its first `count` is 0.
+pub fn zero_past(column: &[u32], count: usize) -> bool
+    requires { ⌜ count ≤ length (now column) ⌝ }
+    ensures { λ r. ⌜ r ≡ zeros (drop count (now (column .entry))) ⌝ }
+{
+    all_zero(&column[count..])
 }

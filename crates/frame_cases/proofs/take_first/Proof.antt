@@ -7,11 +7,11 @@ use borrow.Author.Needs.{needs}
 use Rattle.frame_cases.proofs.take_first.Statement.{statement}
 use Rattle.frame_cases.proofs.take_first.Tie as tie
 
-slice-aggregate-read-text : tie.Need-slice-aggregate-read-text
-slice-aggregate-read-text c = sym (length-take-le _ _ (omega arith))
+slice-aggregate-read : tie.Need-slice-aggregate-read
+slice-aggregate-read c = sym (length-take-le _ _ (omega arith))
 
-read-text-requires : tie.Need-read-text-requires
-read-text-requires c κs = search needs
+read-requires : tie.Need-read-requires
+read-requires c κs = search needs
 
 returns : tie.Need-returns
 returns c = search needs
@@ -21,4 +21,4 @@ returns-2 c = search needs
 
 pub take-first-spec : {M : Type 1} → statement M
 take-first-spec =
-    tie.close (tie.spec slice-aggregate-read-text read-text-requires returns returns-2)
+    tie.close (tie.spec slice-aggregate-read read-requires returns returns-2)

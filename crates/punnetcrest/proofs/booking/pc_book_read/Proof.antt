@@ -4,8 +4,8 @@ use borrow.Author.Needs.{needs}
 use Rattle.punnetcrest.proofs.booking.pc_book_read.Statement.{statement}
 use Rattle.punnetcrest.proofs.booking.pc_book_read.Tie as tie
 
-read-text-requires : tie.Need-read-text-requires
-read-text-requires c κs = search needs
+read-requires : tie.Need-read-requires
+read-requires c κs = search needs
 
 enum-told : tie.Need-enum-told
 enum-told c = search needs
@@ -17,12 +17,12 @@ number-of-requires : tie.Need-number-of-requires
 number-of-requires c κs = search needs
 
 returns : tie.Need-returns
-returns c = as-read (c .before .before .read-text .ensures) (c .enum-told .given .1)
+returns c = as-read (c .before .before .read .ensures) (c .enum-told .given .1)
 
 returns-2 : tie.Need-returns-2
-returns-2 c = rw (c .number-of .ensures) (as-read (c .before .before .before .before .read-text .ensures) (c .before .before .answer .given .1))
+returns-2 c = rw (c .number-of .ensures) (as-read (c .before .before .before .before .read .ensures) (c .before .before .answer .given .1))
 
 pub pc-book-read-spec : {M : Type 1} → statement M
 pc-book-read-spec =
     tie.close
-    (tie.spec read-text-requires enum-told enum-known-answer number-of-requires returns returns-2)
+    (tie.spec read-requires enum-told enum-known-answer number-of-requires returns returns-2)

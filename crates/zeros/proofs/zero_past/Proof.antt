@@ -1,14 +1,13 @@
+-- `zeros::zero_past` meets its contract: the part from the count on is all that is past it. Assumes nothing.
 use Prim.Native.Nat.{_-_}
-use lib.ListN.{length, drop, length-drop}
--- `routes::no_more` meets its contract: the part from n on is all that is past n. Assumes nothing.
 use mathlib.Core.Path.{ap, _∙_}
 use native.Mathlib.Omega.{arith}
-use lib.ListN.{length-drop}
+use lib.ListN.{length, drop, length-drop}
 use lib.Seq.{take-all}
 use Rattle.zeros.specs.Zeros.{zeros}
 use borrow.Author.Needs.{needs}
-use Rattle.routes.proofs.no_more.Statement.{statement}
-use Rattle.routes.proofs.no_more.Tie as tie
+use Rattle.zeros.proofs.zero_past.Statement.{statement}
+use Rattle.zeros.proofs.zero_past.Tie as tie
 
 mul-all-zero : tie.Need-mul-all-zero
 mul-all-zero c = search needs
@@ -28,10 +27,10 @@ all-zero-requires c κs = search needs
 returns : tie.Need-returns
 returns c =
     let at-args = c .before .before .before .args in
-    c .all-zero .ensures ∙ ap zeros (take-all (length (at-args .column .now) - at-args .n) (drop (at-args .n) (at-args .column .now)) (omega (arith, length-drop (at-args .n) (at-args .column .now))))
+    c .all-zero .ensures ∙ ap zeros (take-all (length (at-args .column .now) - at-args .count) (drop (at-args .count) (at-args .column .now)) (omega (arith, length-drop (at-args .count) (at-args .column .now))))
 
-pub no-more-spec : {M : Type 1} → statement M
-no-more-spec =
+pub zero-past-spec : {M : Type 1} → statement M
+zero-past-spec =
     tie.close
     (tie.spec
     mul-all-zero
