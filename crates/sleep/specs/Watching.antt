@@ -23,9 +23,16 @@ outcome w a = record { watch = w; answer = a }
 abbrev pub awakeAt : ℕ → Watch
 awakeAt time = watchOf time false
 
+-- the times of "the 32-bit circle", and half of them
+abbrev pub circle : ℕ
+circle = 2 ^ 32
+
+abbrev pub halfTheCircle : ℕ
+halfTheCircle = 2 ^ 31
+
 -- "The age is taken round the 32-bit circle, now minus last wake"
 abbrev pub age : ℕ → ℕ → ℕ
-age time lastWake = (time + 2 ^ 32 - lastWake) % 2 ^ 32
+age time lastWake = (time + circle - lastWake) % circle
 
 -- "asleep from age 10,000 on"
 abbrev pub sleepsAfter : ℕ
@@ -43,4 +50,4 @@ whileAwake w time wake = cond wake (awakeAt time) (watchOf (w .«last_wake») (l
 unfoldable pub afterCall : Watch → ℕ → Bool → Updated
 afterCall w time wake =
     cond (w .asleep) (whileAsleep w time wake)
-    (cond (leb (2 ^ 31) (age time (w .«last_wake»))) (outcome w ClockWentBack) (outcome (whileAwake w time wake) Taken))
+    (cond (leb halfTheCircle (age time (w .«last_wake»))) (outcome w ClockWentBack) (outcome (whileAwake w time wake) Taken))
