@@ -27,14 +27,11 @@ read-full-requires c κs = search needs
 returns : tie.Need-returns Inv-loop μ-loop
 returns c = search needs
 
-array-read-digit : tie.Need-array-read-digit Inv-loop μ-loop
-array-read-digit c = search needs
+array-read-state-of : tie.Need-array-read-state-of Inv-loop μ-loop
+array-read-state-of c = search needs
 
-digit-requires : tie.Need-digit-requires Inv-loop μ-loop
-digit-requires c κs = search needs
-
-numbered-requires : tie.Need-numbered-requires Inv-loop μ-loop
-numbered-requires c κs = search needs
+state-of-requires : tie.Need-state-of-requires Inv-loop μ-loop
+state-of-requires c κs = search needs
 
 enum-known-state : tie.Need-enum-known-state Inv-loop μ-loop
 enum-known-state c = search needs
@@ -71,9 +68,8 @@ main-spec =
     slice-aggregate-read-full
     read-full-requires
     returns
-    array-read-digit
-    digit-requires
-    numbered-requires
+    array-read-state-of
+    state-of-requires
     enum-known-state
     observed-requires
     step-requires
