@@ -6,13 +6,15 @@ use lib.Dec.{eqb, ltb}
 use lib.ListN.{getD}
 use Rattle.faults.specs.Rows.{firstRow}
 
--- the raw count of a row, among the counts of all the rows in order
+-- the raw count of a row: the counts stand in the order of the rows
 abbrev pub at : List ℕ → ℕ → ℕ
 at counts row = getD counts (row - firstRow) 0
 
+-- a row's count is the one that is wanted
 abbrev pub standsAt : List ℕ → ℕ → ℕ → Bool
 standsAt counts wanted row = eqb (at counts row) wanted
 
+-- a row's count is below a limit
 abbrev pub below : List ℕ → ℕ → ℕ → Bool
 below counts limit row = ltb (at counts row) limit
 

@@ -17,7 +17,7 @@ refusal (Summed s) = 0
 refusal NotTwentySeven = 31
 refusal TooWide = 32
 
--- no count is too wide for its signal, as the catalogue has it
+-- none is "too wide": each count is below 2 to the bits that its signal has in the catalogue
 unfoldable pub allFit : List ℕ → Bool
 allFit counts = allOf (λ row. below counts (2 ^ bitsOf row) row) faultRows
 
@@ -25,7 +25,7 @@ allFit counts = allOf (λ row. below counts (2 ^ bitsOf row) row) faultRows
 unfoldable pub isEmergency : List ℕ → Bool
 isEmergency counts = anyOf (standsAt counts 3) emergencyRows || standsAt counts 1 fireRow
 
--- "highest of the level rows; how many of those stand at 1, 2 and 3; how many one-bit faults are set; emergency; agrees, if 1901 equals the highest"
+-- "highest of the level rows ..; how many of those stand at 1, 2 and 3; how many one-bit faults are set ..; emergency, ..; agrees, if 1901 equals the highest"
 abbrev pub sumOf : List ℕ → FaultSum
 sumOf counts =
     record {

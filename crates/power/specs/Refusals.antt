@@ -32,10 +32,11 @@ commandsFit seen = leb (seen .command) highestCommand && leb (seen .«emergency_
 abbrev pub readingsFit : Observation → Bool
 readingsFit seen = leb (seen .current) highestReading && leb (seen .inside) highestReading && leb (seen .outside) highestReading
 
+-- what a step leaves: the state and the answer
 abbrev pub outcome : State → Answer → Stepped
 outcome state answer = record { state = state; answer = answer }
 
--- whether the relays, the commands and the readings fit; the state kept, and the one that follows
+-- by whether the relays, the commands and the readings fit: the first that doesn't is the refusal, with the "state kept"
 abbrev pub judged : Bool → Bool → Bool → State → State → Stepped
 judged false commands readings kept next = outcome kept NeitherOpenNorClosed
 judged true false readings kept next = outcome kept CommandTooHigh

@@ -21,6 +21,7 @@ pub record Step : Type 0 where
 abbrev pub step : State → State → (Observation → Bool) → Step
 step from to when = record { from = from; to = to; when = when }
 
+-- a step without a condition
 abbrev always : Observation → Bool
 always seen = true
 

@@ -23,7 +23,7 @@ pub enum State {
     Fault,
 }
 
-// A state by its number, where it is one.
+// What a number stands for: a state, or none.
 pub enum Numbered {
     State(State),
     NoState,
@@ -96,6 +96,7 @@ impl State {
         }
     }
 
+    // The state of a number, where there is one.
     pub fn numbered(n: u32) -> Numbered
         ensures { λ r. ⌜ r ≡ numbered n ⌝ }
     {

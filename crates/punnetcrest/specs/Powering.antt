@@ -9,7 +9,7 @@ use Rattle.power.specs.Rules.{startsAs}
 use Rattle.power.specs.Refusals.{refusal, stepOf}
 use Rattle.punnetcrest.specs.declared.powering.Observed.{Observed}
 
--- PC_POWER_START, the caller's first *state
+-- PC_POWER_START, the first *state: "A monitor starts off"
 abbrev pub startsAt : ℕ
 startsAt = number startsAs
 

@@ -18,7 +18,7 @@ inNumbers u = (refusal (u .answer), (u .watch .«last_wake», cond (u .watch .as
 abbrev pub started : ℕ → ℕ × (ℕ × ℕ)
 started time = inNumbers (outcome (awakeAt time) Taken)
 
--- pc_sleep_watch: the watch of these two numbers after the call; two numbers that are no watch stay
+-- pc_sleep_watch: the watch of these two numbers after the call, wake being off where it is 0; two numbers that are no watch stay
 unfoldable pub watched : ℕ → ℕ → ℕ → ℕ → ℕ × (ℕ × ℕ)
 watched lastWake asleep time wake =
     cond (leb asleep 1) (inNumbers (afterCall (watchOf lastWake (eqb asleep 1)) time (not (eqb wake 0)))) (notASleepState, (lastWake, asleep))

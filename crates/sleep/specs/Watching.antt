@@ -23,10 +23,11 @@ outcome w a = record { watch = w; answer = a }
 abbrev pub awakeAt : ℕ → Watch
 awakeAt time = watchOf time false
 
--- the times of "the 32-bit circle", and half of them
+-- "the 32-bit circle": after so many milliseconds the clock shows the same time again
 abbrev pub circle : ℕ
 circle = 2 ^ 32
 
+-- from this age on the clock is taken to have gone back
 abbrev pub halfTheCircle : ℕ
 halfTheCircle = 2 ^ 31
 
@@ -38,7 +39,7 @@ age time lastWake = (time + circle - lastWake) % circle
 abbrev pub sleepsAfter : ℕ
 sleepsAfter = 10000
 
--- "While asleep no call is refused, and a wake-off call changes nothing"
+-- "it stays asleep until wake is on. While asleep no call is refused, and a wake-off call changes nothing"
 abbrev pub whileAsleep : Watch → ℕ → Bool → Updated
 whileAsleep w time wake = outcome (cond wake (awakeAt time) w) Taken
 

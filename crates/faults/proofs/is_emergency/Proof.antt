@@ -6,24 +6,6 @@ use borrow.Author.Needs.{needs}
 use Rattle.faults.proofs.is_emergency.Statement.{statement}
 use Rattle.faults.proofs.is_emergency.Tie as tie
 
-count-at-requires : tie.Need-count-at-requires
-count-at-requires c κs = search needs
-
-count-at-requires-2 : tie.Need-count-at-requires-2
-count-at-requires-2 c κs = search needs
-
-count-at-requires-3 : tie.Need-count-at-requires-3
-count-at-requires-3 c κs = search needs
-
-count-at-requires-4 : tie.Need-count-at-requires-4
-count-at-requires-4 c κs = search needs
-
-count-at-requires-5 : tie.Need-count-at-requires-5
-count-at-requires-5 c κs = search needs
-
-count-at-requires-6 : tie.Need-count-at-requires-6
-count-at-requires-6 c κs = search needs
-
 returns : tie.Need-returns
 unfolding isEmergency anyOf
 returns c =
@@ -33,10 +15,10 @@ pub is-emergency-spec : {M : Type 1} → statement M
 is-emergency-spec =
     tie.close
     (tie.spec
-    count-at-requires
-    count-at-requires-2
-    count-at-requires-3
-    count-at-requires-4
-    count-at-requires-5
-    count-at-requires-6
+    (λ c κs. search needs)
+    (λ c κs. search needs)
+    (λ c κs. search needs)
+    (λ c κs. search needs)
+    (λ c κs. search needs)
+    (λ c κs. search needs)
     returns)
