@@ -37,7 +37,7 @@ static void count_refusal(const char *call, uint32_t refusal) {
 enum { MOST_READINGS = 64 };
 static uint32_t book[PC_BOOK_WORDS];
 static struct pc_observation seen = { 1, 1, 1, 0, 0, 20000, 0, 0 };
-static uint32_t power = PC_POWER_OFF, last_wake, asleep;
+static uint32_t power = PC_POWER_START, last_wake, asleep;
 
 /* Once at start: the book. A refused book leaves an empty one, and every frame is then refused with 22. */
 static uint32_t start(uint32_t now) {

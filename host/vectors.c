@@ -209,7 +209,11 @@ static void faults_case(void) {
 }
 
 static void power_case(void) {
-    uint32_t state = hex(1);
+    uint32_t state = PC_POWER_START;
+    if (input[at] == 'N')
+        at++;
+    else
+        state = hex(1);
     struct pc_observation seen;
     seen.main_negative = hex(8);
     seen.precharge = hex(8);

@@ -113,8 +113,8 @@ enum {
 };
 uint32_t pc_fault_sum(const uint32_t *counts, size_t counts_length, uint32_t sum[PC_FAULT_WORDS]);
 
-/* The power monitor. Its state is one number, kept by the caller; it starts at PC_POWER_OFF. An observation moves it as
-   QC/T 1201.5-2023, 5.4.2, asks. Refusals 91, 41, 42, 43. */
+/* The power monitor. Its state is one number, kept by the caller, who sets it to PC_POWER_START at first. An observation
+   moves it as QC/T 1201.5-2023, 5.4.2, asks. Refusals 91, 41, 42, 43. */
 enum pc_power {
     PC_POWER_OFF = 0,
     PC_POWER_RISING = 1,
@@ -122,7 +122,8 @@ enum pc_power {
     PC_POWER_BOTH = 3,
     PC_POWER_ON = 4,
     PC_POWER_FALLING = 5,
-    PC_POWER_FAULT = 6
+    PC_POWER_FAULT = 6,
+    PC_POWER_START = PC_POWER_OFF /* a new monitor's */
 };
 struct pc_observation {           /* raw counts */
     uint32_t main_negative;       /* 302: 1 open, 2 closed */

@@ -3,17 +3,18 @@
 
     python3 tools/power_vectors.py DIR
 
-A case is a line: the state's digit (0 off, 1 rising, 2 precharge, 3 both, 4 on, 5 falling, 6 fault), then 8 hex digits
-each for the relays main negative, precharge, main positive, the command (1601), 1604, current raw, inside raw (201) and
-outside raw (202). The answer: the new state's digit, or `no` and the refusal.
+A case is a line: the state's digit (0 off, 1 rising, 2 precharge, 3 both, 4 on, 5 falling, 6 fault) or `N` for a new
+monitor, then 8 hex digits each for the relays main negative, precharge, main positive, the command (1601), 1604, current
+raw, inside raw (201) and outside raw (202). The answer: the next state's digit, or `no` and the refusal.
 """
 
 import random
 from itertools import product
 
 from cases import h8, tabbed, write
-from rules import ON, PRECHARGE, power_step
+from rules import ON, PRECHARGE, START, power_step
 
+NEW = "N"
 STATES, RELAYS, CODES = range(7), (1, 2), range(4)
 MOST = 2**32 - 1
 
@@ -25,6 +26,12 @@ VOLTAGES = [
     (65534, 62258), (65534, 62257), (65534, 65534), (5000, 6000), (0, 0), (0, 6000), (6000, 0),
     (65535, 65535), (65535, 65534), (6000, 65535), (65535, 6000),
 ]  # fmt: skip
+
+
+def new_monitors():
+    """The first observation of a monitor: every picture, command and 1604."""
+    for relays, command, request in product(product(RELAYS, repeat=3), CODES, CODES):
+        yield NEW, relays, command, request, 20000, (6000, 6000)
 
 
 def grid(chance):
@@ -66,11 +73,11 @@ def refused(chance):
 
 def main():
     chance = random.Random(8)
-    cases = [*grid(chance), *precharge_ends(), *switching_off(), *refused(chance)]
+    cases = [*new_monitors(), *grid(chance), *precharge_ends(), *switching_off(), *refused(chance)]
     stdin, stdout = [], []
     for state, relays, command, request, current, voltages in cases:
         stdin.append(str(state) + "".join(map(h8, (*relays, command, request, current, *voltages))) + "\n")
-        found = power_step(state, relays, command, request, current, *voltages)
+        found = power_step(START if state == NEW else state, relays, command, request, current, *voltages)
         stdout.append(tabbed(*found) if isinstance(found, tuple) else tabbed(found))
     write("".join(stdin), "".join(stdout))
 

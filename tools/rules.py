@@ -386,6 +386,7 @@ def fault_sum(counts):
 # --- power ------------------------------------------------------------------------------------------------------------
 
 OFF, RISING, PRECHARGE, BOTH, ON, FALLING, FAULT = range(7)
+START = OFF
 # Main negative, precharge, main positive: o open, c closed.
 PICTURES = {OFF: "ooo", RISING: "coo", PRECHARGE: "cco", BOTH: "ccc", ON: "coc", FALLING: "coo"}
 RELAY = {1: "o", 2: "c"}

@@ -6,7 +6,7 @@ use mathlib.Core.List.{[], _∷_}
 use native.Mathlib.Omega.{arith}
 use native.Mathlib.Numerals.{add-one}
 use Rattle.faults.specs.Rows.{rows, counted}
-use Rattle.faults.specs.Counts.{howMany, every, highestOf}
+use Rattle.faults.specs.Counts.{howMany, allOf, highestOf}
 
 rows-more : (row to : ℕ) → row ≤ to → rows row to ≡ row ∷ rows (row + 1) to
 unfolding counted
@@ -36,10 +36,10 @@ module _ (row to : ℕ) (h : row ≤ to) where
   unfolding highestOf
   highest-next count n l r total e f g = omega (arith, rw (rows-more row to h) at e)
 
-  pub every-next : (test : ℕ → Bool) (b r total : Bool) → b && every test (rows row to) ≡ total → r ≡ test row
-      → (b && r) && every test (rows (row + 1) to) ≡ total
-  unfolding every
-  every-next test b r total e f = rw f (and-assoc b (test row) (every test (rows (row + 1) to)) ∙ (rw (rows-more row to h) at e))
+  pub all-next : (test : ℕ → Bool) (b r total : Bool) → b && allOf test (rows row to) ≡ total → r ≡ test row
+      → (b && r) && allOf test (rows (row + 1) to) ≡ total
+  unfolding allOf
+  all-next test b r total e f = rw f (and-assoc b (test row) (allOf test (rows (row + 1) to)) ∙ (rw (rows-more row to h) at e))
 
 module _ (row to : ℕ) (h : to < row) where
   pub many-end : (test : ℕ → Bool) (n total : ℕ) → n + howMany test (rows row to) ≡ total → n ≡ total
@@ -50,6 +50,6 @@ module _ (row to : ℕ) (h : to < row) where
   unfolding highestOf
   highest-end count n total e = omega (arith, rw (rows-none row to h) at e)
 
-  pub every-end : (test : ℕ → Bool) (b total : Bool) → b && every test (rows row to) ≡ total → b ≡ total
-  unfolding every
-  every-end test b total e = sym (and-true b) ∙ (rw (rows-none row to h) at e)
+  pub all-end : (test : ℕ → Bool) (b total : Bool) → b && allOf test (rows row to) ≡ total → b ≡ total
+  unfolding allOf
+  all-end test b total e = sym (and-true b) ∙ (rw (rows-none row to h) at e)

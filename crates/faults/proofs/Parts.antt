@@ -4,7 +4,7 @@ use mathlib.Core.Path.{_≡_, refl, sym, _∙_, ap}
 use mathlib.Core.Bool.{Bool, _&&_, and-assoc}
 use mathlib.Core.List.{List, [], _∷_, _++_}
 use native.Mathlib.Omega.{arith}
-use Rattle.faults.specs.Counts.{howMany, every, highestOf}
+use Rattle.faults.specs.Counts.{howMany, allOf, highestOf}
 
 pub many-parts : (test : ℕ → Bool) (a b : List ℕ) → howMany test (a ++ b) ≡ howMany test a + howMany test b
 unfolding howMany
@@ -16,7 +16,7 @@ unfolding highestOf
 highest-parts count [] b = omega arith
 highest-parts count (row ∷ a) b = omega (arith, highest-parts count a b)
 
-pub every-parts : (test : ℕ → Bool) (a b : List ℕ) → every test (a ++ b) ≡ every test a && every test b
-unfolding every
-every-parts test [] b = refl
-every-parts test (row ∷ a) b = ap (λ (x : Bool). test row && x) (every-parts test a b) ∙ sym (and-assoc (test row) (every test a) (every test b))
+pub all-parts : (test : ℕ → Bool) (a b : List ℕ) → allOf test (a ++ b) ≡ allOf test a && allOf test b
+unfolding allOf
+all-parts test [] b = refl
+all-parts test (row ∷ a) b = ap (λ (x : Bool). test row && x) (all-parts test a b) ∙ sym (and-assoc (test row) (allOf test a) (allOf test b))

@@ -4,14 +4,17 @@ use mathlib.Core.Bool.{Bool, true, false, cond, _&&_, _||_}
 use mathlib.Core.List.{List, [], _∷_}
 use lib.Dec.{eqb, ltb}
 use lib.ListN.{getD}
+use Rattle.faults.specs.Rows.{firstRow}
 
--- the raw count of a row, among the counts of 1901 to 1927
+-- the raw count of a row: the counts stand in the order of the rows
 abbrev pub at : List ℕ → ℕ → ℕ
-at counts row = getD counts (row - 1901) 0
+at counts row = getD counts (row - firstRow) 0
 
+-- a row's count is the one that is wanted
 abbrev pub standsAt : List ℕ → ℕ → ℕ → Bool
 standsAt counts wanted row = eqb (at counts row) wanted
 
+-- a row's count is below a limit
 abbrev pub below : List ℕ → ℕ → ℕ → Bool
 below counts limit row = ltb (at counts row) limit
 
@@ -21,14 +24,14 @@ howMany test [] = 0
 howMany test (row ∷ more) = cond (test row) 1 0 + howMany test more
 
 -- each of the rows passes it
-unfoldable pub every : (ℕ → Bool) → List ℕ → Bool
-every test [] = true
-every test (row ∷ more) = test row && every test more
+unfoldable pub allOf : (ℕ → Bool) → List ℕ → Bool
+allOf test [] = true
+allOf test (row ∷ more) = test row && allOf test more
 
 -- one of the rows, at least, passes it
-unfoldable pub some : (ℕ → Bool) → List ℕ → Bool
-some test [] = false
-some test (row ∷ more) = test row || some test more
+unfoldable pub anyOf : (ℕ → Bool) → List ℕ → Bool
+anyOf test [] = false
+anyOf test (row ∷ more) = test row || anyOf test more
 
 -- the highest count of the rows; 0 of none
 unfoldable pub highestOf : (ℕ → ℕ) → List ℕ → ℕ

@@ -7,8 +7,8 @@ ghost use mathlib.Core.Path.{_≡_};
 ghost use mathlib.Core.Bool.{cond};
 ghost use Prim.Native.Nat.{_≤_, max};
 ghost use lib.ListN.{length};
-ghost use Rattle.faults.specs.Rows.{rows, levelRows, oneBitRows, InTable};
-ghost use Rattle.faults.specs.Counts.{at, standsAt, below, howMany, every, highestOf};
+ghost use Rattle.faults.specs.Rows.{rowCount, rows, levelRows, oneBitRows, InTable};
+ghost use Rattle.faults.specs.Counts.{at, standsAt, below, howMany, allOf, highestOf};
 ghost use Rattle.faults.specs.Sum.{allFit, isEmergency, answerTo};
 
 pub struct FaultSum {
@@ -31,8 +31,15 @@ pub enum Answer {
     TooWide,
 }
 
-// The row that stands first in the slice.
-const FIRST: usize = 1901;
+// The rows of the slice: the first, the last, and how many.
+const FIRST_ROW: usize = 1901;
+
+const LAST_ROW: usize = 1927;
+
+const ROW_COUNT: usize = 27;
+
+// The row in which the pack itself tells the highest level.
+const TOLD_ROW: usize = FIRST_ROW;
 
 // What the counts of one, two and five bits are below.
 const ONE_BIT: u32 = 2;
@@ -45,7 +52,7 @@ fn count_at(counts: &[u32], row: usize) -> u32
     requires { ⌜ InTable (length (now counts)) row row ⌝ }
     ensures { λ r. ⌜ r ≡ at (now (counts .entry)) row ⌝ }
 {
-    counts[row - FIRST]
+    counts[row - FIRST_ROW]
 }
 
 fn one_if(test: bool) -> u32
@@ -63,7 +70,7 @@ fn greater(a: u32, b: u32) -> u32
 // How many of the rows `from` to `to` stand at `wanted`.
 fn how_many(counts: &[u32], from: usize, to: usize, wanted: u32) -> u32
     requires { ⌜ InTable (length (now counts)) from to ⌝ }
-    ensures { λ r. ⌜ (r ≡ howMany (standsAt (now (counts .entry)) wanted) (rows from to)) × (r ≤ 27) ⌝ }
+    ensures { λ r. ⌜ (r ≡ howMany (standsAt (now (counts .entry)) wanted) (rows from to)) × (r ≤ rowCount) ⌝ }
 {
     let mut n: u32 = 0;
     let mut row: usize = from;
@@ -91,7 +98,7 @@ fn highest_of(counts: &[u32], from: usize, to: usize) -> u32
 // Whether each of the rows `from` to `to` has a count below `limit`.
 fn all_below(counts: &[u32], from: usize, to: usize, limit: u32) -> bool
     requires { ⌜ InTable (length (now counts)) from to ⌝ }
-    ensures { λ r. ⌜ r ≡ every (below (now (counts .entry)) limit) (rows from to) ⌝ }
+    ensures { λ r. ⌜ r ≡ allOf (below (now (counts .entry)) limit) (rows from to) ⌝ }
 {
     let mut all = true;
     let mut row: usize = from;
@@ -103,19 +110,19 @@ fn all_below(counts: &[u32], from: usize, to: usize, limit: u32) -> bool
 }
 
 fn all_fit(counts: &[u32]) -> bool
-    requires { ⌜ length (now counts) ≡ 27 ⌝ }
+    requires { ⌜ length (now counts) ≡ rowCount ⌝ }
     ensures { λ r. ⌜ r ≡ allFit (now (counts .entry)) ⌝ }
 {
-    all_below(counts, 1901, 1914, TWO_BITS)
+    all_below(counts, FIRST_ROW, 1914, TWO_BITS)
         & all_below(counts, 1915, 1922, ONE_BIT)
         & all_below(counts, 1923, 1923, FIVE_BITS)
         & all_below(counts, 1924, 1924, ONE_BIT)
         & all_below(counts, 1925, 1925, TWO_BITS)
-        & all_below(counts, 1926, 1927, ONE_BIT)
+        & all_below(counts, 1926, LAST_ROW, ONE_BIT)
 }
 
 fn highest_level(counts: &[u32]) -> u32
-    requires { ⌜ length (now counts) ≡ 27 ⌝ }
+    requires { ⌜ length (now counts) ≡ rowCount ⌝ }
     ensures { λ r. ⌜ r ≡ highestOf (at (now (counts .entry))) levelRows ⌝ }
 {
     greater(
@@ -125,14 +132,14 @@ fn highest_level(counts: &[u32]) -> u32
 }
 
 fn levels_at(counts: &[u32], level: u32) -> u32
-    requires { ⌜ length (now counts) ≡ 27 ⌝ }
+    requires { ⌜ length (now counts) ≡ rowCount ⌝ }
     ensures { λ r. ⌜ r ≡ howMany (standsAt (now (counts .entry)) level) levelRows ⌝ }
 {
     how_many(counts, 1902, 1914, level) + how_many(counts, 1925, 1925, level)
 }
 
 fn one_bit_faults(counts: &[u32]) -> u32
-    requires { ⌜ length (now counts) ≡ 27 ⌝ }
+    requires { ⌜ length (now counts) ≡ rowCount ⌝ }
     ensures { λ r. ⌜ r ≡ howMany (standsAt (now (counts .entry)) 1) oneBitRows ⌝ }
 {
     how_many(counts, 1915, 1921, 1)
@@ -141,7 +148,7 @@ fn one_bit_faults(counts: &[u32]) -> u32
 }
 
 fn is_emergency(counts: &[u32]) -> bool
-    requires { ⌜ length (now counts) ≡ 27 ⌝ }
+    requires { ⌜ length (now counts) ≡ rowCount ⌝ }
     ensures { λ r. ⌜ r ≡ isEmergency (now (counts .entry)) ⌝ }
 {
     (count_at(counts, 1902) == 3)
@@ -156,7 +163,7 @@ fn is_emergency(counts: &[u32]) -> bool
 pub fn sum(counts: &[u32]) -> Answer
     ensures { λ r. ⌜ r ≡ answerTo (now (counts .entry)) ⌝ }
 {
-    if counts.len() != 27 {
+    if counts.len() != ROW_COUNT {
         return Answer::NotTwentySeven;
     }
     if !all_fit(counts) {
@@ -168,7 +175,7 @@ pub fn sum(counts: &[u32]) -> Answer
     let at_3 = levels_at(counts, 3);
     let set = one_bit_faults(counts);
     let emergency = is_emergency(counts);
-    let agrees = count_at(counts, 1901) == highest;
+    let agrees = count_at(counts, TOLD_ROW) == highest;
     Answer::Summed(FaultSum {
         highest,
         at_1,

@@ -9,11 +9,13 @@ use Rattle.books.specs.Book.{Placement, Message}
 use Rattle.books.specs.Words.{messagesOf}
 use Rattle.bits.specs.Frame.{frameBit}
 use Rattle.catalogue.specs.Find.{bitsOf}
+use Rattle.catalogue.specs.declared.Raw.{Raw}
+use Rattle.catalogue.specs.declared.Class.the-variants.{Reserved, Outside}
 use Rattle.framing.specs.declared.Reading.{Reading}
 use Rattle.framing.specs.declared.Reading.the-variants.{Read}
 use Rattle.framing.specs.declared.Packing.the-variants.{Packed}
 use Rattle.framing.specs.Messages.{frameBytes, checksumNumber, messageOf}
-use Rattle.framing.specs.Reading.{Slices, room, reading}
+use Rattle.framing.specs.Reading.{Slices, classCode, room, reading}
 use Rattle.framing.specs.Packing.{packing}
 use Rattle.framing.specs.Packed.{Unplaced}
 
@@ -36,12 +38,16 @@ pub record ReadsBack (words : List ℕ) (identifier : ℕ) (vs frame : List ℕ)
   pub found : messageOf identifier (messagesOf words) ≡ some message
   pub reads : (lent : Slices) → length vs ≤ room lent → SameCounts message vs (reading words identifier frame lent)
 
--- the class codes of counts that are not packed
+-- any raw count: the code of a class doesn't depend on it
+abbrev someRaw : Raw
+someRaw = record { 0 = 0 }
+
+-- the codes of the two classes that are not packed
 abbrev pub reservedCode : ℕ
-reservedCode = 4
+reservedCode = classCode (Reserved someRaw)
 
 abbrev pub outsideCode : ℕ
-outsideCode = 5
+outsideCode = classCode (Outside someRaw)
 
 -- no count that was read is reserved or outside
 abbrev pub NoneBarred : ℕ → Slices → Type 0

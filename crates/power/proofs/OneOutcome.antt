@@ -15,15 +15,21 @@ use Rattle.power.specs.declared.State.{State}
 use Rattle.power.specs.declared.Observation.{Observation}
 use Rattle.power.specs.Observed.{prechargeComplete}
 use Rattle.power.specs.States.{number, numbered}
+use Rattle.power.specs.Rules.{startsAs}
 use Rattle.power.specs.Refusals.{stepOf}
+use Rattle.power.proofs.State as State-row
 use Rattle.power.proofs.Stepped as Stepped
 use Rattle.power.proofs.Numbered as Numbered
+use Rattle.power.proofs.State.start as start
 use Rattle.power.proofs.State.number as number-fn
 use Rattle.power.proofs.State.numbered as numbered-fn
 use Rattle.power.proofs.observed.precharge_complete as precharge-complete
 use Rattle.power.proofs.step as step
 
 module _ {M : Type 1} (𝓤 : URA M) (H : Heap 𝓤) (A : Atoms 𝓤) (mem : Memory → SProp 𝓤) (run : Routine → Fun 𝓤) where
+  pub one-start : (e : AtExit start.ended tt) → Only 𝓤 (λ r. start.clauses 𝓤 H A mem run tt tt .ensures tt r e)
+  one-start e = only-this 𝓤 _ (State-row.the-row .coded) startsAs (λ r. refl)
+
   pub one-number : (state : State) (e : AtExit number-fn.ended tt) → Only 𝓤 (λ r. number-fn.clauses 𝓤 H A mem run tt (state, tt) .ensures tt r e)
   one-number state e = only-this 𝓤 _ codedℕ (number state) (λ r. refl)
 

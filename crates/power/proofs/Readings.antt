@@ -14,14 +14,14 @@ use Rattle.catalogue.specs.declared.Class.the-variants.{Value, Invalid, TooWide
 use Rattle.rows.specs.Rows.{rows, row, plus, invalid, unmarked}
 use Rattle.catalogue.specs.Find.{rowOf}
 use Rattle.catalogue.specs.Class.{classOf, classFor, between}
-use Rattle.power.specs.Observed.{valid}
+use Rattle.power.specs.Observed.{highestReading, invalidVoltage, valid}
 
 abbrev count : ℕ → Raw
 count raw = record { 0 = raw }
 
 -- the row of both voltages but for its number: 16 bits of 0.1 V each, and 65,535 the mark invalid
 abbrev voltage : ℕ → Row
-voltage n = row n 16 100 (plus 0) 0 65535 (invalid 65535 65535) unmarked unmarked
+voltage n = row n 16 100 (plus 0) 0 highestReading (invalid invalidVoltage invalidVoltage) unmarked unmarked
 
 -- what a count of such a signal stands for
 abbrev pub voltageClass : ℕ → Class

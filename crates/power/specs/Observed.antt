@@ -11,10 +11,11 @@ o = 1
 abbrev pub c : ℕ
 c = 2
 
--- the relays in the order "main negative, precharge, main positive"
+-- the three relays have these counts, in the order "main negative, precharge, main positive"
 abbrev pub shows : ℕ → ℕ → ℕ → Observation → Bool
-shows negative between positive seen = eqb (seen .«main_negative») negative && eqb (seen .precharge) between && eqb (seen .«main_positive») positive
+shows negative precharge positive seen = eqb (seen .«main_negative») negative && eqb (seen .precharge) precharge && eqb (seen .«main_positive») positive
 
+-- "ooo"
 abbrev pub allOpen : Observation → Bool
 allOpen = shows o o o
 
@@ -26,11 +27,22 @@ commanded n seen = eqb (seen .command) n
 abbrev pub urgent : Observation → Bool
 urgent seen = commanded 3 seen || eqb (seen .«emergency_off») 1
 
--- 201 and 202 have 16 bits and the range 0 to 65,535, of which 65,535 is the mark invalid; the other counts are values
-abbrev pub valid : ℕ → Bool
-valid volts = ltb volts 65535
+-- 42 is for a "command or 1604 over 3"
+abbrev pub highestCommand : ℕ
+highestCommand = 3
 
--- the share in hundredths: a "house figure"
+-- 43 is for a "current or voltage over 65,535"
+abbrev pub highestReading : ℕ
+highestReading = 65535
+
+-- that count of 201 or 202 is the mark invalid; the counts below it are values (proofs/Readings.antt)
+abbrev pub invalidVoltage : ℕ
+invalidVoltage = highestReading
+
+abbrev pub valid : ℕ → Bool
+valid voltage = ltb voltage invalidVoltage
+
+-- how many hundredths of the inside: a "house figure"
 abbrev pub share : ℕ
 share = 95
 

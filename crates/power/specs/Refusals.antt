@@ -7,7 +7,7 @@ use Rattle.power.specs.declared.State.{State}
 use Rattle.power.specs.declared.Answer.{Answer}
 use Rattle.power.specs.declared.Answer.the-variants.{Taken, NeitherOpenNorClosed, CommandTooHigh, ReadingTooHigh}
 use Rattle.power.specs.declared.Stepped.{Stepped}
-use Rattle.power.specs.Observed.{o, c}
+use Rattle.power.specs.Observed.{o, c, highestCommand, highestReading}
 use Rattle.power.specs.Rules.{nextState}
 
 -- document 01's number of each answer; 0 is no refusal
@@ -26,16 +26,17 @@ relaysFit seen = openOrClosed (seen .«main_negative») && openOrClosed (seen .p
 
 -- 42: "command or 1604 over 3"
 abbrev pub commandsFit : Observation → Bool
-commandsFit seen = leb (seen .command) 3 && leb (seen .«emergency_off») 3
+commandsFit seen = leb (seen .command) highestCommand && leb (seen .«emergency_off») highestCommand
 
 -- 43: "current or voltage over 65,535"
 abbrev pub readingsFit : Observation → Bool
-readingsFit seen = leb (seen .current) 65535 && leb (seen .inside) 65535 && leb (seen .outside) 65535
+readingsFit seen = leb (seen .current) highestReading && leb (seen .inside) highestReading && leb (seen .outside) highestReading
 
+-- what a step leaves: the state and the answer
 abbrev pub outcome : State → Answer → Stepped
 outcome state answer = record { state = state; answer = answer }
 
--- whether the relays, the commands and the readings fit; the state kept, and the one that follows
+-- by whether the relays, the commands and the readings fit: the first that doesn't is the refusal, with the "state kept"
 abbrev pub judged : Bool → Bool → Bool → State → State → Stepped
 judged false commands readings kept next = outcome kept NeitherOpenNorClosed
 judged true false readings kept next = outcome kept CommandTooHigh

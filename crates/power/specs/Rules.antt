@@ -1,4 +1,4 @@
--- Document 01's rules of the power monitor. Assumes nothing.
+-- Document 01's rules of the power monitor: where it starts, and the state that follows an observation. Assumes nothing.
 use mathlib.Core.Bool.{Bool, true, cond, _&&_, _||_}
 use mathlib.Core.List.{List, [], _∷_, _++_}
 use Rattle.power.specs.declared.Observation.{Observation}
@@ -8,6 +8,11 @@ use Rattle.power.specs.Observed.{allOpen, commanded, urgent, prechargeCo
 use Rattle.power.specs.Pictures.{picture}
 use Rattle.power.specs.States.{same}
 
+-- "A monitor starts off"
+abbrev pub startsAs : State
+startsAs = Off
+
+-- a step from one state to another, and the observations that allow it
 pub record Step : Type 0 where
   pub from : State
   pub to : State
@@ -16,6 +21,7 @@ pub record Step : Type 0 where
 abbrev pub step : State → State → (Observation → Bool) → Step
 step from to when = record { from = from; to = to; when = when }
 
+-- a step without a condition
 abbrev always : Observation → Bool
 always seen = true
 
@@ -53,6 +59,7 @@ byRules state seen = cond (picture state seen) state (cond (urgent seen && allOp
 abbrev pub fromFault : Observation → State
 fromFault seen = cond (allOpen seen && (commanded 0 seen || commanded 2 seen)) Off Fault
 
+-- in fault its own rule, and "otherwise" rules 1 to 5
 unfoldable pub nextState : State → Observation → State
 nextState Off = byRules Off
 nextState Rising = byRules Rising

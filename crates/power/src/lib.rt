@@ -1,8 +1,8 @@
 // The power monitor: one step for each observation of a pack's relays, commands, current and voltages.
 //
-// For a gateway that keeps a `State`, off at the start, and calls `step` with each observation. No public function has a
-// `requires`: an observation with a relay that is neither open nor closed, or with another count over its highest, is
-// refused, and the state is kept. `specs/Rules.antt` has document 01's rules 1 to 5 as a list.
+// For a gateway that keeps a `State`, at first `State::start()`, and calls `step` with each observation. No public function
+// has a `requires`: an observation with a relay that is neither open nor closed, or with another count over its highest,
+// is refused, and the state is kept. `specs/Rules.antt` has document 01's rules 1 to 5.
 mod observed;
 mod rules;
 
@@ -10,6 +10,7 @@ pub use observed::precharge_complete;
 use rules::next_state;
 ghost use mathlib.Core.Path.{_≡_};
 ghost use Rattle.power.specs.States.{number, numbered};
+ghost use Rattle.power.specs.Rules.{startsAs};
 ghost use Rattle.power.specs.Refusals.{openOrClosed, relaysFit, commandsFit, readingsFit, stepOf};
 
 pub enum State {
@@ -22,7 +23,7 @@ pub enum State {
     Fault,
 }
 
-// A state by its number, where it is one.
+// What a number stands for: a state, or none.
 pub enum Numbered {
     State(State),
     NoState,
@@ -66,10 +67,20 @@ const OPEN: u32 = 1;
 
 const CLOSED: u32 = 2;
 
-// The highest count of 16 bits.
-const HIGHEST: u32 = 65535;
+// The highest command and count of 1604.
+const HIGHEST_COMMAND: u32 = 3;
+
+// The highest current and voltage: all 16 bits set.
+const HIGHEST_READING: u32 = 65535;
 
 impl State {
+    // The state that a monitor starts in.
+    pub fn start() -> State
+        ensures { λ r. ⌜ r ≡ startsAs ⌝ }
+    {
+        State::Off
+    }
+
     // 0 off, 1 rising, 2 precharge, 3 both, 4 on, 5 falling, 6 fault.
     pub fn number(self) -> u32
         ensures { λ r. ⌜ r ≡ number self ⌝ }
@@ -85,6 +96,7 @@ impl State {
         }
     }
 
+    // The state of a number, where there is one.
     pub fn numbered(n: u32) -> Numbered
         ensures { λ r. ⌜ r ≡ numbered n ⌝ }
     {
@@ -111,21 +123,23 @@ fn relays_fit(seen: Observation) -> bool
     ensures { λ r. ⌜ r ≡ relaysFit seen ⌝ }
 {
     let negative = is_open_or_closed(seen.main_negative);
-    let between = is_open_or_closed(seen.precharge);
+    let precharge = is_open_or_closed(seen.precharge);
     let positive = is_open_or_closed(seen.main_positive);
-    negative & between & positive
+    negative & precharge & positive
 }
 
 fn commands_fit(seen: Observation) -> bool
     ensures { λ r. ⌜ r ≡ commandsFit seen ⌝ }
 {
-    (seen.command <= 3) & (seen.emergency_off <= 3)
+    (seen.command <= HIGHEST_COMMAND) & (seen.emergency_off <= HIGHEST_COMMAND)
 }
 
 fn readings_fit(seen: Observation) -> bool
     ensures { λ r. ⌜ r ≡ readingsFit seen ⌝ }
 {
-    (seen.current <= HIGHEST) & (seen.inside <= HIGHEST) & (seen.outside <= HIGHEST)
+    (seen.current <= HIGHEST_READING)
+        & (seen.inside <= HIGHEST_READING)
+        & (seen.outside <= HIGHEST_READING)
 }
 
 // One step: the state that follows, or a refusal and the state kept.

@@ -1,5 +1,6 @@
 // What an observation shows: the relays' pictures, the commands, the current, and whether precharge is complete.
 use crate::CLOSED;
+use crate::HIGHEST_READING;
 use crate::OPEN;
 use crate::Observation;
 use crate::State;
@@ -8,7 +9,7 @@ ghost use Rattle.power.specs.Observed.{shows, allOpen, urgent, precharge
 ghost use Rattle.power.specs.Pictures.{picture};
 
 // The mark invalid of both voltages.
-const INVALID: u32 = 65535;
+const INVALID: u32 = HIGHEST_READING;
 
 // Precharge is complete where the outside has this share, in hundredths, of the inside.
 const SHARE: u64 = 95;
@@ -40,11 +41,11 @@ pub fn is_urgent(seen: Observation) -> bool
     (seen.command == 3) | (seen.emergency_off == 1)
 }
 
-fn shows_relays(seen: Observation, negative: u32, between: u32, positive: u32) -> bool
-    ensures { λ r. ⌜ r ≡ shows negative between positive seen ⌝ }
+fn shows_relays(seen: Observation, negative: u32, precharge: u32, positive: u32) -> bool
+    ensures { λ r. ⌜ r ≡ shows negative precharge positive seen ⌝ }
 {
     (seen.main_negative == negative)
-        & (seen.precharge == between)
+        & (seen.precharge == precharge)
         & (seen.main_positive == positive)
 }
 

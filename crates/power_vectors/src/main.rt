@@ -1,5 +1,6 @@
-// Runs the power monitor over the observations on standard input. A line is a state's digit and the eight raw counts in
-// eight hex digits each, in the order of `Observation`. Each gives a line: the next state's digit, or `no` and the refusal.
+// Runs the power monitor over the observations on standard input. A line is a state's digit, or N for a new monitor, and
+// the eight raw counts in eight hex digits each, in the order of `Observation`. Each gives a line: the next state's digit,
+// or `no` and the refusal.
 use libc::STDIN_FILENO;
 use libc::STDOUT_FILENO;
 use numerals::Number;
@@ -22,6 +23,14 @@ fn digit(byte: u8) -> u32 {
         return 9;
     }
     (byte - b'0') as u32
+}
+
+// The state that a line begins with.
+fn state_of(byte: u8) -> Numbered {
+    if byte == b'N' {
+        return Numbered::State(State::start());
+    }
+    State::numbered(digit(byte))
 }
 
 fn observed(line: [u8; 66]) -> Observation {
@@ -66,7 +75,7 @@ fn main() {
         if io::read_full(STDIN_FILENO, &mut line) < 66 {
             return;
         }
-        match State::numbered(digit(line[0])) {
+        match state_of(line[0]) {
             Numbered::State(state) => step(state, observed(line)),
             Numbered::NoState => return,
         }

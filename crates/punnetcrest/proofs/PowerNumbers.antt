@@ -1,6 +1,6 @@
--- From the monitor's own answer to what the call returns and leaves. Assumes nothing.
+-- From the monitor's own answer to what the call returns and leaves; and the number that the header gives a new monitor. Assumes nothing.
 use Prim.Native.Nat.{ℕ}
-use mathlib.Core.Path.{_≡_, sym, ap, _∙_}
+use mathlib.Core.Path.{_≡_, refl, sym, ap, _∙_}
 use Rattle.power.specs.declared.Observation.{Observation}
 use Rattle.power.specs.declared.State as S
 use Rattle.power.specs.declared.Numbered.{Numbered}
@@ -9,7 +9,11 @@ use Rattle.power.specs.declared.Stepped.{Stepped}
 use Rattle.power.specs.States.{number, numbered}
 use Rattle.power.specs.Refusals.{refusal, stepOf}
 use Rattle.punnetcrest.specs.declared.powering.Observed.{Observed}
-use Rattle.punnetcrest.specs.Powering.{seenIn, inNumbers, steppedFrom, stepped}
+use Rattle.punnetcrest.specs.Powering.{startsAt, seenIn, inNumbers, steppedFrom, stepped}
+
+-- PC_POWER_START is PC_POWER_OFF, which is 0
+pub starts-at-0 : startsAt ≡ 0
+starts-at-0 = refl
 
 -- what the call does is told by the state that the number stands for
 pub told : (state : ℕ) (seen : Observed) {given from : Numbered} → given ≡ numbered state → given ≡ from → steppedFrom from state seen ≡ stepped state seen

@@ -5,10 +5,15 @@ use Rattle.power.specs.declared.Numbered.{Numbered}
 use Rattle.power.specs.declared.Numbered.the-variants.{State, NoState}
 use Rattle.power.specs.declared.Stepped.{Stepped}
 use Rattle.power.specs.States.{number, numbered}
+use Rattle.power.specs.Rules.{startsAs}
 use Rattle.power.specs.Refusals.{refusal, stepOf}
 use Rattle.punnetcrest.specs.declared.powering.Observed.{Observed}
 
--- *state is no state's number
+-- PC_POWER_START, the first *state: "A monitor starts off"
+abbrev pub startsAt : ℕ
+startsAt = number startsAs
+
+-- 91, the face's own refusal: *state is no state's number
 abbrev pub notAPowerState : ℕ
 notAPowerState = 91
 

@@ -1,7 +1,7 @@
 // The sleep watch, its state as two numbers.
 use crate::numbers;
 ghost use mathlib.Core.Path.{_≡_};
-ghost use Rattle.sleep.specs.Watching.{refusal, awakeAt};
+ghost use Rattle.sleep.specs.Watching.{refusal};
 ghost use Rattle.punnetcrest.specs.Sleeping.{started, watched};
 
 const NOT_A_SLEEP_STATE: u32 = 92;

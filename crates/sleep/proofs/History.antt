@@ -2,26 +2,26 @@
 use mathlib.Core.Path.{_≡_, refl}
 use mathlib.Core.Bool.{Bool, true, false, cond}
 use mathlib.Core.List.{List, [], _∷_}
-use Prim.Native.Nat.{ℕ, _+_, _-_, _≤_, _<_, _^_}
+use Prim.Native.Nat.{ℕ, _+_, _-_, _≤_, _<_}
 use native.Mathlib.Omega.{arith}
 use native.Mathlib.Nat.{sub-self}
 use borrow.Author.Tests.{le-leb, lt-leb, leb-true, leb-false}
 use lib.Dec.{leb}
 use Rattle.sleep.specs.declared.Answer.the-variants.{Taken}
-use Rattle.sleep.specs.Watching.{watchOf, awakeAt, outcome, age, sleepsAfter, afterCall}
+use Rattle.sleep.specs.Watching.{watchOf, awakeAt, outcome, circle, halfTheCircle, age, sleepsAfter, afterCall}
 use Rattle.sleep.specs.History.{Call, shown, timeAfter, lastWake, watchAfter, NoneRefused, Often, NoWake}
 
 -- the age of less than a whole turn is the time passed
-age-passed : (woken time : ℕ) → woken ≤ time → time - woken < 2 ^ 32 → age (shown time) (shown woken) ≡ time - woken
+age-passed : (woken time : ℕ) → woken ≤ time → time - woken < circle → age (shown time) (shown woken) ≡ time - woken
 age-passed woken time h l = omega arith
 
 -- one call: the watch holds what the clock showed at the last wake, and sleeps if 10,000 ms have passed
-module _ (woken time later : ℕ) (after : woken ≤ time) (soon : later ≤ 2 ^ 31 - sleepsAfter) where
+module _ (woken time later : ℕ) (after : woken ≤ time) (soon : later ≤ halfTheCircle - sleepsAfter) where
   true-age : leb sleepsAfter (time - woken) ≡ false → age (shown (time + later)) (shown woken) ≡ time + later - woken
   true-age awake = age-passed woken (time + later) (omega arith) (omega (arith, leb-false sleepsAfter (time - woken) awake))
 
-  not-back : leb sleepsAfter (time - woken) ≡ false → leb (2 ^ 31) (time + later - woken) ≡ false
-  not-back awake = lt-leb (2 ^ 31) (time + later - woken) (omega (arith, leb-false sleepsAfter (time - woken) awake))
+  not-back : leb sleepsAfter (time - woken) ≡ false → leb halfTheCircle (time + later - woken) ≡ false
+  not-back awake = lt-leb halfTheCircle (time + later - woken) (omega (arith, leb-false sleepsAfter (time - woken) awake))
 
   step : (wake : Bool)
       → afterCall (watchOf (shown woken) (leb sleepsAfter (time - woken))) (shown (time + later)) wake

@@ -1,18 +1,18 @@
 -- When a call is refused, by document 01's number, and that a refused call keeps the watch. Assumes nothing.
 use mathlib.Core.Path.{_≡_, refl}
 use mathlib.Core.Bool.{Bool, true, false, cond, not, _&&_}
-use Prim.Native.Nat.{ℕ, _^_}
+use Prim.Native.Nat.{ℕ}
 use native.Mathlib.Omega.{arith}
 use lib.Dec.{leb}
 use Rattle.sleep.specs.declared.Watch.{Watch}
 use Rattle.sleep.specs.declared.Answer.the-variants.{Taken, ClockWentBack}
-use Rattle.sleep.specs.Watching.{refusal, age, outcome, whileAsleep, whileAwake, afterCall}
+use Rattle.sleep.specs.Watching.{refusal, halfTheCircle, age, outcome, whileAsleep, whileAwake, afterCall}
 
 -- "while awake, an age of 2^31 or more is refusal 51, whether wake is on or off"; "While asleep no call is refused"
 pub refused : (w : Watch) (time : ℕ) (wake : Bool)
-    → refusal (afterCall w time wake .answer) ≡ cond (not (w .asleep) && leb (2 ^ 31) (age time (w .«last_wake»))) 51 0
+    → refusal (afterCall w time wake .answer) ≡ cond (not (w .asleep) && leb halfTheCircle (age time (w .«last_wake»))) 51 0
 unfolding afterCall
-refused w time wake = go (w .asleep) (leb (2 ^ 31) (age time (w .«last_wake»)))
+refused w time wake = go (w .asleep) (leb halfTheCircle (age time (w .«last_wake»)))
   where
     go : (a b : Bool)
         → refusal (cond a (whileAsleep w time wake) (cond b (outcome w ClockWentBack) (outcome (whileAwake w time wake) Taken)) .answer) ≡ cond (not a && b) 51 0
@@ -23,7 +23,7 @@ refused w time wake = go (w .asleep) (leb (2 ^ 31) (age time (w .«last_wake»))
 -- 51: "state kept"
 pub kept : (w : Watch) (time : ℕ) (wake : Bool) → refusal (afterCall w time wake .answer) ≡ 51 → afterCall w time wake .watch ≡ w
 unfolding afterCall
-kept w time wake = go (w .asleep) (leb (2 ^ 31) (age time (w .«last_wake»)))
+kept w time wake = go (w .asleep) (leb halfTheCircle (age time (w .«last_wake»)))
   where
     go : (a b : Bool)
         → refusal (cond a (whileAsleep w time wake) (cond b (outcome w ClockWentBack) (outcome (whileAwake w time wake) Taken)) .answer) ≡ 51

@@ -1,11 +1,11 @@
 -- Calls of the watch by a clock that never goes back. Time runs on without end; the clock shows its last 32 bits. Assumes nothing.
-use Prim.Native.Nat.{ℕ, _+_, _-_, _≤_, _%_, _^_}
+use Prim.Native.Nat.{ℕ, _+_, _-_, _≤_, _%_}
 use mathlib.Core.Bool.{Bool, false, cond}
 use mathlib.Core.List.{List, [], _∷_}
 use mathlib.Core.Path.{_≡_}
 use Rattle.sleep.specs.declared.Watch.{Watch}
 use Rattle.sleep.specs.declared.Answer.the-variants.{Taken}
-use Rattle.sleep.specs.Watching.{sleepsAfter, afterCall}
+use Rattle.sleep.specs.Watching.{circle, halfTheCircle, sleepsAfter, afterCall}
 
 -- a call comes some milliseconds after the call before it
 pub record Call : Type 0 where
@@ -14,7 +14,7 @@ pub record Call : Type 0 where
 
 -- what the clock shows
 abbrev pub shown : ℕ → ℕ
-shown time = time % 2 ^ 32
+shown time = time % circle
 
 -- the time after the calls, and the time of the last wake among them
 unfoldable pub timeAfter : ℕ → List Call → ℕ
@@ -39,7 +39,7 @@ NoneRefused w time (c ∷ more) =
 -- no two calls are so far apart (24 days) that an awake watch could take the later one for a clock that went back
 unfoldable pub Often : List Call → Type 0
 Often [] = Unit
-Often (c ∷ more) = (c .later ≤ 2 ^ 31 - sleepsAfter) × Often more
+Often (c ∷ more) = (c .later ≤ halfTheCircle - sleepsAfter) × Often more
 
 -- no wake source is on at any of the calls
 unfoldable pub NoWake : List Call → Type 0

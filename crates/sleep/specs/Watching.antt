@@ -23,15 +23,23 @@ outcome w a = record { watch = w; answer = a }
 abbrev pub awakeAt : ℕ → Watch
 awakeAt time = watchOf time false
 
+-- "the 32-bit circle": after so many milliseconds the clock shows the same time again
+abbrev pub circle : ℕ
+circle = 2 ^ 32
+
+-- from this age on the clock is taken to have gone back
+abbrev pub halfTheCircle : ℕ
+halfTheCircle = 2 ^ 31
+
 -- "The age is taken round the 32-bit circle, now minus last wake"
 abbrev pub age : ℕ → ℕ → ℕ
-age time lastWake = (time + 2 ^ 32 - lastWake) % 2 ^ 32
+age time lastWake = (time + circle - lastWake) % circle
 
 -- "asleep from age 10,000 on"
 abbrev pub sleepsAfter : ℕ
 sleepsAfter = 10000
 
--- "While asleep no call is refused, and a wake-off call changes nothing"
+-- "it stays asleep until wake is on. While asleep no call is refused, and a wake-off call changes nothing"
 abbrev pub whileAsleep : Watch → ℕ → Bool → Updated
 whileAsleep w time wake = outcome (cond wake (awakeAt time) w) Taken
 
@@ -43,4 +51,4 @@ whileAwake w time wake = cond wake (awakeAt time) (watchOf (w .«last_wake») (l
 unfoldable pub afterCall : Watch → ℕ → Bool → Updated
 afterCall w time wake =
     cond (w .asleep) (whileAsleep w time wake)
-    (cond (leb (2 ^ 31) (age time (w .«last_wake»))) (outcome w ClockWentBack) (outcome (whileAwake w time wake) Taken))
+    (cond (leb halfTheCircle (age time (w .«last_wake»))) (outcome w ClockWentBack) (outcome (whileAwake w time wake) Taken))

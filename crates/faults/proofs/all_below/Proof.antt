@@ -4,14 +4,14 @@ use mathlib.Core.Path.{_≡_, refl}
 use mathlib.Core.Bool.{_&&_}
 use borrow.Author.Needs.{needs}
 use Rattle.faults.specs.Rows.{rows}
-use Rattle.faults.specs.Counts.{below, every}
-use Rattle.faults.proofs.Loops.{every-next, every-end}
+use Rattle.faults.specs.Counts.{below, allOf}
+use Rattle.faults.proofs.Loops.{all-next, all-end}
 use Rattle.faults.proofs.all_below.Statement.{statement}
 use Rattle.faults.proofs.all_below.Tie as tie
 
 abbrev Inv-loop : tie.InvT-loop
 Inv-loop counts from to limit all₀ row₀ all row =
-    (from ≤ row) × (all && every (below counts limit) (rows row to) ≡ every (below counts limit) (rows from to))
+    (from ≤ row) × (all && allOf (below counts limit) (rows row to) ≡ allOf (below counts limit) (rows from to))
 
 abbrev μ-loop : tie.MeasureT-loop
 μ-loop counts from to limit all₀ row₀ all row = to + 1 - row
@@ -31,12 +31,12 @@ loop-less c = search needs
 loop-again : tie.Need-loop-again Inv-loop μ-loop
 loop-again c = (
   search needs,
-  every-next _ _ (search needs) (below (c .before .before .before .before .args .counts .now) (c .before .before .before .before .args .limit)) (c .before .before .loop .all) _ _
+  all-next _ _ (search needs) (below (c .before .before .before .before .args .counts .now) (c .before .before .before .before .args .limit)) (c .before .before .loop .all) _ _
       (c .before .before .loop .inv .1) (simp (c .count-at .ensures)),
 )
 
 returns : tie.Need-returns Inv-loop μ-loop
-returns c = every-end _ _ (search needs) (below (c .before .before .before .args .counts .now) (c .before .before .before .args .limit)) _ _ (c .before .loop .inv .1)
+returns c = all-end _ _ (search needs) (below (c .before .before .before .args .counts .now) (c .before .before .before .args .limit)) _ _ (c .before .loop .inv .1)
 
 pub all-below-spec : {M : Type 1} → statement M
 all-below-spec =

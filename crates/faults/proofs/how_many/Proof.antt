@@ -2,7 +2,7 @@
 use Prim.Native.Nat.{_+_, _-_, _≤_}
 use mathlib.Core.Path.{_≡_, _∙_}
 use borrow.Author.Needs.{needs}
-use Rattle.faults.specs.Rows.{rows}
+use Rattle.faults.specs.Rows.{rowCount, rows}
 use Rattle.faults.specs.Counts.{standsAt, howMany}
 use Rattle.faults.proofs.Loops.{many-next, many-end}
 use Rattle.faults.proofs.how_many.Statement.{statement}
@@ -10,7 +10,7 @@ use Rattle.faults.proofs.how_many.Tie as tie
 
 abbrev Inv-loop : tie.InvT-loop
 Inv-loop counts from to wanted n₀ row₀ n row =
-    ((from ≤ row) × ((n ≤ row - from) × (n ≤ 27))) × (n + howMany (standsAt counts wanted) (rows row to) ≡ howMany (standsAt counts wanted) (rows from to))
+    ((from ≤ row) × ((n ≤ row - from) × (n ≤ rowCount))) × (n + howMany (standsAt counts wanted) (rows row to) ≡ howMany (standsAt counts wanted) (rows from to))
 
 abbrev μ-loop : tie.MeasureT-loop
 μ-loop counts from to wanted n₀ row₀ n row = to + 1 - row

@@ -9,33 +9,9 @@ returns : tie.Need-returns
 unfolding answerTo
 returns c = simp (ne-eqb _ _ (c .if1 .taken))
 
-all-fit-requires : tie.Need-all-fit-requires
-all-fit-requires c κs = search needs
-
 returns-2 : tie.Need-returns-2
 unfolding answerTo
 returns-2 c = simp (eq-eqb _ _ (c .before .before .if1 .left), ← c .before .all-fit .ensures, not-true (c .before .all-fit .result) (c .if2 .taken))
-
-highest-level-requires : tie.Need-highest-level-requires
-highest-level-requires c κs = search needs
-
-levels-at-requires : tie.Need-levels-at-requires
-levels-at-requires c κs = search needs
-
-levels-at-requires-2 : tie.Need-levels-at-requires-2
-levels-at-requires-2 c κs = search needs
-
-levels-at-requires-3 : tie.Need-levels-at-requires-3
-levels-at-requires-3 c κs = search needs
-
-one-bit-faults-requires : tie.Need-one-bit-faults-requires
-one-bit-faults-requires c κs = search needs
-
-is-emergency-requires : tie.Need-is-emergency-requires
-is-emergency-requires c κs = search needs
-
-count-at-requires : tie.Need-count-at-requires
-count-at-requires c κs = search needs
 
 returns-3 : tie.Need-returns-3
 unfolding answerTo
@@ -47,13 +23,13 @@ sum-spec =
     tie.close
     (tie.spec
     returns
-    all-fit-requires
+    (λ c κs. search needs)
     returns-2
-    highest-level-requires
-    levels-at-requires
-    levels-at-requires-2
-    levels-at-requires-3
-    one-bit-faults-requires
-    is-emergency-requires
-    count-at-requires
+    (λ c κs. search needs)
+    (λ c κs. search needs)
+    (λ c κs. search needs)
+    (λ c κs. search needs)
+    (λ c κs. search needs)
+    (λ c κs. search needs)
+    (λ c κs. search needs)
     returns-3)

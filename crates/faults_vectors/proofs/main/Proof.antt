@@ -12,93 +12,30 @@ Inv-loop head₀ line₀ lines₀ head line lines = ((length head ≡ 2) × (len
 abbrev μ-loop : tie.MeasureT-loop
 μ-loop head₀ line₀ lines₀ head line lines = 1000000 - lines
 
-loop-holds : tie.Need-loop-holds Inv-loop μ-loop
-loop-holds c = search needs
-
-add-lines : tie.Need-add-lines Inv-loop μ-loop
-add-lines c = search needs
-
-slice-aggregate-read-full : tie.Need-slice-aggregate-read-full Inv-loop μ-loop
-slice-aggregate-read-full c = search needs
-
-read-full-requires : tie.Need-read-full-requires Inv-loop μ-loop
-read-full-requires c κs = search needs
-
-returns : tie.Need-returns Inv-loop μ-loop
-returns c = search needs
-
-array-read-t13 : tie.Need-array-read-t13 Inv-loop μ-loop
-array-read-t13 c = search needs
-
-array-read-t16 : tie.Need-array-read-t16 Inv-loop μ-loop
-array-read-t16 c = search needs
-
-slice-aggregate-hex : tie.Need-slice-aggregate-hex Inv-loop μ-loop
-slice-aggregate-hex c = search needs
-
-hex-requires : tie.Need-hex-requires Inv-loop μ-loop
-hex-requires c κs = search needs
-
-cast-n : tie.Need-cast-n Inv-loop μ-loop
-cast-n c = search needs
-
-returns-2 : tie.Need-returns-2 Inv-loop μ-loop
-returns-2 c = search needs
-
-slice-aggregate-read-first : tie.Need-slice-aggregate-read-first Inv-loop μ-loop
-slice-aggregate-read-first c = search needs
-
-mul-read-first : tie.Need-mul-read-first Inv-loop μ-loop
-mul-read-first c = search needs
-
-add-read-first : tie.Need-add-read-first Inv-loop μ-loop
-add-read-first c = search needs
-
-read-first-requires : tie.Need-read-first-requires Inv-loop μ-loop
-read-first-requires c κs = search needs
-
-counts-on-requires : tie.Need-counts-on-requires Inv-loop μ-loop
-counts-on-requires c κs = search needs
-
-slice-aggregate-sum-first : tie.Need-slice-aggregate-sum-first Inv-loop μ-loop
-slice-aggregate-sum-first c = search needs
-
-sum-first-requires : tie.Need-sum-first-requires Inv-loop μ-loop
-sum-first-requires c κs = search needs
-
-loop-less : tie.Need-loop-less Inv-loop μ-loop
-loop-less c = search needs
-
-loop-again : tie.Need-loop-again Inv-loop μ-loop
-loop-again c = search needs
-
-returns-3 : tie.Need-returns-3 Inv-loop μ-loop
-returns-3 c = search needs
-
 pub main-spec : {M : Type 1} → statement M
 main-spec =
     tie.close
     (tie.spec
     Inv-loop
     μ-loop
-    loop-holds
-    add-lines
-    slice-aggregate-read-full
-    read-full-requires
-    returns
-    array-read-t13
-    array-read-t16
-    slice-aggregate-hex
-    hex-requires
-    cast-n
-    returns-2
-    slice-aggregate-read-first
-    mul-read-first
-    add-read-first
-    read-first-requires
-    counts-on-requires
-    slice-aggregate-sum-first
-    sum-first-requires
-    loop-less
-    loop-again
-    returns-3)
+    (λ c. search needs)
+    (λ c. search needs)
+    (λ c. search needs)
+    (λ c κs. search needs)
+    (λ c. search needs)
+    (λ c. search needs)
+    (λ c. search needs)
+    (λ c. search needs)
+    (λ c κs. search needs)
+    (λ c. search needs)
+    (λ c. search needs)
+    (λ c. search needs)
+    (λ c. search needs)
+    (λ c. search needs)
+    (λ c κs. search needs)
+    (λ c κs. search needs)
+    (λ c. search needs)
+    (λ c κs. search needs)
+    (λ c. search needs)
+    (λ c. search needs)
+    (λ c. search needs))
