@@ -7,12 +7,12 @@ use Prim.Native.Nat.{ℕ, _+_, _≤_, _<_}
 use lib.ListN.{length, getD, take}
 use Rattle.books.specs.Book.{Placement, Message}
 use Rattle.books.specs.Words.{messagesOf}
-use Rattle.bits.specs.Frame.{frameBit}
+use Rattle.bits.specs.Frame.{frameBytes, frameBit}
 use Rattle.catalogue.specs.Find.{bitsOf}
 use Rattle.framing.specs.declared.Reading.{Reading}
 use Rattle.framing.specs.declared.Reading.the-variants.{Read}
 use Rattle.framing.specs.declared.Packing.the-variants.{Packed}
-use Rattle.framing.specs.Messages.{frameBytes, checksumNumber, messageOf}
+use Rattle.framing.specs.Messages.{checksumNumber, messageOf}
 use Rattle.framing.specs.Reading.{Slices, room, reading}
 use Rattle.framing.specs.Packing.{packing}
 use Rattle.framing.specs.Packed.{Unplaced}

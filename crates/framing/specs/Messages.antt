@@ -12,10 +12,6 @@ use Rattle.catalogue.specs.Find.{bitsOf}
 use Rattle.catalogue.specs.Class.{classOf}
 use Rattle.catalogue.specs.declared.Class.{Class}
 
--- a frame has 8 bytes
-abbrev pub frameBytes : ℕ
-frameBytes = 8
-
 -- the checksum is signal 503; by house rule it sits at start 60, and it has 4 bits
 abbrev pub checksumNumber : ℕ
 checksumNumber = 503

@@ -5,10 +5,10 @@ use mathlib.Core.List.{List, [], _∷_}
 use Prim.Native.Nat.{ℕ, _+_, _≤_, _<_}
 use lib.ListN.{length, getD}
 use Rattle.books.specs.Book.{Placement, Message}
-use Rattle.bits.specs.Frame.{frameBit}
+use Rattle.bits.specs.Frame.{frameBytes, frameBit}
 use Rattle.bits.specs.Checksum.{checksumOf}
 use Rattle.catalogue.specs.Find.{bitsOf}
-use Rattle.framing.specs.Messages.{frameBytes, checksumNumber, countOf}
+use Rattle.framing.specs.Messages.{checksumNumber, countOf}
 
 -- each placement but that of 503 has its value in the frame
 unfoldable pub Carries : List ℕ → List Placement → List ℕ → Type 0

@@ -8,6 +8,7 @@ use lib.Dec.{eqb, leb}
 use lib.ListN.{length}
 use Rattle.books.specs.Book.{Placement, Message}
 use Rattle.books.specs.Words.{messagesOf, messagesTaken}
+use Rattle.bits.specs.Frame.{frameBytes}
 use Rattle.bits.specs.Word.{bytesOf, placed}
 use Rattle.bits.specs.Checksum.{checksumOf}
 use Rattle.catalogue.specs.Find.{bitsOf}
@@ -16,7 +17,7 @@ use Rattle.catalogue.specs.declared.Class.{Class}
 use Rattle.catalogue.specs.declared.Class.the-variants as Of
 use Rattle.framing.specs.declared.Packing.{Packing}
 use Rattle.framing.specs.declared.Packing.the-variants.{Packed, NotABook, UnknownIdentifier, WrongCountOfValues, NotEightBytes, TooWide, ReservedOrOutside}
-use Rattle.framing.specs.Messages.{frameBytes, checksumNumber, checksumStart, checksumBits, messageOf, placesChecksum}
+use Rattle.framing.specs.Messages.{checksumNumber, checksumStart, checksumBits, messageOf, placesChecksum}
 
 -- document 01's number for each answer; 0 is no refusal
 abbrev pub packingNumber : Packing → ℕ

@@ -8,10 +8,11 @@ use Prim.Native.Nat.{ℕ}
 use native.Mathlib.Omega.{arith}
 use lib.Dec.{eqb, leb}
 use lib.ListN.{length}
+use Rattle.bits.specs.Frame.{frameBytes}
 use Rattle.books.specs.Book.{Placement, Message}
 use Rattle.framing.specs.declared.Reading.{Reading}
 use Rattle.framing.specs.declared.Reading.the-variants.{Read, NotABook, NotEightBytes, UnknownIdentifier, WrongChecksum, TooLittleRoom}
-use Rattle.framing.specs.Messages.{frameBytes, messageOf}
+use Rattle.framing.specs.Messages.{messageOf}
 use Rattle.framing.specs.Reading.{Slices, readingNumber, checksumHolds, room, readings, readByMessage, readByMessages}
 use Rattle.signal_lines.specs.Printed.{refusedLine}
 use Rattle.listing.specs.Printout.{signalLines, messageLines, frameListing}

@@ -8,6 +8,7 @@ use native.Mathlib.Omega.{arith}
 use lib.Dec.{eqb}
 use lib.ListN.{length, getD, drop, length-take}
 use borrow.Author.Tests.{eq-eqb, ne-eqb}
+use Rattle.bits.specs.Frame.{frameBytes}
 use Rattle.bits.specs.Word.{Fits, wordOf, bytesOf}
 use Rattle.bits.proofs.Weights.{Bytes, read-bytes, word-bytes}
 use Rattle.books.specs.Book.{Placement, Message}
@@ -23,7 +24,7 @@ use Rattle.frames.specs.declared.lookup.Found.the-variants.{Signals, Nothing}
 use Rattle.messages.specs.Signals.{AllFit, classFrom, checkHolds, messageFrom}
 use Rattle.messages.proofs.Readings.{check-same}
 use Rattle.framing.specs.declared.Reading.the-variants.{NotEightBytes, UnknownIdentifier, WrongChecksum}
-use Rattle.framing.specs.Messages.{frameBytes, messageOf, classIn}
+use Rattle.framing.specs.Messages.{messageOf, classIn}
 use Rattle.framing.specs.Reading.{readingNumber, checksumHolds}
 use Rattle.printing.specs.Put.{Put, PutWithin}
 use Rattle.record.specs.Columns.{numbersOf, startsOf}

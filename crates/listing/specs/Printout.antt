@@ -5,10 +5,11 @@ use mathlib.Core.Option.{Option, none, some}
 use Prim.Native.Nat.{ℕ}
 use lib.Dec.{eqb}
 use lib.ListN.{length}
+use Rattle.bits.specs.Frame.{frameBytes}
 use Rattle.books.specs.Book.{Placement, Message}
 use Rattle.frame_lines.specs.Meaning.{Said, frame, illFormed, frameLineSays}
 use Rattle.framing.specs.declared.Reading.the-variants.{NotEightBytes, UnknownIdentifier, WrongChecksum}
-use Rattle.framing.specs.Messages.{frameBytes, messageOf, classIn}
+use Rattle.framing.specs.Messages.{messageOf, classIn}
 use Rattle.framing.specs.Reading.{readingNumber, checksumHolds}
 use Rattle.signal_lines.specs.Printed.{signalLine, refusedLine, illFormedLine}
 
