@@ -5,11 +5,11 @@ use Prim.Native.Nat.{ℕ, zero, suc, _+_, _-_, _*_, _/_, _%_, _^_, _≤_}
 use lib.ListN.{getD}
 use Rattle.bits.specs.Frame.{frameBytes}
 
--- a signal of b bits at start s lies within a frame
+-- a signal of b bits, 1 to 32, at start s lies within a frame, whose bytes have 8 bits each
 pub record Fits (s b : ℕ) : Type 0 where
   pub some : 1 ≤ b
   pub most : b ≤ 32
-  pub inside : s + b ≤ 64
+  pub inside : s + b ≤ 8 * frameBytes
 
 -- n bytes of a frame from byte i on, as one number, byte i lowest
 unfoldable pub wordFrom : List ℕ → ℕ → ℕ → ℕ

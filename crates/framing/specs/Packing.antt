@@ -7,6 +7,7 @@ use Prim.Native.Nat.{ℕ, _-_, _^_}
 use lib.Dec.{eqb, leb}
 use lib.ListN.{length}
 use Rattle.books.specs.Book.{Placement, Message}
+use Rattle.books.specs.Lines.{frameBits}
 use Rattle.books.specs.Words.{messagesOf, messagesTaken}
 use Rattle.bits.specs.Frame.{frameBytes}
 use Rattle.bits.specs.Word.{bytesOf, placed}
@@ -50,9 +51,9 @@ judged (p ∷ ps) (v ∷ vs) =
     (cond (packable (classOf (p .number) (record { 0 = v }))) (judged ps vs)
     ReservedOrOutside))
 
--- every bit 1
+-- the word of a frame whose every bit is 1
 abbrev pub allOnes : ℕ
-allOnes = 2 ^ 64 - 1
+allOnes = 2 ^ frameBits - 1
 
 -- the word w with each value but that of 503 at its place
 unfoldable pub put : ℕ → List Placement → List ℕ → ℕ
