@@ -58,3 +58,9 @@ frameLineSays l = ofFrameFields (fields l)
 abbrev pub told : Said → FrameLine
 told (frame i bytes) = cond (eqb (length bytes) frameBytes) (Frame i (wordOf bytes)) (NotEightBytes i)
 told illFormed = IllFormed
+
+-- document 01's number of each answer; 0 is no refusal
+abbrev pub refusal : FrameLine → ℕ
+refusal (Frame identifier word) = 0
+refusal (NotEightBytes identifier) = 21
+refusal IllFormed = 20

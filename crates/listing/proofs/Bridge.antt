@@ -16,22 +16,23 @@ use Rattle.books.specs.Words.{placed, messagesOf}
 use Rattle.catalogue.specs.declared.Class.{Class}
 use Rattle.catalogue.specs.Find.{bitsOf}
 use Rattle.catalogue.specs.Class.{classOf}
-use Rattle.frame_lines.specs.Meaning.{Said, frame, illFormed, frameLineSays}
+use Rattle.frame_lines.specs.declared.FrameLine.the-variants.{NotEightBytes}
+use Rattle.frame_lines.specs.Meaning.{Said, frame, illFormed, frameLineSays, refusal}
 use Rattle.frame_lines.proofs.Behind.{SaysFrame, SaysFewer}
 use Rattle.frames.specs.Lookup.{Spans, Finds, part}
 use Rattle.frames.specs.declared.lookup.Found.{Found}
 use Rattle.frames.specs.declared.lookup.Found.the-variants.{Signals, Nothing}
 use Rattle.messages.specs.Signals.{AllFit, classFrom, checkHolds, messageFrom}
 use Rattle.messages.proofs.Readings.{check-same}
-use Rattle.framing.specs.declared.Reading.the-variants.{NotEightBytes, UnknownIdentifier, WrongChecksum}
+use Rattle.framing.specs.declared.Reading.the-variants.{UnknownIdentifier, WrongChecksum}
 use Rattle.framing.specs.Messages.{messageOf, classIn}
 use Rattle.framing.specs.Reading.{readingNumber, checksumHolds}
 use Rattle.printing.specs.Put.{Put, PutWithin}
 use Rattle.record.specs.Columns.{numbersOf, startsOf}
 use Rattle.record.specs.Limits.{signals}
-use Rattle.signal_lines.specs.Printed.{signalLine, refusedLine, illFormedLine}
+use Rattle.signal_lines.specs.Printed.{signalLine, refusedLine, illFormedLine, lineRoom}
 use Rattle.listing.specs.Printout.{signalLines, messageLines, frameListing, printed, printout}
-use Rattle.listing.specs.Working.{lineRoom, longest, wordLines, messageText, Listable}
+use Rattle.listing.specs.Working.{longest, wordLines, messageText, Listable}
 
 -- ---- the word and the frame
 
@@ -126,7 +127,7 @@ module _ {old new : List ℕ} {at next : ℕ} where
         (rw (s .said, eq-eqb (length (s .bytes)) frameBytes (s .eight)) (ap (λ (f : List ℕ). messageLines identifier f (messageOf identifier ms)) bytes))
         p
 
-    pub line-fewer : {identifier : ℕ} → SaysFewer l identifier → PutWithin old at lineRoom (refusedLine identifier (readingNumber NotEightBytes)) new next
+    pub line-fewer : {identifier : ℕ} → SaysFewer l identifier → PutWithin old at lineRoom (refusedLine identifier (refusal (NotEightBytes identifier))) new next
         → PutWithin old at longest (printout ms l) new next
     unfolding printout frameListing
     line-fewer s p = wider lineRoom longest (omega arith) (rw (s .said, ne-eqb (length (s .bytes)) frameBytes (s .other))) p

@@ -12,7 +12,7 @@ use Rattle.messages.specs.Signals.{AllFit, classFrom, checkHolds}
 use Rattle.framing.specs.declared.Reading.the-variants.{WrongChecksum}
 use Rattle.framing.specs.Reading.{readingNumber}
 use Rattle.record.specs.Limits.{signals}
-use Rattle.signal_lines.specs.Printed.{signalLine, refusedLine}
+use Rattle.signal_lines.specs.Printed.{signalLine, refusedLine, lineRoom}
 use Rattle.listing.specs.declared.Fitted.{Fitted}
 use Rattle.listing.specs.declared.Fitted.the-variants.{Next, NoRoom}
 
@@ -21,12 +21,9 @@ unfoldable pub wordLines : ℕ → ℕ → List Placement → List ℕ
 wordLines identifier word [] = []
 wordLines identifier word (p ∷ ps) = signalLine identifier (p .number) (classFrom word p) ++ wordLines identifier word ps
 
--- no printed line is longer, and a message has at most 256 signals, so no printout is longer than 256 lines
-abbrev pub lineRoom : ℕ
-lineRoom = 64
-
+-- a message has at most 256 signals, so no printout is longer than 256 lines
 abbrev pub longest : ℕ
-longest = 16384
+longest = signals * lineRoom
 
 -- numbers and starts of placements that lie within the frame, and room for their lines
 pub record Roomy (out : List ℕ) (at : ℕ) (ns ss : List ℕ) : Type 0 where
