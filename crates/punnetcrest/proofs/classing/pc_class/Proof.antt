@@ -19,6 +19,9 @@ returns c = rw (c .before .refusal-of .ensures) (class-refused _ _ _ _ (c .befor
 code-of-requires : tie.Need-code-of-requires
 code-of-requires c κs = search needs
 
+cast-class-code : tie.Need-cast-class-code
+cast-class-code c = search needs
+
 thousandths-of-requires : tie.Need-thousandths-of-requires
 thousandths-of-requires c κs = search needs
 
@@ -34,5 +37,6 @@ pc-class-spec =
     refusal-of-requires
     returns
     code-of-requires
+    cast-class-code
     thousandths-of-requires
     returns-2)
