@@ -1,5 +1,7 @@
 -- Packing a frame by a book: refusals 12, 22, 25, 21, then the first bad position, 26 before 27 (503 is skipped), each leaving the lent
--- frame as it was; otherwise every count at its place, the checksum last, and 1 in every other bit. Assumes nothing: these are definitions.
+-- frame as it was; otherwise every count at its place, the checksum last, and 1 in every other bit. specs/Packed.antt says bit by bit
+-- what that frame is; proofs/Sent.antt and proofs/PackedOnce.antt show that it is this one and no other. Assumes nothing: these are
+-- definitions.
 use mathlib.Core.Bool.{Bool, true, false, cond}
 use mathlib.Core.List.{List, [], _∷_}
 use mathlib.Core.Option.{Option, none, some}
