@@ -1,8 +1,11 @@
--- Bits in a frame, in document 01's words. A frame is a list of bytes, byte 0 first.
--- Assumes nothing.
+-- Bits in a frame, in document 01's words. A frame is a list of bytes, byte 0 first. Assumes nothing.
 use mathlib.Core.List.{List}
 use Prim.Native.Nat.{ℕ, zero, suc, _+_, _*_, _/_, _%_, _^_}
 use lib.ListN.{getD}
+
+-- "Bytes are 0 to 7"
+abbrev pub frameBytes : ℕ
+frameBytes = 8
 
 -- frame bit k: bit k mod 8 (weight 2^(k mod 8)) of byte k div 8
 abbrev pub frameBit : List ℕ → ℕ → ℕ

@@ -3,12 +3,13 @@
 use mathlib.Core.List.{List, [], _∷_}
 use Prim.Native.Nat.{ℕ, zero, suc, _+_, _-_, _*_, _/_, _%_, _^_, _≤_}
 use lib.ListN.{getD}
+use Rattle.bits.specs.Frame.{frameBytes}
 
--- a signal of b bits at start s lies within a frame
+-- a signal of b bits, 1 to 32, at start s lies within a frame, whose bytes have 8 bits each
 pub record Fits (s b : ℕ) : Type 0 where
   pub some : 1 ≤ b
   pub most : b ≤ 32
-  pub inside : s + b ≤ 64
+  pub inside : s + b ≤ 8 * frameBytes
 
 -- n bytes of a frame from byte i on, as one number, byte i lowest
 unfoldable pub wordFrom : List ℕ → ℕ → ℕ → ℕ
@@ -17,7 +18,7 @@ wordFrom frame i (suc n) = getD frame i 0 + 256 * wordFrom frame (suc i) n
 
 -- the eight bytes of a frame as one number
 unfoldable pub wordOf : List ℕ → ℕ
-wordOf frame = wordFrom frame 0 8
+wordOf frame = wordFrom frame 0 frameBytes
 
 -- the n lowest bytes of a number, the lowest first
 unfoldable pub bytesFrom : ℕ → ℕ → List ℕ
@@ -26,7 +27,7 @@ bytesFrom (suc n) w = w % 256 ∷ bytesFrom n (w / 256)
 
 -- the frame of a number
 abbrev pub bytesOf : ℕ → List ℕ
-bytesOf w = bytesFrom 8 w
+bytesOf w = bytesFrom frameBytes w
 
 -- b bits of a number from bit s on
 unfoldable pub fieldOf : ℕ → ℕ → ℕ → ℕ

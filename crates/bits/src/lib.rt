@@ -7,6 +7,7 @@
 ghost use mathlib.Core.Path.{_≡_};
 ghost use Prim.Native.Nat.{_+_, _%_, _^_, _<_};
 ghost use lib.ListN.{length};
+ghost use Rattle.bits.specs.Frame.{frameBytes};
 ghost use Rattle.bits.specs.Word.{Fits, wordOf, bytesOf, fieldOf, placed};
 ghost use Rattle.bits.specs.Checksum.{checksumOf, bytesAdded, identifierAdded, folded};
 
@@ -18,7 +19,7 @@ fn wide(x: u8) -> u64
 
 // Eight bytes as one number, byte 0 lowest.
 pub fn load(frame: &[u8]) -> u64
-    requires { ⌜ length (now frame) ≡ 8 ⌝ }
+    requires { ⌜ length (now frame) ≡ frameBytes ⌝ }
     ensures { λ r. ⌜ r ≡ wordOf (now (frame .entry)) ⌝ }
 {
     wide(frame[0])
@@ -67,7 +68,7 @@ pub fn place(word: u64, start: u32, bits: u32, count: u32) -> u64
 
 // The eight bytes of a number into a lent frame, the lowest first.
 pub fn store(word: u64, frame: &mut [u8])
-    requires { ⌜ length (now frame) ≡ 8 ⌝ }
+    requires { ⌜ length (now frame) ≡ frameBytes ⌝ }
     ensures { λ r. ⌜ now (frame .exit) ≡ bytesOf word ⌝ }
 {
     let w1 = word / 256;

@@ -11,10 +11,11 @@ use Rattle.numerals.specs.declared.Number.{Number}
 use Rattle.numerals.specs.declared.Number.the-variants.{Is, Not}
 use Rattle.numerals.specs.Numeral.{identifier}
 use Rattle.parts.specs.Parts.{fields}
+use Rattle.bits.specs.Frame.{frameBytes}
 use Rattle.bits.specs.Word.{wordOf}
 use Rattle.frame_lines.specs.declared.FrameLine.{FrameLine}
 use Rattle.frame_lines.specs.declared.FrameLine.the-variants.{Frame, NotEightBytes, IllFormed}
-use Rattle.frame_lines.specs.Meaning.{Said, frame, illFormed, frameBytes, allDigits, areBytes, bytesIn, saidBy, ofFrameFields, frameLineSays, told}
+use Rattle.frame_lines.specs.Meaning.{Said, frame, illFormed, allDigits, areBytes, bytesIn, saidBy, ofFrameFields, frameLineSays, told}
 use Rattle.frame_lines.proofs.Digits.{bytes-small}
 
 -- every byte that a line says is one

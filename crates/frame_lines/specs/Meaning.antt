@@ -9,6 +9,7 @@ use Rattle.numerals.specs.declared.Number.{Number}
 use Rattle.numerals.specs.declared.Number.the-variants.{Is, Not}
 use Rattle.numerals.specs.Numeral.{digitValue, identifier}
 use Rattle.parts.specs.Parts.{fields}
+use Rattle.bits.specs.Frame.{frameBytes}
 use Rattle.bits.specs.Word.{wordOf}
 use Rattle.frame_lines.specs.declared.FrameLine.{FrameLine}
 use Rattle.frame_lines.specs.declared.FrameLine.the-variants.{Frame, NotEightBytes, IllFormed}
@@ -18,12 +19,9 @@ pub data Said : Type 0 where
   frame : ℕ → List ℕ → Said
   illFormed : Said
 
--- a frame has 8 bytes, so a line has at most 16 digits
-abbrev pub frameBytes : ℕ
-frameBytes = 8
-
+-- two digits for each byte of a frame: 16
 abbrev pub frameDigits : ℕ
-frameDigits = 16
+frameDigits = 2 * frameBytes
 
 -- each byte is a digit 0-9 A-F
 unfoldable pub allDigits : List ℕ → Bool
@@ -60,3 +58,9 @@ frameLineSays l = ofFrameFields (fields l)
 abbrev pub told : Said → FrameLine
 told (frame i bytes) = cond (eqb (length bytes) frameBytes) (Frame i (wordOf bytes)) (NotEightBytes i)
 told illFormed = IllFormed
+
+-- document 01's number of each answer; 0 is no refusal
+abbrev pub refusal : FrameLine → ℕ
+refusal (Frame identifier word) = 0
+refusal (NotEightBytes identifier) = 21
+refusal IllFormed = 20

@@ -10,6 +10,7 @@ ghost use mathlib.Core.Path.{_≡_};
 ghost use mathlib.Core.Bool.{true};
 ghost use Prim.Native.Nat.{_<_};
 ghost use lib.ListN.{length, getD};
+ghost use Rattle.bits.specs.Frame.{frameBytes};
 ghost use Rattle.bits.specs.Word.{wordOf};
 ghost use Rattle.frame_lines.specs.Meaning.{frameDigits, allDigits, bytesIn, told, saidBy, frameLineSays};
 
@@ -42,7 +43,7 @@ fn all_digits(s: &[u8]) -> bool
 
 // Byte i of the frame that 16 digits write.
 fn byte_at(s: &[u8], i: usize) -> u64
-    requires { ⌜ (length (now s) ≡ frameDigits) × (allDigits (now s) ≡ true) × (i < 8) ⌝ }
+    requires { ⌜ (length (now s) ≡ frameDigits) × (allDigits (now s) ≡ true) × (i < frameBytes) ⌝ }
     ensures { λ r. ⌜ (r ≡ getD (bytesIn (now (s .entry))) i 0) × (r < 256) ⌝ }
 {
     16 * digit(s[2 * i]) + digit(s[2 * i + 1])

@@ -6,6 +6,7 @@ use mathlib.Core.Option.{none, some}
 use Prim.Native.Nat.{ℕ, _-_, _<_}
 use lib.ListN.{length, getD}
 use borrow.Author.Tests.{eq-eqb, ne-eqb}
+use Rattle.bits.specs.Frame.{frameBytes}
 use Rattle.bits.specs.Word.{wordOf, bytesOf}
 use Rattle.bits.proofs.Weights.{word-bytes}
 use Rattle.books.specs.Book.{Message}
@@ -14,7 +15,7 @@ use Rattle.framing.specs.declared.Reading.{Reading}
 use Rattle.framing.specs.declared.Reading.the-variants as Read
 use Rattle.framing.specs.declared.Packing.{Packing}
 use Rattle.framing.specs.declared.Packing.the-variants as Pack
-use Rattle.framing.specs.Messages.{frameBytes, messageOf}
+use Rattle.framing.specs.Messages.{messageOf}
 use Rattle.framing.specs.Reading.{Slices, readByMessage, readByMessages, reading}
 use Rattle.framing.specs.Packing.{packByMessage, packing}
 use Rattle.record.specs.Columns.{numbersOf, startsOf}

@@ -13,7 +13,8 @@ use Rattle.books.specs.Words.{messagesOf, messagesTaken}
 use Rattle.framing.specs.declared.Reading.the-variants.{Read, NotABook, NotEightBytes, UnknownIdentifier, WrongChecksum, TooLittleRoom}
 use Rattle.framing.specs.declared.Packing.{Packing}
 use Rattle.framing.specs.declared.Packing.the-variants as Pack
-use Rattle.framing.specs.Messages.{frameBytes, messageOf}
+use Rattle.bits.specs.Frame.{frameBytes}
+use Rattle.framing.specs.Messages.{messageOf}
 use Rattle.framing.specs.Reading.{Slices, checksumHolds, room, readings, readByMessage, readByMessages, reading, readingNumber}
 use Rattle.framing.specs.Packing.{judged, packedFrame, packByMessage, packing, packingNumber}
 

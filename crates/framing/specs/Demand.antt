@@ -6,15 +6,16 @@ use mathlib.Core.Option.{some}
 use Prim.Native.Nat.{ℕ, _+_, _≤_, _<_}
 use lib.ListN.{length, getD, take}
 use Rattle.books.specs.Book.{Placement, Message}
+use Rattle.books.specs.Lines.{frameBits}
 use Rattle.books.specs.Words.{messagesOf}
-use Rattle.bits.specs.Frame.{frameBit}
+use Rattle.bits.specs.Frame.{frameBytes, frameBit}
 use Rattle.catalogue.specs.Find.{bitsOf}
 use Rattle.catalogue.specs.declared.Raw.{Raw}
 use Rattle.catalogue.specs.declared.Class.the-variants.{Reserved, Outside}
 use Rattle.framing.specs.declared.Reading.{Reading}
 use Rattle.framing.specs.declared.Reading.the-variants.{Read}
 use Rattle.framing.specs.declared.Packing.the-variants.{Packed}
-use Rattle.framing.specs.Messages.{frameBytes, checksumNumber, messageOf}
+use Rattle.framing.specs.Messages.{checksumNumber, messageOf}
 use Rattle.framing.specs.Reading.{Slices, classCode, room, reading}
 use Rattle.framing.specs.Packing.{packing}
 use Rattle.framing.specs.Packed.{Unplaced}
@@ -57,7 +58,7 @@ NoneBarred n out = (i : ℕ) → i < n → (getD (out .classes) i 0 ≡ reserved
 pub record Renewed (m : Message) (old new : List ℕ) : Type 0 where
   pub kept : (i : ℕ) → i < length (m .placements) → Counted m i → (j : ℕ) → j < bitsOf (placementAt m i .number)
       → frameBit new (placementAt m i .start + j) ≡ frameBit old (placementAt m i .start + j)
-  pub ones : (k : ℕ) → k < 64 → Unplaced k (m .placements) → frameBit new k ≡ 1
+  pub ones : (k : ℕ) → k < frameBits → Unplaced k (m .placements) → frameBit new k ≡ 1
 
 -- a frame packs again from n counts that were read of it, into any lent frame of 8 bytes
 pub record PacksAgain (words : List ℕ) (identifier : ℕ) (frame : List ℕ) (n : ℕ) (raws : List ℕ) : Type 0 where

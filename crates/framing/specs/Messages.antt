@@ -13,10 +13,6 @@ use Rattle.catalogue.specs.Find.{bitsOf}
 use Rattle.catalogue.specs.Class.{classOf}
 use Rattle.catalogue.specs.declared.Class.{Class}
 
--- a frame has 8 bytes
-abbrev pub frameBytes : ℕ
-frameBytes = 8
-
 -- the checksum, signal 503, has 4 bits
 abbrev pub checksumBits : ℕ
 checksumBits = 4

@@ -5,10 +5,11 @@ use mathlib.Core.List.{List, [], _∷_}
 use Prim.Native.Nat.{ℕ, _+_, _≤_, _<_}
 use lib.ListN.{length, getD}
 use Rattle.books.specs.Book.{Placement, Message}
-use Rattle.bits.specs.Frame.{frameBit}
+use Rattle.books.specs.Lines.{frameBits}
+use Rattle.bits.specs.Frame.{frameBytes, frameBit}
 use Rattle.bits.specs.Checksum.{checksumOf}
 use Rattle.catalogue.specs.Find.{bitsOf}
-use Rattle.framing.specs.Messages.{frameBytes, checksumNumber, countOf}
+use Rattle.framing.specs.Messages.{checksumNumber, countOf}
 
 -- each placement but that of 503 has its value in the frame
 unfoldable pub Carries : List ℕ → List Placement → List ℕ → Type 0
@@ -32,4 +33,4 @@ pub record IsPacked (m : Message) (vs : List ℕ) (frame : List ℕ) : Type 0 wh
   pub small : (k : ℕ) → getD frame k 0 < 256
   pub counts : Carries frame (m .placements) vs
   pub checksum : Summed frame (checksumOf (m .identifier) frame) (m .placements)
-  pub ones : (k : ℕ) → k < 64 → Unplaced k (m .placements) → frameBit frame k ≡ 1
+  pub ones : (k : ℕ) → k < frameBits → Unplaced k (m .placements) → frameBit frame k ≡ 1

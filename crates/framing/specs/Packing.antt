@@ -1,5 +1,7 @@
 -- Packing a frame by a book: refusals 12, 22, 25, 21, then the first bad position, 26 before 27 (503 is skipped), each leaving the lent
--- frame as it was; otherwise every count at its place, the checksum last, and 1 in every other bit. Assumes nothing: these are definitions.
+-- frame as it was; otherwise every count at its place, the checksum last, and 1 in every other bit. specs/Packed.antt says bit by bit
+-- what that frame is; proofs/Sent.antt and proofs/PackedOnce.antt show that it is this one and no other. Assumes nothing: these are
+-- definitions.
 use mathlib.Core.Bool.{Bool, true, false, cond}
 use mathlib.Core.List.{List, [], _∷_}
 use mathlib.Core.Option.{Option, none, some}
@@ -7,7 +9,9 @@ use Prim.Native.Nat.{ℕ, _-_, _^_}
 use lib.Dec.{eqb, leb}
 use lib.ListN.{length}
 use Rattle.books.specs.Book.{Placement, Message}
+use Rattle.books.specs.Lines.{frameBits}
 use Rattle.books.specs.Words.{messagesOf, messagesTaken}
+use Rattle.bits.specs.Frame.{frameBytes}
 use Rattle.bits.specs.Word.{bytesOf, placed}
 use Rattle.bits.specs.Checksum.{checksumOf}
 use Rattle.catalogue.specs.Find.{bitsOf}
@@ -16,7 +20,7 @@ use Rattle.catalogue.specs.declared.Class.{Class}
 use Rattle.catalogue.specs.declared.Class.the-variants as Of
 use Rattle.framing.specs.declared.Packing.{Packing}
 use Rattle.framing.specs.declared.Packing.the-variants.{Packed, NotABook, UnknownIdentifier, WrongCountOfValues, NotEightBytes, TooWide, ReservedOrOutside}
-use Rattle.framing.specs.Messages.{frameBytes, checksumNumber, checksumStart, checksumBits, messageOf, placesChecksum}
+use Rattle.framing.specs.Messages.{checksumNumber, checksumStart, checksumBits, messageOf, placesChecksum}
 
 -- document 01's number for each answer; 0 is no refusal
 abbrev pub packingNumber : Packing → ℕ
@@ -49,9 +53,9 @@ judged (p ∷ ps) (v ∷ vs) =
     (cond (packable (classOf (p .number) (record { 0 = v }))) (judged ps vs)
     ReservedOrOutside))
 
--- every bit 1
+-- the word of a frame whose every bit is 1
 abbrev pub allOnes : ℕ
-allOnes = 2 ^ 64 - 1
+allOnes = 2 ^ frameBits - 1
 
 -- the word w with each value but that of 503 at its place
 unfoldable pub put : ℕ → List Placement → List ℕ → ℕ

@@ -9,13 +9,13 @@ use lib.IntN.{ℤ, pos}
 use lib.ListN.{length}
 use Rattle.books.specs.Book.{Placement, Message}
 use Rattle.books.specs.Words.{messagesOf, messagesTaken}
-use Rattle.bits.specs.Frame.{countAt}
+use Rattle.bits.specs.Frame.{frameBytes, countAt}
 use Rattle.bits.specs.Checksum.{checksumOf}
 use Rattle.catalogue.specs.declared.Class.{Class}
 use Rattle.catalogue.specs.declared.Class.the-variants.{Value, Invalid, Absent, Error, Reserved, Outside, NotInCatalogue, TooWide}
 use Rattle.framing.specs.declared.Reading.{Reading}
 use Rattle.framing.specs.declared.Reading.the-variants.{Read, NotABook, NotEightBytes, UnknownIdentifier, WrongChecksum, TooLittleRoom}
-use Rattle.framing.specs.Messages.{frameBytes, checksumStart, checksumBits, messageOf, placesChecksum, countOf, classIn, written}
+use Rattle.framing.specs.Messages.{checksumStart, checksumBits, messageOf, placesChecksum, countOf, classIn, written}
 
 -- document 01's number for each answer; 0 is no refusal
 abbrev pub readingNumber : Reading → ℕ

@@ -8,29 +8,15 @@ use Prim.Native.Nat.{ℕ}
 use native.Mathlib.Omega.{arith}
 use lib.Dec.{eqb, leb}
 use lib.ListN.{length}
+use Rattle.bits.specs.Frame.{frameBytes}
 use Rattle.books.specs.Book.{Placement, Message}
 use Rattle.framing.specs.declared.Reading.{Reading}
-use Rattle.framing.specs.declared.Reading.the-variants.{Read, NotABook, NotEightBytes, UnknownIdentifier, WrongChecksum, TooLittleRoom}
-use Rattle.framing.specs.Messages.{frameBytes, messageOf}
+use Rattle.framing.specs.declared.Reading.the-variants.{Read, NotEightBytes, WrongChecksum, TooLittleRoom}
+use Rattle.framing.specs.Messages.{messageOf}
 use Rattle.framing.specs.Reading.{Slices, readingNumber, checksumHolds, room, readings, readByMessage, readByMessages}
 use Rattle.signal_lines.specs.Printed.{refusedLine}
 use Rattle.listing.specs.Printout.{signalLines, messageLines, frameListing}
-
--- the refusals of a frame; room is not asked in a listing
-abbrev pub Refuses : Reading → Type 0
-Refuses (Read n) = ⊥
-Refuses NotABook = ⊥
-Refuses NotEightBytes = Unit
-Refuses UnknownIdentifier = Unit
-Refuses WrongChecksum = Unit
-Refuses TooLittleRoom = ⊥
-
--- a frame that reading gives readings of
-pub record ListedAsRead (ms : List Message) (identifier : ℕ) (bytes : List ℕ) (lent : Slices) : Type 0 where
-  pub message : Message
-  pub found : messageOf identifier ms ≡ some message
-  pub printed : frameListing ms identifier bytes ≡ signalLines identifier bytes (message .placements)
-  pub read : readByMessages ms identifier bytes lent .1 ≡ readings bytes (message .placements) lent
+use Rattle.listing.specs.AsRead.{Refuses, ListedAsRead}
 
 module _ (identifier : ℕ) (bytes : List ℕ) (lent : Slices) where
   by-message : (o : Option Message) → Refuses (readByMessage o bytes lent .0)

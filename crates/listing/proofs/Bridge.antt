@@ -3,11 +3,12 @@ use mathlib.Core.Path.{_≡_, refl, sym, ap, _∙_, subst}
 use mathlib.Core.Bool.{Bool, true, false, cond}
 use mathlib.Core.List.{List, [], _∷_, _++_}
 use mathlib.Core.Option.{Option, none, some}
-use Prim.Native.Nat.{ℕ, _+_, _*_, _-_, _^_, _≤_, _<_}
+use Prim.Native.Nat.{ℕ, _-_, _^_, _≤_, _<_}
 use native.Mathlib.Omega.{arith}
 use lib.Dec.{eqb}
 use lib.ListN.{length, getD, drop, length-take}
 use borrow.Author.Tests.{eq-eqb, ne-eqb}
+use Rattle.bits.specs.Frame.{frameBytes}
 use Rattle.bits.specs.Word.{Fits, wordOf, bytesOf}
 use Rattle.bits.proofs.Weights.{Bytes, read-bytes, word-bytes}
 use Rattle.books.specs.Book.{Placement, Message}
@@ -15,22 +16,22 @@ use Rattle.books.specs.Words.{placed, messagesOf}
 use Rattle.catalogue.specs.declared.Class.{Class}
 use Rattle.catalogue.specs.Find.{bitsOf}
 use Rattle.catalogue.specs.Class.{classOf}
-use Rattle.frame_lines.specs.Meaning.{Said, frame, illFormed, frameLineSays}
+use Rattle.frame_lines.specs.declared.FrameLine.the-variants.{NotEightBytes}
+use Rattle.frame_lines.specs.Meaning.{Said, frame, illFormed, frameLineSays, refusal}
 use Rattle.frame_lines.proofs.Behind.{SaysFrame, SaysFewer}
 use Rattle.frames.specs.Lookup.{Spans, Finds, part}
 use Rattle.frames.specs.declared.lookup.Found.{Found}
 use Rattle.frames.specs.declared.lookup.Found.the-variants.{Signals, Nothing}
 use Rattle.messages.specs.Signals.{AllFit, classFrom, checkHolds, messageFrom}
 use Rattle.messages.proofs.Readings.{check-same}
-use Rattle.framing.specs.declared.Reading.the-variants.{NotEightBytes, UnknownIdentifier, WrongChecksum}
-use Rattle.framing.specs.Messages.{frameBytes, messageOf, classIn}
+use Rattle.framing.specs.declared.Reading.the-variants.{UnknownIdentifier, WrongChecksum}
+use Rattle.framing.specs.Messages.{messageOf, classIn}
 use Rattle.framing.specs.Reading.{readingNumber, checksumHolds}
-use Rattle.printing.specs.Put.{Put, PutWithin}
 use Rattle.record.specs.Columns.{numbersOf, startsOf}
 use Rattle.record.specs.Limits.{signalLimit}
 use Rattle.signal_lines.specs.Printed.{signalLine, refusedLine, illFormedLine}
 use Rattle.listing.specs.Printout.{signalLines, messageLines, frameListing, printed, printout}
-use Rattle.listing.specs.Working.{lineRoom, longest, wordLines, messageText, Listable}
+use Rattle.listing.specs.Working.{wordLines, messageText, Listable}
 
 -- ---- the word and the frame
 
@@ -68,7 +69,7 @@ column-part from to p e = p ∙ ap (part from to) e
 
 -- parts of the columns that are a message's can be listed
 pub listable : {words : List ℕ} {identifier from to : ℕ} → Spans words identifier from to → {ns ss : List ℕ} → ns ≡ part from to (numbersOf words) → ss ≡ part from to (startsOf words)
-    → {out : List ℕ} {at : ℕ} → at + longest ≤ length out → Listable out at ns ss
+    → {out : List ℕ} {at : ℕ} → at ≤ length out → Listable out at ns ss
 listable {words} {identifier} {from} {to} s {ns} {ss} x y h =
     record {
       same = ap length y ∙ s .same ∙ ap length (sym x);
@@ -77,59 +78,45 @@ listable {words} {identifier} {from} {to} s {ns} {ss} x y h =
       inside = h;
     }
 
--- ---- from answer to answer
+-- ---- what each answer on the way prints
 
-wider : {old : List ℕ} {at : ℕ} {text text′ new : List ℕ} {next : ℕ} (most more : ℕ) → most ≤ more → text ≡ text′ → PutWithin old at most text new next → PutWithin old at more text′ new next
-wider {old} {at} {text} {text′} {new} {next} most more h e p =
-    subst (λ (l : List ℕ). PutWithin old at more l new next) e (record { put = p .put; short = omega (arith, p .short) })
+-- the message, by its checksum
+module _ (identifier word : ℕ) (ns ss : List ℕ) {b : Bool} (c : b ≡ checkHolds identifier word ns) where
+  pub message-signals : b ≡ true → wordLines identifier word (placed ns ss) ≡ messageText identifier word ns ss
+  unfolding messageText
+  message-signals e = rw (sym c ∙ e)
 
-module _ {old new : List ℕ} {at next : ℕ} where
-  -- the message, by its checksum
-  module _ (identifier word : ℕ) (ns ss : List ℕ) {b : Bool} (c : b ≡ checkHolds identifier word ns) where
-    pub message-signals : b ≡ true → length ns ≤ signalLimit → PutWithin old at (lineRoom * length ns) (wordLines identifier word (placed ns ss)) new next
-        → PutWithin old at longest (messageText identifier word ns ss) new next
-    unfolding messageText
-    message-signals e m p = wider (lineRoom * length ns) longest (omega arith) (rw (sym c ∙ e)) p
+  pub message-refused : b ≡ false → refusedLine identifier (readingNumber WrongChecksum) ≡ messageText identifier word ns ss
+  unfolding messageText
+  message-refused e = rw (sym c ∙ e)
 
-    pub message-refused : b ≡ false → PutWithin old at lineRoom (refusedLine identifier (readingNumber WrongChecksum)) new next
-        → PutWithin old at longest (messageText identifier word ns ss) new next
-    unfolding messageText
-    message-refused e p = wider lineRoom longest (omega arith) (rw (sym c ∙ e)) p
+-- the frame, by its message
+module _ (words : List ℕ) (identifier word : ℕ) where
+  pub frame-listed : word < 2 ^ 64 → {from to : ℕ} → Spans words identifier from to → {ns ss : List ℕ} → ns ≡ part from to (numbersOf words) → ss ≡ part from to (startsOf words)
+      → messageText identifier word ns ss ≡ messageLines identifier (bytesOf word) (messageOf identifier (messagesOf words))
+  frame-listed h {from} {to} s {ns} {ss} x y =
+      ap (λ (l : List ℕ). messageText identifier word l ss) x
+      ∙ ap (λ (l : List ℕ). messageText identifier word (part from to (numbersOf words)) l) y
+      ∙ text-same identifier word h (part from to (numbersOf words)) (part from to (startsOf words)) (s .same) (s .fit)
+      ∙ ap (messageLines identifier (bytesOf word)) (sym (s .found))
 
-  -- the frame, by its message
-  module _ (words : List ℕ) (identifier word : ℕ) where
-    pub frame-listed : word < 2 ^ 64 → {from to : ℕ} → Spans words identifier from to → {ns ss : List ℕ} → ns ≡ part from to (numbersOf words) → ss ≡ part from to (startsOf words)
-        → PutWithin old at longest (messageText identifier word ns ss) new next
-        → PutWithin old at longest (messageLines identifier (bytesOf word) (messageOf identifier (messagesOf words))) new next
-    frame-listed h {from} {to} s {ns} {ss} x y p =
-        wider longest longest (omega arith)
-        (ap (λ (l : List ℕ). messageText identifier word l ss) x
-        ∙ ap (λ (l : List ℕ). messageText identifier word (part from to (numbersOf words)) l) y
-        ∙ text-same identifier word h (part from to (numbersOf words)) (part from to (startsOf words)) (s .same) (s .fit)
-        ∙ ap (messageLines identifier (bytesOf word)) (sym (s .found)))
-        p
+  pub frame-unknown : messageOf identifier (messagesOf words) ≡ none
+      → refusedLine identifier (readingNumber UnknownIdentifier) ≡ messageLines identifier (bytesOf word) (messageOf identifier (messagesOf words))
+  unfolding messageLines
+  frame-unknown e = rw e
 
-    pub frame-unknown : messageOf identifier (messagesOf words) ≡ none → PutWithin old at lineRoom (refusedLine identifier (readingNumber UnknownIdentifier)) new next
-        → PutWithin old at longest (messageLines identifier (bytesOf word) (messageOf identifier (messagesOf words))) new next
-    unfolding messageLines
-    frame-unknown e p = wider lineRoom longest (omega arith) (rw e) p
+-- the line, by what it says
+module _ (ms : List Message) (l : List ℕ) where
+  pub line-frame : {identifier word : ℕ} → SaysFrame l identifier word → messageLines identifier (bytesOf word) (messageOf identifier ms) ≡ printout ms l
+  unfolding printout frameListing
+  line-frame {identifier} {word} s =
+      let bytes : bytesOf word ≡ s .bytes = ap bytesOf (s .word) ∙ word-bytes (s .bytes) (record { many = s .eight; small = s .small }) in
+      rw (s .said, eq-eqb (length (s .bytes)) frameBytes (s .eight)) (ap (λ (f : List ℕ). messageLines identifier f (messageOf identifier ms)) bytes)
 
-  -- the line, by what it says
-  module _ (ms : List Message) (l : List ℕ) where
-    pub line-frame : {identifier word : ℕ} → SaysFrame l identifier word
-        → PutWithin old at longest (messageLines identifier (bytesOf word) (messageOf identifier ms)) new next → PutWithin old at longest (printout ms l) new next
-    unfolding printout frameListing
-    line-frame {identifier} {word} s p =
-        let bytes : bytesOf word ≡ s .bytes = ap bytesOf (s .word) ∙ word-bytes (s .bytes) (record { many = s .eight; small = s .small }) in
-        wider longest longest (omega arith)
-        (rw (s .said, eq-eqb (length (s .bytes)) frameBytes (s .eight)) (ap (λ (f : List ℕ). messageLines identifier f (messageOf identifier ms)) bytes))
-        p
+  pub line-fewer : {identifier : ℕ} → SaysFewer l identifier → refusedLine identifier (refusal (NotEightBytes identifier)) ≡ printout ms l
+  unfolding printout frameListing
+  line-fewer s = rw (s .said, ne-eqb (length (s .bytes)) frameBytes (s .other))
 
-    pub line-fewer : {identifier : ℕ} → SaysFewer l identifier → PutWithin old at lineRoom (refusedLine identifier (readingNumber NotEightBytes)) new next
-        → PutWithin old at longest (printout ms l) new next
-    unfolding printout frameListing
-    line-fewer s p = wider lineRoom longest (omega arith) (rw (s .said, ne-eqb (length (s .bytes)) frameBytes (s .other))) p
-
-    pub line-ill : frameLineSays l ≡ illFormed → PutWithin old at lineRoom illFormedLine new next → PutWithin old at longest (printout ms l) new next
-    unfolding printout
-    line-ill s p = wider lineRoom longest (omega arith) (rw s) p
+  pub line-ill : frameLineSays l ≡ illFormed → illFormedLine ≡ printout ms l
+  unfolding printout
+  line-ill s = rw s

@@ -15,8 +15,8 @@ use Rattle.messages.specs.Signals.{AllFit, classFrom}
 use Rattle.messages.proofs.Steps.{placementAt, rest, rest-more, rest-none, fits-at, fits-on}
 use Rattle.printing.specs.Put.{Put, PutWithin}
 use Rattle.printing.proofs.Puts.{sets-append, put-length}
-use Rattle.signal_lines.specs.Printed.{signalLine}
-use Rattle.listing.specs.Working.{lineRoom, wordLines, Roomy}
+use Rattle.signal_lines.specs.Printed.{signalLine, lineRoom}
+use Rattle.listing.specs.Working.{wordLines, Roomy}
 
 pub record Walked (old : List ℕ) (at identifier word : ℕ) (ns ss out : List ℕ) (next i : ℕ) : Type 0 where
   pub there : sets out next (wordLines identifier word (rest ns ss i)) ≡ sets old at (wordLines identifier word (placed ns ss))
@@ -39,7 +39,7 @@ module _ {old : List ℕ} {at identifier word : ℕ} {ns ss out : List ℕ} {nex
         ap (wordLines identifier word) (rest-more ns ss i h (r .same))
         ∙ ap (λ (k : Class). signalLine identifier (getD ns i 0) k ++ wordLines identifier word (rest ns ss (i + 1))) (sym c)
 
-    pub signal-walked : {new : List ℕ} {next′ : ℕ} → PutWithin out next 64 (signalLine identifier (getD ns i 0) class) new next′
+    pub signal-walked : {new : List ℕ} {next′ : ℕ} → PutWithin out next lineRoom (signalLine identifier (getD ns i 0) class) new next′
         → Walked old at identifier word ns ss new next′ (i + 1)
     signal-walked {new} {next′} p =
         let line = signalLine identifier (getD ns i 0) class in

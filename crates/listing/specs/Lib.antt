@@ -1,3 +1,4 @@
 pub mod Printout
 pub mod Listing
+pub mod AsRead
 pub mod Working

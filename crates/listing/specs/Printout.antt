@@ -5,10 +5,12 @@ use mathlib.Core.Option.{Option, none, some}
 use Prim.Native.Nat.{ℕ}
 use lib.Dec.{eqb}
 use lib.ListN.{length}
+use Rattle.bits.specs.Frame.{frameBytes}
 use Rattle.books.specs.Book.{Placement, Message}
-use Rattle.frame_lines.specs.Meaning.{Said, frame, illFormed, frameLineSays}
-use Rattle.framing.specs.declared.Reading.the-variants.{NotEightBytes, UnknownIdentifier, WrongChecksum}
-use Rattle.framing.specs.Messages.{frameBytes, messageOf, classIn}
+use Rattle.frame_lines.specs.declared.FrameLine.the-variants.{NotEightBytes}
+use Rattle.frame_lines.specs.Meaning.{Said, frame, illFormed, frameLineSays, refusal}
+use Rattle.framing.specs.declared.Reading.the-variants.{UnknownIdentifier, WrongChecksum}
+use Rattle.framing.specs.Messages.{messageOf, classIn}
 use Rattle.framing.specs.Reading.{readingNumber, checksumHolds}
 use Rattle.signal_lines.specs.Printed.{signalLine, refusedLine, illFormedLine}
 
@@ -26,12 +28,12 @@ messageLines identifier bytes (some m) =
     (signalLines identifier bytes (m .placements))
     (refusedLine identifier (readingNumber WrongChecksum))
 
--- a frame of any length: refusal 21 comes first
+-- a frame of any length: the line's own refusal, 21, comes first
 unfoldable pub frameListing : List Message → ℕ → List ℕ → List ℕ
 frameListing ms identifier bytes =
     cond (eqb (length bytes) frameBytes)
     (messageLines identifier bytes (messageOf identifier ms))
-    (refusedLine identifier (readingNumber NotEightBytes))
+    (refusedLine identifier (refusal (NotEightBytes identifier)))
 
 -- what a line says is printed
 abbrev pub printed : List Message → Said → List ℕ

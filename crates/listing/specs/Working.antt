@@ -12,7 +12,7 @@ use Rattle.messages.specs.Signals.{AllFit, classFrom, checkHolds}
 use Rattle.framing.specs.declared.Reading.the-variants.{WrongChecksum}
 use Rattle.framing.specs.Reading.{readingNumber}
 use Rattle.record.specs.Limits.{signalLimit}
-use Rattle.signal_lines.specs.Printed.{signalLine, refusedLine}
+use Rattle.signal_lines.specs.Printed.{signalLine, refusedLine, lineRoom}
 use Rattle.listing.specs.declared.Fitted.{Fitted}
 use Rattle.listing.specs.declared.Fitted.the-variants.{Next, NoRoom}
 
@@ -21,25 +21,18 @@ unfoldable pub wordLines : ℕ → ℕ → List Placement → List ℕ
 wordLines identifier word [] = []
 wordLines identifier word (p ∷ ps) = signalLine identifier (p .number) (classFrom word p) ++ wordLines identifier word ps
 
--- no printed line is longer, and a message has at most 256 signals, so no printout is longer than 256 lines
-abbrev pub lineRoom : ℕ
-lineRoom = 64
-
-abbrev pub longest : ℕ
-longest = 16384
-
 -- numbers and starts of placements that lie within the frame, and room for their lines
 pub record Roomy (out : List ℕ) (at : ℕ) (ns ss : List ℕ) : Type 0 where
   pub same : length ss ≡ length ns
   pub fit : AllFit (placed ns ss)
   pub inside : at + lineRoom * length ns ≤ length out
 
--- at most 256 of them, and room for the longest printout
+-- at most 256 of them, to be listed at a place of the room
 pub record Listable (out : List ℕ) (at : ℕ) (ns ss : List ℕ) : Type 0 where
   pub same : length ss ≡ length ns
   pub fit : AllFit (placed ns ss)
   pub many : length ns ≤ signalLimit
-  pub inside : at + longest ≤ length out
+  pub inside : at ≤ length out
 
 -- a frame's word by its message: refusal 23, or a line for each signal
 unfoldable pub messageText : ℕ → ℕ → List ℕ → List ℕ → List ℕ

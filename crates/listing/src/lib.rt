@@ -13,11 +13,11 @@ ghost use lib.ListN.{length};
 ghost use Rattle.books.specs.Words.{messagesOf, messagesTaken};
 ghost use Rattle.parts.specs.Parts.{lines};
 ghost use Rattle.listing.specs.Listing.{run, ofRun, listing};
+use line::list_line;
 use parts::find;
 use parts::part_before;
 use parts::part_from;
 use record::BOOK_WORDS;
-use room::list_line;
 use tables::messages_taken;
 
 const NEWLINE: u8 = b'\n';

@@ -1,15 +1,25 @@
 // A frame by its message, whose signals' numbers and starts stand in two slices, side by side.
-ghost use Prim.Native.Nat.{_+_, _*_, _≤_};
+ghost use mathlib.Core.Path.{_≡_};
+ghost use mathlib.Core.List.{List};
+ghost use Prim.Native.Nat.{ℕ, _*_};
 ghost use lib.ListN.{length};
 ghost use Rattle.books.specs.Words.{placed};
 ghost use Rattle.printing.specs.Put.{PutWithin};
-ghost use Rattle.listing.specs.Working.{lineRoom, longest, wordLines, messageText, Roomy, Listable};
+ghost use Rattle.signal_lines.specs.Printed.{lineRoom};
+ghost use Rattle.listing.specs.declared.Fitted.{Fitted};
+ghost use Rattle.listing.specs.Working.{wordLines, messageText, fitted, Roomy, Listable};
+use crate::Fitted;
+use crate::room::fit;
+use crate::room::list_refused;
 use catalogue::Raw;
 use messages::checked;
-use signal_lines::put_refused;
+use signal_lines::LINE_ROOM;
 use signal_lines::put_signal;
 
 const WRONG_CHECKSUM: u32 = 23;
+
+// As many of the longest lines as a message may have signals.
+const LONGEST: usize = 16384;
 
 // A line for each signal, in the order of the S lines.
 fn put_signals(
@@ -36,21 +46,42 @@ fn put_signals(
     next
 }
 
-// The lines of the signals, or that the checksum is wrong.
-pub fn put_message(
+// The same where they fit: straight at their place where it has room for the longest lines, and otherwise written aside first.
+fn list_signals(
     out: &mut [u8],
     at: usize,
     identifier: u32,
     word: u64,
     numbers: &[u32],
     starts: &[u32],
-) -> usize
+) -> Fitted
     requires { ⌜ Listable (now out) at (now numbers) (now starts) ⌝ }
-    ensures { λ r. ⌜ PutWithin (now (out .entry)) at longest
-        (messageText identifier word (now (numbers .entry)) (now (starts .entry))) (now (out .exit)) r ⌝ }
+    ensures { λ r. ⌜ _≡_ {A = Fitted × List ℕ} (r, now (out .exit))
+        (fitted (now (out .entry)) at (wordLines identifier word (placed (now (numbers .entry)) (now (starts .entry))))) ⌝ }
+{
+    if LINE_ROOM * numbers.len() <= out.len() - at {
+        return Fitted::Next(put_signals(&mut *out, at, identifier, word, numbers, starts));
+    }
+    let mut aside = [0u8; LONGEST];
+    let length = put_signals(&mut aside, 0, identifier, word, numbers, starts);
+    fit(&mut *out, at, &aside[..length])
+}
+
+// The lines of the signals, or that the checksum is wrong.
+pub fn list_message(
+    out: &mut [u8],
+    at: usize,
+    identifier: u32,
+    word: u64,
+    numbers: &[u32],
+    starts: &[u32],
+) -> Fitted
+    requires { ⌜ Listable (now out) at (now numbers) (now starts) ⌝ }
+    ensures { λ r. ⌜ _≡_ {A = Fitted × List ℕ} (r, now (out .exit))
+        (fitted (now (out .entry)) at (messageText identifier word (now (numbers .entry)) (now (starts .entry)))) ⌝ }
 {
     if checked(identifier, word, numbers) {
-        return put_signals(&mut *out, at, identifier, word, numbers, starts);
+        return list_signals(&mut *out, at, identifier, word, numbers, starts);
     }
-    put_refused(&mut *out, at, identifier, WRONG_CHECKSUM)
+    list_refused(&mut *out, at, identifier, WRONG_CHECKSUM)
 }

@@ -1,35 +1,44 @@
-// One frame line, printed where its printout fits what is left of the room.
+// A text in the room that is left, where it fits: a line that is already written, a refused frame, an ill-formed line.
 ghost use mathlib.Core.Path.{_≡_};
-ghost use mathlib.Core.Bool.{true};
 ghost use mathlib.Core.List.{List};
 ghost use Prim.Native.Nat.{ℕ, _≤_};
 ghost use lib.ListN.{length};
-ghost use Rattle.books.specs.Words.{messagesOf, messagesTaken};
+ghost use Rattle.signal_lines.specs.Printed.{refusedLine, illFormedLine};
 ghost use Rattle.listing.specs.declared.Fitted.{Fitted};
-ghost use Rattle.listing.specs.Printout.{printout};
 ghost use Rattle.listing.specs.Working.{fitted};
 use crate::Fitted;
-use crate::line::put_line;
 use printing::put_bytes;
-use record::BOOK_WORDS;
+use signal_lines::LINE_ROOM;
+use signal_lines::put_ill_formed;
+use signal_lines::put_refused;
 
-// No printout is longer.
-const LONGEST: usize = 16384;
-
-// The longest printout goes straight to its place where that has room for it, and otherwise over a place of its own.
-pub fn list_line(book: &[u32; BOOK_WORDS], line: &[u8], out: &mut [u8], at: usize) -> Fitted
-    requires { ⌜ (messagesTaken (now book) ≡ true) × (at ≤ length (now out)) ⌝ }
-    ensures { λ r. ⌜ _≡_ {A = Fitted × List ℕ} (r, now (out .exit))
-        (fitted (now (out .entry)) at (printout (messagesOf (now (book .entry))) (now (line .entry)))) ⌝ }
+// A text as it stands.
+pub fn fit(out: &mut [u8], at: usize, text: &[u8]) -> Fitted
+    requires { ⌜ at ≤ length (now out) ⌝ }
+    ensures { λ r. ⌜ _≡_ {A = Fitted × List ℕ} (r, now (out .exit)) (fitted (now (out .entry)) at (now (text .entry))) ⌝ }
 {
-    let left = out.len() - at;
-    if LONGEST <= left {
-        return Fitted::Next(put_line(book, line, &mut *out, at));
-    }
-    let mut aside = [0u8; LONGEST];
-    let length = put_line(book, line, &mut aside, 0);
-    if left < length {
+    if out.len() - at < text.len() {
         return Fitted::NoRoom;
     }
-    Fitted::Next(put_bytes(&mut *out, at, &aside[..length]))
+    Fitted::Next(put_bytes(&mut *out, at, text))
+}
+
+// The line of a refused frame.
+pub fn list_refused(out: &mut [u8], at: usize, identifier: u32, refusal: u32) -> Fitted
+    requires { ⌜ at ≤ length (now out) ⌝ }
+    ensures { λ r. ⌜ _≡_ {A = Fitted × List ℕ} (r, now (out .exit)) (fitted (now (out .entry)) at (refusedLine identifier refusal)) ⌝ }
+{
+    let mut line = [0u8; LINE_ROOM];
+    let length = put_refused(&mut line, 0, identifier, refusal);
+    fit(&mut *out, at, &line[..length])
+}
+
+// The line of an ill-formed line.
+pub fn list_ill_formed(out: &mut [u8], at: usize) -> Fitted
+    requires { ⌜ at ≤ length (now out) ⌝ }
+    ensures { λ r. ⌜ _≡_ {A = Fitted × List ℕ} (r, now (out .exit)) (fitted (now (out .entry)) at illFormedLine) ⌝ }
+{
+    let mut line = [0u8; LINE_ROOM];
+    let length = put_ill_formed(&mut line, 0);
+    fit(&mut *out, at, &line[..length])
 }

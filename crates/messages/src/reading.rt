@@ -8,44 +8,13 @@ ghost use lib.Seq.{sets};
 ghost use Rattle.bits.specs.Word.{bytesOf};
 ghost use Rattle.books.specs.Words.{placed};
 ghost use Rattle.framing.specs.declared.Reading.{Reading};
-ghost use Rattle.framing.specs.Reading.{classCode, thousandthsOf, Slices, readByMessage};
+ghost use Rattle.framing.specs.Reading.{Slices, readByMessage};
 ghost use Rattle.messages.specs.Signals.{InStep, rawIn, codeIn, readingIn, messageFrom, Readable};
 use crate::checksum::checked;
-use catalogue::Class;
+use crate::classes::code_of;
+use crate::classes::thousandths_of;
 use catalogue::Raw;
 use framing::Reading;
-
-// A class as its code in the lent slice of classes.
-fn code(class: Class) -> u8
-    ensures { λ r. ⌜ r ≡ classCode class ⌝ }
-{
-    match class {
-        Class::Value(_) => 0,
-        Class::Invalid(_) => 1,
-        Class::Absent(_) => 2,
-        Class::Error(_) => 3,
-        Class::Reserved(_) => 4,
-        Class::Outside(_) => 5,
-        Class::NotInCatalogue => 5,
-        Class::TooWide => 5,
-    }
-}
-
-// The thousandths of a value, and 0 where the class is no value.
-fn thousandths_of(class: Class) -> i64
-    ensures { λ r. ⌜ r ≡ thousandthsOf class ⌝ }
-{
-    match class {
-        Class::Value(t) => t.0,
-        Class::Invalid(_) => 0,
-        Class::Absent(_) => 0,
-        Class::Error(_) => 0,
-        Class::Reserved(_) => 0,
-        Class::Outside(_) => 0,
-        Class::NotInCatalogue => 0,
-        Class::TooWide => 0,
-    }
-}
 
 // The raw count, class code and thousandths of each signal, from the front of three slices that have room for them.
 pub fn read_signals(
@@ -67,7 +36,7 @@ pub fn read_signals(
         let raw = bits::take(word, starts[i], catalogue::bits_of(number));
         let class = catalogue::class_of(number, Raw(raw));
         raws[i] = raw;
-        classes[i] = code(class);
+        classes[i] = code_of(class);
         thousandths[i] = thousandths_of(class);
         i += 1;
     }

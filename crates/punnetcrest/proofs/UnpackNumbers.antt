@@ -1,13 +1,11 @@
 -- From the reader's own answer to what the call returns and leaves. Assumes nothing.
 use Prim.Native.Nat.{ℕ}
-use mathlib.Core.Path.{_≡_, sym, ap, _∙_}
+use mathlib.Core.Path.{_≡_, ap}
 use mathlib.Core.List.{List}
 use Rattle.framing.specs.declared.Reading.{Reading}
 use Rattle.framing.specs.Reading.{Slices, reading}
 use Rattle.punnetcrest.specs.Unpacking.{inNumbers, unpacked}
 
-pub as-unpacked : (words : List ℕ) (identifier : ℕ) (frame : List ℕ) (lent : Slices) (count : ℕ) {given told : Reading} {left : Slices}
-    → _≡_ {A = Reading × Slices} (given, left) (reading words identifier frame lent) → given ≡ told
-    → inNumbers told left count ≡ unpacked words identifier frame lent count
-as-unpacked words identifier frame lent count {left = left} e t =
-    ap (λ (a : Reading). inNumbers a left count) (sym t) ∙ ap (λ (x : Reading × Slices). inNumbers (x .0) (x .1) count) e
+pub as-unpacked : (words : List ℕ) (identifier : ℕ) (frame : List ℕ) (lent : Slices) (count : ℕ) {answer : Reading} {left : Slices}
+    → _≡_ {A = Reading × Slices} (answer, left) (reading words identifier frame lent) → inNumbers answer left count ≡ unpacked words identifier frame lent count
+as-unpacked words identifier frame lent count e = ap (λ (x : Reading × Slices). inNumbers (x .0) (x .1) count) e

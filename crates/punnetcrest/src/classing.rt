@@ -1,7 +1,6 @@
 // The class and the reading of one raw count.
 ghost use mathlib.Core.Path.{_≡_};
 ghost use Rattle.catalogue.specs.Class.{refusalOf};
-ghost use Rattle.framing.specs.Reading.{classCode, thousandthsOf};
 ghost use Rattle.punnetcrest.specs.Classing.{classed};
 
 // Document 01's number of the refusal, 0 where there is a class.
@@ -20,37 +19,6 @@ fn refusal_of(class: catalogue::Class) -> u32
     }
 }
 
-fn code_of(class: catalogue::Class) -> u32
-    ensures { λ r. ⌜ r ≡ classCode class ⌝ }
-{
-    match class {
-        catalogue::Class::Value(_) => 0,
-        catalogue::Class::Invalid(_) => 1,
-        catalogue::Class::Absent(_) => 2,
-        catalogue::Class::Error(_) => 3,
-        catalogue::Class::Reserved(_) => 4,
-        catalogue::Class::Outside(_) => 5,
-        catalogue::Class::NotInCatalogue => 5,
-        catalogue::Class::TooWide => 5,
-    }
-}
-
-// The thousandths of a value, 0 for any other class.
-fn reading_of(class: catalogue::Class) -> i64
-    ensures { λ r. ⌜ r ≡ thousandthsOf class ⌝ }
-{
-    match class {
-        catalogue::Class::Value(reading) => reading.0,
-        catalogue::Class::Invalid(_) => 0,
-        catalogue::Class::Absent(_) => 0,
-        catalogue::Class::Error(_) => 0,
-        catalogue::Class::Reserved(_) => 0,
-        catalogue::Class::Outside(_) => 0,
-        catalogue::Class::NotInCatalogue => 0,
-        catalogue::Class::TooWide => 0,
-    }
-}
-
 // Writes the class of a raw count, and its reading.
 #[no_mangle]
 pub extern "C" fn pc_class(
@@ -66,7 +34,7 @@ pub extern "C" fn pc_class(
     if refusal != 0 {
         return refusal;
     }
-    *class_code = code_of(class);
-    *thousandths = reading_of(class);
+    *class_code = messages::code_of(class) as u32;
+    *thousandths = messages::thousandths_of(class);
     0
 }

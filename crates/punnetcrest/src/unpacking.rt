@@ -1,10 +1,38 @@
 // Reading a frame by a lent book.
 ghost use mathlib.Core.Path.{_≡_};
 ghost use Prim.Native.Nat.{ℕ};
-ghost use Rattle.framing.specs.Reading.{Slices};
-ghost use Rattle.punnetcrest.specs.Unpacking.{unpacked};
+ghost use Rattle.framing.specs.Reading.{Slices, readingNumber};
+ghost use Rattle.punnetcrest.specs.Unpacking.{countAfter, unpacked};
 use framing::Reading;
 use record::BOOK_WORDS;
+
+// Document 01's number of the reader's answer.
+fn number_of(answer: Reading) -> u32
+    ensures { λ r. ⌜ r ≡ readingNumber answer ⌝ }
+{
+    match answer {
+        Reading::Read(_) => 0,
+        Reading::NotABook => 12,
+        Reading::NotEightBytes => 21,
+        Reading::UnknownIdentifier => 22,
+        Reading::WrongChecksum => 23,
+        Reading::TooLittleRoom => 24,
+    }
+}
+
+// How many readings were written, or the count as it was.
+fn count_after(answer: Reading, count: usize) -> usize
+    ensures { λ r. ⌜ r ≡ countAfter answer count ⌝ }
+{
+    match answer {
+        Reading::Read(n) => n,
+        Reading::NotABook => count,
+        Reading::NotEightBytes => count,
+        Reading::UnknownIdentifier => count,
+        Reading::WrongChecksum => count,
+        Reading::TooLittleRoom => count,
+    }
+}
 
 // Writes the raw count, class and thousandths of each signal of the message, and how many there are.
 #[no_mangle]
@@ -22,15 +50,6 @@ pub extern "C" fn pc_frame_read(
         (record { raws = now (raws .entry); classes = now (classes .entry); thousandths = now (thousandths .entry) }) (now (count .entry))) ⌝ }
 {
     let answer = frames::read(book, identifier, frame, raws, classes, thousandths);
-    match answer {
-        Reading::Read(n) => {
-            *count = n;
-            0
-        }
-        Reading::NotABook => 12,
-        Reading::NotEightBytes => 21,
-        Reading::UnknownIdentifier => 22,
-        Reading::WrongChecksum => 23,
-        Reading::TooLittleRoom => 24,
-    }
+    *count = count_after(answer, *count);
+    number_of(answer)
 }

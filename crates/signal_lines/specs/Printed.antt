@@ -2,6 +2,8 @@
 use mathlib.Core.List.{List, [], _∷_, _++_}
 use Prim.Native.Nat.{ℕ}
 use Rattle.catalogue.specs.declared.Class.{Class}
+use Rattle.frame_lines.specs.declared.FrameLine.the-variants.{IllFormed}
+use Rattle.frame_lines.specs.Meaning.{refusal}
 use Rattle.numerals.specs.Written.{identifierText}
 use Rattle.parts.specs.Parts.{tab, newline}
 use Rattle.parts.specs.Joined.{join}
@@ -18,11 +20,18 @@ signalLine identifier number class =
 
 -- "A refused frame gives identifier, `no`, number"
 abbrev pub refusedLine : ℕ → ℕ → List ℕ
-refusedLine identifier refusal = printedLine (identifierText identifier ∷ noWord ∷ naturalText refusal ∷ [])
+refusedLine identifier number = printedLine (identifierText identifier ∷ noWord ∷ naturalText number ∷ [])
 
 -- "an ill-formed line gives" `no`, 20
-abbrev pub illFormed : ℕ
-illFormed = 20
-
 abbrev pub illFormedLine : List ℕ
-illFormedLine = printedLine (noWord ∷ naturalText illFormed ∷ [])
+illFormedLine = printedLine (noWord ∷ naturalText (refusal IllFormed) ∷ [])
+
+-- ---- room: no line is longer than lineRoom, no end of one (a word with its number) than endRoom, no word than wordRoom
+abbrev pub lineRoom : ℕ
+lineRoom = 64
+
+abbrev pub endRoom : ℕ
+endRoom = 34
+
+abbrev pub wordRoom : ℕ
+wordRoom = 12

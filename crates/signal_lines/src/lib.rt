@@ -13,7 +13,7 @@ ghost use lib.ListN.{length};
 ghost use Rattle.printing.specs.Put.{PutWithin};
 ghost use Rattle.printing.specs.Decimal.{naturalText};
 ghost use Rattle.signal_lines.specs.Words.{wordOf, figureOf};
-ghost use Rattle.signal_lines.specs.Printed.{printedLine, signalLine, refusedLine, illFormedLine};
+ghost use Rattle.signal_lines.specs.Printed.{printedLine, signalLine, refusedLine, illFormedLine, lineRoom, endRoom, wordRoom};
 
 const TAB: u8 = b'\t';
 
@@ -26,8 +26,8 @@ pub const LINE_ROOM: usize = 64;
 
 // A word and a number, the end of a line.
 fn put_count(out: &mut [u8], at: usize, word: &[u8], count: u32) -> usize
-    requires { ⌜ (at + 34 ≤ length (now out)) × (length (now word) ≤ 12) ⌝ }
-    ensures { λ r. ⌜ PutWithin (now (out .entry)) at 34 (printedLine (now (word .entry) ∷ naturalText count ∷ [])) (now (out .exit)) r ⌝ }
+    requires { ⌜ (at + endRoom ≤ length (now out)) × (length (now word) ≤ wordRoom) ⌝ }
+    ensures { λ r. ⌜ PutWithin (now (out .entry)) at endRoom (printedLine (now (word .entry) ∷ naturalText count ∷ [])) (now (out .exit)) r ⌝ }
 {
     let after_word = put_bytes(&mut *out, at, word);
     let number = put_byte(&mut *out, after_word, TAB);
@@ -37,8 +37,8 @@ fn put_count(out: &mut [u8], at: usize, word: &[u8], count: u32) -> usize
 
 // The word and the thousandths of a value.
 fn put_value(out: &mut [u8], at: usize, reading: Thousandths) -> usize
-    requires { ⌜ at + 34 ≤ length (now out) ⌝ }
-    ensures { λ r. ⌜ PutWithin (now (out .entry)) at 34 (printedLine (wordOf (Class.Value reading) ∷ figureOf (Class.Value reading) ∷ [])) (now (out .exit)) r ⌝ }
+    requires { ⌜ at + endRoom ≤ length (now out) ⌝ }
+    ensures { λ r. ⌜ PutWithin (now (out .entry)) at endRoom (printedLine (wordOf (Class.Value reading) ∷ figureOf (Class.Value reading) ∷ [])) (now (out .exit)) r ⌝ }
 {
     let after_word = put_bytes(&mut *out, at, b"value");
     let number = put_byte(&mut *out, after_word, TAB);
@@ -48,8 +48,8 @@ fn put_value(out: &mut [u8], at: usize, reading: Thousandths) -> usize
 
 // The word of a class, and its thousandths or count.
 fn put_class(out: &mut [u8], at: usize, class: Class) -> usize
-    requires { ⌜ at + 34 ≤ length (now out) ⌝ }
-    ensures { λ r. ⌜ PutWithin (now (out .entry)) at 34 (printedLine (wordOf class ∷ figureOf class ∷ [])) (now (out .exit)) r ⌝ }
+    requires { ⌜ at + endRoom ≤ length (now out) ⌝ }
+    ensures { λ r. ⌜ PutWithin (now (out .entry)) at endRoom (printedLine (wordOf class ∷ figureOf class ∷ [])) (now (out .exit)) r ⌝ }
 {
     match class {
         Class::Value(reading) => put_value(out, at, reading),
@@ -65,8 +65,8 @@ fn put_class(out: &mut [u8], at: usize, class: Class) -> usize
 
 // One signal's reading.
 pub fn put_signal(out: &mut [u8], at: usize, identifier: u32, number: u32, class: Class) -> usize
-    requires { ⌜ at + 64 ≤ length (now out) ⌝ }
-    ensures { λ r. ⌜ PutWithin (now (out .entry)) at 64 (signalLine identifier number class) (now (out .exit)) r ⌝ }
+    requires { ⌜ at + lineRoom ≤ length (now out) ⌝ }
+    ensures { λ r. ⌜ PutWithin (now (out .entry)) at lineRoom (signalLine identifier number class) (now (out .exit)) r ⌝ }
 {
     let after_identifier = put_identifier(&mut *out, at, identifier);
     let second = put_byte(&mut *out, after_identifier, TAB);
@@ -77,8 +77,8 @@ pub fn put_signal(out: &mut [u8], at: usize, identifier: u32, number: u32, class
 
 // A refused frame.
 pub fn put_refused(out: &mut [u8], at: usize, identifier: u32, refusal: u32) -> usize
-    requires { ⌜ at + 64 ≤ length (now out) ⌝ }
-    ensures { λ r. ⌜ PutWithin (now (out .entry)) at 64 (refusedLine identifier refusal) (now (out .exit)) r ⌝ }
+    requires { ⌜ at + lineRoom ≤ length (now out) ⌝ }
+    ensures { λ r. ⌜ PutWithin (now (out .entry)) at lineRoom (refusedLine identifier refusal) (now (out .exit)) r ⌝ }
 {
     let after_identifier = put_identifier(&mut *out, at, identifier);
     let second = put_byte(&mut *out, after_identifier, TAB);
@@ -87,8 +87,8 @@ pub fn put_refused(out: &mut [u8], at: usize, identifier: u32, refusal: u32) -> 
 
 // An ill-formed line.
 pub fn put_ill_formed(out: &mut [u8], at: usize) -> usize
-    requires { ⌜ at + 64 ≤ length (now out) ⌝ }
-    ensures { λ r. ⌜ PutWithin (now (out .entry)) at 64 illFormedLine (now (out .exit)) r ⌝ }
+    requires { ⌜ at + lineRoom ≤ length (now out) ⌝ }
+    ensures { λ r. ⌜ PutWithin (now (out .entry)) at lineRoom illFormedLine (now (out .exit)) r ⌝ }
 {
     put_count(out, at, b"no", ILL_FORMED)
 }

@@ -10,7 +10,7 @@ use Rattle.listing.proofs.list_lines.Statement.{statement}
 use Rattle.listing.proofs.list_lines.Tie as tie
 use Rattle.listing.proofs.list_lines.Reads as reads
 use Rattle.listing.proofs.list_lines.Lts as lts
-use Rattle.listing.proofs.room.list_line.Reads as list-line-reads
+use Rattle.listing.proofs.line.list_line.Reads as list-line-reads
 use Rattle.parts.proofs.find.Reads as find-reads
 use Rattle.parts.proofs.part_before.Reads as part-before-reads
 use Rattle.parts.proofs.part_from.Reads as part-from-reads

@@ -60,8 +60,8 @@ mul-raws c = search needs
 slice-write-raws : tie.Need-slice-write-raws Inv-loop μ-loop
 slice-write-raws c = omega (arith, c .before .before .before .before .before .before .before .before .before .before .before .pre .raw-room, write-length (rawIn (c .before .before .before .before .before .before .before .before .before .before .before .args .word)) (c .before .before .before .before .before .before .before .before .before .before .before .args .raws .now) (c .before .before .before .before .before .before .before .before .before .before .before .args .numbers .now) (c .before .before .before .before .before .before .before .before .before .before .before .args .starts .now) (c .before .before .before .before .before .before .loop .raws) (c .before .before .before .before .before .before .loop .i) (c .before .before .before .before .before .before .loop .inv .in-raws))
 
-code-requires : tie.Need-code-requires Inv-loop μ-loop
-code-requires c κs = search needs
+code-of-requires : tie.Need-code-of-requires Inv-loop μ-loop
+code-of-requires c κs = search needs
 
 slice-write-classes : tie.Need-slice-write-classes Inv-loop μ-loop
 slice-write-classes c = omega (arith, c .before .before .before .before .before .before .before .before .before .before .before .before .pre .class-room, write-length (codeIn (c .before .before .before .before .before .before .before .before .before .before .before .before .args .word)) (c .before .before .before .before .before .before .before .before .before .before .before .before .args .classes .now) (c .before .before .before .before .before .before .before .before .before .before .before .before .args .numbers .now) (c .before .before .before .before .before .before .before .before .before .before .before .before .args .starts .now) (c .before .before .before .before .before .before .before .loop .classes) (c .before .before .before .before .before .before .before .loop .i) (c .before .before .before .before .before .before .before .loop .inv .in-classes))
@@ -94,7 +94,7 @@ loop-again c = let a = c .before .before .before .before .before .before .before
       bound = omega arith;
       fit = fits-on ns ss (l .i) h e (l .inv .fit);
       in-raws = write-more (rawIn (a .word)) (a .raws .now) ns ss (l .raws) (l .i) _ h e raw (l .inv .in-raws);
-      in-classes = write-more (codeIn (a .word)) (a .classes .now) ns ss (l .classes) (l .i) _ h e (c .before .code .ensures ∙ ap classCode class) (l .inv .in-classes);
+      in-classes = write-more (codeIn (a .word)) (a .classes .now) ns ss (l .classes) (l .i) _ h e (c .before .code-of .ensures ∙ ap classCode class) (l .inv .in-classes);
       in-thousandths = write-more (readingIn (a .word)) (a .thousandths .now) ns ss (l .thousandths) (l .i) _ h e (toZ-ofZ w64 (c .thousandths-of .result) (search needs) ∙ c .thousandths-of .ensures ∙ ap thousandthsOf class) (l .inv .in-thousandths);
     }
 
@@ -130,7 +130,7 @@ read-signals-spec =
     class-of-requires
     mul-raws
     slice-write-raws
-    code-requires
+    code-of-requires
     slice-write-classes
     thousandths-of-requires
     mul-t11

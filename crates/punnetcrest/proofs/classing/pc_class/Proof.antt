@@ -19,11 +19,14 @@ returns c = rw (c .before .refusal-of .ensures) (class-refused _ _ _ _ (c .befor
 code-of-requires : tie.Need-code-of-requires
 code-of-requires c κs = search needs
 
-reading-of-requires : tie.Need-reading-of-requires
-reading-of-requires c κs = search needs
+cast-class-code : tie.Need-cast-class-code
+cast-class-code c = search needs
+
+thousandths-of-requires : tie.Need-thousandths-of-requires
+thousandths-of-requires c κs = search needs
 
 returns-2 : tie.Need-returns-2
-returns-2 c = rw (toZ-ofZ w64 (c .reading-of .result) (search needs), c .before .code-of .ensures, c .reading-of .ensures)
+returns-2 c = rw (toZ-ofZ w64 (c .thousandths-of .result) (search needs), c .before .code-of .ensures, c .thousandths-of .ensures)
     (class-given _ _ _ _ (c .before .before .before .before .class-of .ensures) (sym (c .before .before .before .refusal-of .ensures) ∙ c .before .before .if1 .left))
 
 pub pc-class-spec : {M : Type 1} → statement M
@@ -34,5 +37,6 @@ pc-class-spec =
     refusal-of-requires
     returns
     code-of-requires
-    reading-of-requires
+    cast-class-code
+    thousandths-of-requires
     returns-2)

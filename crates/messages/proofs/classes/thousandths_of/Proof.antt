@@ -1,11 +1,11 @@
--- `messages::reading::thousandths_of` meets its contract: in each arm the class is known.
+-- `messages::classes::thousandths_of` meets its contract: in each arm the class is known.
 -- Assumes nothing.
 use mathlib.Core.Path.{_∙_}
 use mir.Syntax.{w64}
 use mir.ValLaws.{toZ-ofZ}
 use borrow.Author.Needs.{needs}
-use Rattle.messages.proofs.reading.thousandths_of.Statement.{statement}
-use Rattle.messages.proofs.reading.thousandths_of.Tie as tie
+use Rattle.messages.proofs.classes.thousandths_of.Statement.{statement}
+use Rattle.messages.proofs.classes.thousandths_of.Tie as tie
 
 enum-known-class : tie.Need-enum-known-class
 enum-known-class c = search needs

@@ -1,0 +1,45 @@
+-- `listing::room::list_refused` meets its contract: the line is written aside, and fits or not. Assumes nothing.
+use Prim.Native.Nat.{ℕ}
+use native.Mathlib.Omega.{arith}
+use lib.ListN.{length-replicate}
+use Rattle.listing.proofs.Fits.{fitted-as, aside-is, aside-long}
+use borrow.Author.Needs.{needs}
+use Rattle.listing.proofs.room.list_refused.Statement.{statement}
+use Rattle.listing.proofs.room.list_refused.Tie as tie
+use Rattle.listing.proofs.room.list_refused.Reads as reads
+use Rattle.listing.proofs.room.list_refused.Lts as lts
+use Rattle.listing.proofs.room.fit.Reads as fit-reads
+use Rattle.signal_lines.proofs.put_refused.Reads as put-refused-reads
+
+slice-aggregate-put-refused : tie.Need-slice-aggregate-put-refused
+slice-aggregate-put-refused c = search needs
+
+put-refused-requires : tie.Need-put-refused-requires
+put-refused-requires c κs = search needs
+
+array-share-prefix-line : tie.Need-array-share-prefix-line
+array-share-prefix-line c = search needs
+
+slice-aggregate-fit : tie.Need-slice-aggregate-fit
+slice-aggregate-fit c = aside-long (c .before .before .before .put-refused .ensures) (omega (arith, length-replicate {A = ℕ} 64 0))
+
+fit-requires : tie.Need-fit-requires
+fit-requires c κs = search needs
+
+same-length : tie.Need-same-length
+same-length c = search needs
+
+returns : tie.Need-returns
+returns c = fitted-as _ _ (aside-is (c .before .before .before .before .before .before .put-refused .ensures) (omega (arith, length-replicate {A = ℕ} 64 0))) (c .before .before .fit .ensures)
+
+pub list-refused-spec : {M : Type 1} → statement M
+list-refused-spec =
+    tie.close
+    (tie.spec
+    slice-aggregate-put-refused
+    put-refused-requires
+    array-share-prefix-line
+    slice-aggregate-fit
+    fit-requires
+    same-length
+    returns)

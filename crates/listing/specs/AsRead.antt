@@ -1,0 +1,28 @@
+-- A listing beside reading: the refusals that it prints, and the frames of which it prints readings. The theorems are in
+-- proofs/AsRead.antt. Assumes nothing: these are definitions.
+use mathlib.Core.Path.{_≡_}
+use mathlib.Core.List.{List}
+use mathlib.Core.Option.{some}
+use Prim.Native.Nat.{ℕ}
+use Rattle.books.specs.Book.{Message}
+use Rattle.framing.specs.declared.Reading.{Reading}
+use Rattle.framing.specs.declared.Reading.the-variants.{Read, NotABook, NotEightBytes, UnknownIdentifier, WrongChecksum, TooLittleRoom}
+use Rattle.framing.specs.Messages.{messageOf}
+use Rattle.framing.specs.Reading.{Slices, readings, readByMessages}
+use Rattle.listing.specs.Printout.{signalLines, frameListing}
+
+-- the refusals of a frame; room is not asked in a listing
+abbrev pub Refuses : Reading → Type 0
+Refuses (Read n) = ⊥
+Refuses NotABook = ⊥
+Refuses NotEightBytes = Unit
+Refuses UnknownIdentifier = Unit
+Refuses WrongChecksum = Unit
+Refuses TooLittleRoom = ⊥
+
+-- a frame that reading gives readings of
+pub record ListedAsRead (ms : List Message) (identifier : ℕ) (bytes : List ℕ) (lent : Slices) : Type 0 where
+  pub message : Message
+  pub found : messageOf identifier ms ≡ some message
+  pub printed : frameListing ms identifier bytes ≡ signalLines identifier bytes (message .placements)
+  pub read : readByMessages ms identifier bytes lent .1 ≡ readings bytes (message .placements) lent
