@@ -66,7 +66,7 @@ pub extern "C" fn pc_class(
     if refusal != 0 {
         return refusal;
     }
-    *class_code = code_of(class);
     *thousandths = reading_of(class);
+    *class_code = code_of(class);
     0
 }

@@ -16,14 +16,14 @@ refusal-of-requires c κs = search needs
 returns : tie.Need-returns
 returns c = rw (c .before .refusal-of .ensures) (class-refused _ _ _ _ (c .before .before .class-of .ensures) (rw (c .before .refusal-of .ensures) at (c .if1 .taken)))
 
-code-of-requires : tie.Need-code-of-requires
-code-of-requires c κs = search needs
-
 reading-of-requires : tie.Need-reading-of-requires
 reading-of-requires c κs = search needs
 
+code-of-requires : tie.Need-code-of-requires
+code-of-requires c κs = search needs
+
 returns-2 : tie.Need-returns-2
-returns-2 c = rw (toZ-ofZ w64 (c .reading-of .result) (search needs), c .before .code-of .ensures, c .reading-of .ensures)
+returns-2 c = rw (toZ-ofZ w64 (c .before .reading-of .result) (search needs), c .code-of .ensures, c .before .reading-of .ensures)
     (class-given _ _ _ _ (c .before .before .before .before .class-of .ensures) (sym (c .before .before .before .refusal-of .ensures) ∙ c .before .before .if1 .left))
 
 pub pc-class-spec : {M : Type 1} → statement M
@@ -33,6 +33,6 @@ pc-class-spec =
     class-of-requires
     refusal-of-requires
     returns
-    code-of-requires
     reading-of-requires
+    code-of-requires
     returns-2)
