@@ -1,5 +1,5 @@
 -- What `_` knows in a `match` on a number: it is none of the numbers of the other arms. Assumes nothing.
-use mathlib.Core.Path.{_≡_, refl, sym}
+use mathlib.Core.Path.{_≡_, refl, sym, ap}
 use mathlib.Core.List.{List, [], _∷_}
 use Prim.Native.Nat.{ℕ, zero, suc, _≤_, _<_}
 use native.Mathlib.Nat.{le-of-suc-le-suc, not-suc-le-zero}
@@ -7,7 +7,7 @@ use native.Mathlib.Omega.{arith}
 use lib.Arith.{lt-of-le-ne}
 use lib.ListN.{length, getD}
 use borrow.Author.Tests.{ne-eqb}
-use Rattle.catalogue.specs.Shapes.{shapeIn, noShape}
+use Rattle.catalogue.specs.Shapes.{noShape, signals, shapeIn, shapeOf}
 
 -- ---- arms 0, 1, .. n - 1: the number is n or more
 
@@ -42,8 +42,16 @@ known : (R : Type 0) (x : ℕ) (ps : List (ℕ × ℕ)) → NoneOf R x ps → R
 known R x [] r = r
 known R x (p ∷ ps) r = known (R × (x ≡ p .0 → ⊥)) x ps r .0
 
-pub no-signal : (R : Type 0) (x : ℕ) (ps : List (ℕ × ℕ)) → NoneOf R x ps → noShape ≡ shapeIn x ps
+no-signal : (R : Type 0) (x : ℕ) (ps : List (ℕ × ℕ)) → NoneOf R x ps → noShape ≡ shapeIn x ps
 no-signal R x [] r = refl
 no-signal R x (p ∷ ps) r =
     let other = known (R × (x ≡ p .0 → ⊥)) x ps r .1 in
     simp (ne-eqb (p .0) x (λ e. other (sym e))) (no-signal (R × (x ≡ p .0 → ⊥)) x ps r)
+
+-- what goes by the shape: at an arm it is that of the arm's number, which is the same; at `_` that of no signal
+module _ (f : ℕ → ℕ) where
+  pub by-number : {x k : ℕ} → x ≡ k → f (shapeOf k) ≡ f (shapeOf x)
+  by-number e = ap (λ (n : ℕ). f (shapeOf n)) (sym e)
+
+  pub by-none : (x : ℕ) → NoneOf Unit x signals → f noShape ≡ f (shapeOf x)
+  by-none x r = ap f (no-signal Unit x signals r)

@@ -1,8 +1,7 @@
 // The shape of a signal: rows that differ in the number alone have the same. A const array is built anew at every read,
 // so what is asked for each signal goes by `match`, which becomes a jump; the contracts tie it to the catalogue.
 ghost use mathlib.Core.Path.{_≡_};
-ghost use Rattle.catalogue.specs.Find.{bitsIn};
-ghost use Rattle.catalogue.specs.Shapes.{shapeOf, rowShaped};
+ghost use Rattle.catalogue.specs.Shapes.{shapeOf};
 
 // The shape of a signal: 37 where the catalogue has no such signal.
 pub fn shape_of(number: u32) -> u8
@@ -209,51 +208,5 @@ pub fn shape_of(number: u32) -> u8
         1926 => 6,
         1927 => 6,
         _ => 37,
-    }
-}
-
-// The bits of the signals with a shape: 0 where the shape is that of no signal.
-pub fn bits_by(shape: u8) -> u32
-    ensures { λ r. ⌜ r ≡ bitsIn (rowShaped shape) ⌝ }
-{
-    match shape {
-        0 => 16,
-        1 => 16,
-        2 => 8,
-        3 => 2,
-        4 => 16,
-        5 => 2,
-        6 => 1,
-        7 => 32,
-        8 => 16,
-        9 => 2,
-        10 => 2,
-        11 => 4,
-        12 => 8,
-        13 => 16,
-        14 => 8,
-        15 => 16,
-        16 => 8,
-        17 => 8,
-        18 => 16,
-        19 => 8,
-        20 => 16,
-        21 => 4,
-        22 => 8,
-        23 => 8,
-        24 => 8,
-        25 => 8,
-        26 => 8,
-        27 => 2,
-        28 => 3,
-        29 => 3,
-        30 => 8,
-        31 => 2,
-        32 => 16,
-        33 => 2,
-        34 => 16,
-        35 => 6,
-        36 => 5,
-        _ => 0,
     }
 }

@@ -34,7 +34,7 @@ pub extern "C" fn pc_class(
     if refusal != 0 {
         return refusal;
     }
-    *class_code = messages::code_of(class) as u32;
     *thousandths = messages::thousandths_of(class);
+    *class_code = messages::code_of(class) as u32;
     0
 }

@@ -1,18 +1,17 @@
 -- `catalogue::shapes::shape_of` meets its contract: each arm has the shape of its number, and what is left for `_` is no
 -- signal's number. Assumes nothing.
-use mathlib.Core.Path.{_≡_, sym, ap}
+use mathlib.Core.Path.{_≡_}
 use Prim.Native.Nat.{ℕ}
-use Rattle.catalogue.specs.Shapes.{signals, shapeOf}
-use Rattle.catalogue.proofs.Arms.{no-signal}
+use Rattle.catalogue.specs.Shapes.{shapeOf}
+use Rattle.catalogue.proofs.Arms.{by-number, by-none}
 use Rattle.catalogue.proofs.shapes.shape_of.Statement.{statement}
 use Rattle.catalogue.proofs.shapes.shape_of.Tie as tie
 
--- the shape of the arm's number is that of the number, which is the same
 arm : {x k : ℕ} → x ≡ k → shapeOf k ≡ shapeOf x
-arm e = ap shapeOf (sym e)
+arm e = by-number (λ (s : ℕ). s) e
 
 none : tie.Need-returns-200
-none c = no-signal Unit (c .before .args .number) signals (c .match .rest)
+none c = by-none (λ (s : ℕ). s) (c .before .args .number) (c .match .rest)
 
 pub shape-of-spec : {M : Type 1} → statement M
 shape-of-spec =
