@@ -1,3 +1,4 @@
+pub mod Bools
 pub mod Walks
 pub mod Pigeons
 pub mod Reach

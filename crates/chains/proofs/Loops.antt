@@ -2,17 +2,14 @@
 use mathlib.Core.Path.{_≡_, refl, subst}
 use mathlib.Core.Bool.{Bool, true, false}
 use Prim.Native.Nat.{ℕ, _≤_, _<_}
-use native.Mathlib.Omega.{arith}
 use mathlib.Core.List.{List, [], _∷_, _++_, List·Memᴰ, List·Memᴰ·head}
 use lib.ListN.{length, getD}
 use Rattle.chains.specs.Chain.{Walk, OnClosed, LoopFree}
 use Rattle.chains.specs.Spread.{Distinct}
-use Rattle.chains.proofs.Walks.{walk-append, through, chain-walk}
-use Rattle.chains.proofs.Reach.{reach, reach-walk, walk-reach}
+use Rattle.chains.proofs.Walks.{walk-append, Through, through, chain-walk}
+use Rattle.chains.proofs.Bools.{true-false}
+use Rattle.chains.proofs.Reach.{reach, reach-leads, leads-reach}
 use Rattle.chains.proofs.Pigeons.{below-length}
-
-pub true-false : {b : Bool} → b ≡ true → b ≡ false → ⊥
-true-false p q = let z : _≡_ {A = ℕ} 0 1 = cc in omega arith
 
 module _ (fs ts : List ℕ) where
   -- route i comes back to where it started
@@ -21,13 +18,13 @@ module _ (fs ts : List ℕ) where
 
   -- a route lies on a closed chain just where it comes back
   pub closed-back : (i : ℕ) → OnClosed fs ts i → (i < length fs) × (comesBack i ≡ true)
-  closed-back i (p, c, w, m) = let r = chain-walk fs ts p c p w in turn (through fs ts (length fs) p i (r .0 ∷ r .1) p (subst (λ (d : List ℕ). List·Memᴰ i d) (r .2) m) (r .3))
+  closed-back i (p, c, w, m) = let r = chain-walk fs ts p c p w in turn (through fs ts p i (r .0 ∷ r .1) p (subst (λ (d : List ℕ). List·Memᴰ i d) (r .2) m) (r .3))
     where
-      turn : (a b : List ℕ) × (i < length fs) × Walk fs ts (length fs) p a (getD fs i 0) × Walk fs ts (length fs) (getD ts i 0) b p → (i < length fs) × (comesBack i ≡ true)
-      turn (a, b, lt, u, v) = (lt, walk-reach fs ts (length fs) i (getD fs i 0) (b ++ a, walk-append fs ts (length fs) _ b p _ a v u))
+      turn : Through fs ts p i p → (i < length fs) × (comesBack i ≡ true)
+      turn (a, b, lt, u, v) = (lt, leads-reach fs ts i (getD fs i 0) (b ++ a, walk-append fs ts _ b p _ a v u))
 
   pub back-closed : (i : ℕ) → i < length fs → comesBack i ≡ true → OnClosed fs ts i
-  back-closed i l e = let s = reach-walk fs ts (length fs) i (getD fs i 0) e in (getD fs i 0, i ∷ s .0, (l, refl, s .1), List·Memᴰ·head refl)
+  back-closed i l e = let s = reach-leads fs ts i (getD fs i 0) e in (getD fs i 0, i ∷ s .0, (l, refl, s .1), List·Memᴰ·head refl)
 
   pub loop-free : ((i : ℕ) → i < length fs → comesBack i ≡ false) → LoopFree fs ts
   loop-free h p c w = let s = chain-walk fs ts p c p w in
@@ -35,12 +32,12 @@ module _ (fs ts : List ℕ) where
 
   -- without closed chains no chain has a route twice, so that it has at most as many routes as the table
   module _ (free : LoopFree fs ts) where
-    distinct : (p : ℕ) (c : List ℕ) (q : ℕ) → Walk fs ts (length fs) p c q → Distinct c
+    distinct : (p : ℕ) (c : List ℕ) (q : ℕ) → Walk fs ts p c q → Distinct c
     distinct p [] q w = tt
     distinct p (i ∷ c) q (l, f, w) = (
-      λ m. let t = through fs ts (length fs) (getD ts i 0) i c q m w in free (getD fs i 0) (i ∷ t .0) (l, refl, t .3),
+      λ m. let t = through fs ts (getD ts i 0) i c q m w in free (getD fs i 0) (i ∷ t .0) (l, refl, t .3),
       distinct (getD ts i 0) c q w,
     )
 
-    pub short : (p : ℕ) (c : List ℕ) (q : ℕ) → Walk fs ts (length fs) p c q → length c ≤ length fs
-    short p c q w = below-length (length fs) c (distinct p c q w) (λ x m. through fs ts (length fs) p x c q m w .2)
+    pub short : (p : ℕ) (c : List ℕ) (q : ℕ) → Walk fs ts p c q → length c ≤ length fs
+    short p c q w = below-length (length fs) c (distinct p c q w) (λ x m. through fs ts p x c q m w .2)

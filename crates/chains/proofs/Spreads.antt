@@ -2,7 +2,7 @@
 -- routes; a place without routes has none; and it is the only list for each place that obeys the rule. Assumes nothing.
 use mathlib.Core.Path.{_≡_, refl, sym, ap, _∙_}
 use mathlib.Core.Logic.{_⊎_, inl, inr, ⊎-elim}
-use mathlib.Core.Bool.{Bool, true, false}
+use mathlib.Core.Bool.{Bool, true, false, cond}
 use Prim.Native.Nat.{ℕ, zero, suc, _≤_, _<_, _+_}
 use native.Mathlib.Nat.{eq-or-lt-of-le, add-suc, suc-add}
 use native.Mathlib.Omega.{arith}
@@ -11,7 +11,7 @@ use lib.ListN.{length, getD}
 use lib.Dec.{eqb}
 use borrow.Author.Tests.{eqb-true, eqb-false, ne-eqb}
 use Rattle.chains.specs.Chain.{Walk, Chain, LoopFree, Single}
-use Rattle.chains.specs.Spread.{pick, Distinct, sendsAlong, Rule, spreadWithin, spreadOf}
+use Rattle.chains.specs.Spread.{Distinct, sendsAlong, Rule, spreadWithin, spreadOf}
 use Rattle.chains.proofs.Walks.{walk-end, chain-walk}
 use Rattle.chains.proofs.Pigeons.{pigeons}
 use Rattle.chains.proofs.Loops.{short}
@@ -40,7 +40,7 @@ module _ (fs ts : List ℕ) where
       here : eqb (getD fs i 0) p ≡ true → (q ≡ getD ts i 0) ⊎ List·Memᴰ q (g (getD ts i 0)) → Sent g p i (suc m) q
       here e a = record { route = i; low = omega arith; high = omega (arith, add-suc i m); starts = eqb-true _ _ e; at = a }
 
-      go : (b : Bool) → eqb (getD fs i 0) p ≡ b → List·Memᴰ q (pick b (getD ts i 0 ∷ (g (getD ts i 0) ++ sendsAlong fs ts g p (suc i) m)) (sendsAlong fs ts g p (suc i) m))
+      go : (b : Bool) → eqb (getD fs i 0) p ≡ b → List·Memᴰ q (cond b (getD ts i 0 ∷ (g (getD ts i 0) ++ sendsAlong fs ts g p (suc i) m)) (sendsAlong fs ts g p (suc i) m))
           → (List·Memᴰ q (sendsAlong fs ts g p (suc i) m) → Sent g p (suc i) m q) → Sent g p i (suc m) q
       go true e h ih =
           ⊎-elim (λ x. here e (inl x))
@@ -59,7 +59,7 @@ module _ (fs ts : List ℕ) where
       next l = record { route = r .route; low = l; high = omega (arith, r .high, add-suc i m, suc-add i m); starts = r .starts; at = r .at }
 
       go : (b : Bool) → eqb (getD fs i 0) p ≡ b → (i ≡ r .route) ⊎ (i < r .route) → (Sent g p (suc i) m q → List·Memᴰ q (sendsAlong fs ts g p (suc i) m))
-          → List·Memᴰ q (pick b (getD ts i 0 ∷ (g (getD ts i 0) ++ sendsAlong fs ts g p (suc i) m)) (sendsAlong fs ts g p (suc i) m))
+          → List·Memᴰ q (cond b (getD ts i 0 ∷ (g (getD ts i 0) ++ sendsAlong fs ts g p (suc i) m)) (sendsAlong fs ts g p (suc i) m))
       go true e (inl k) ih = ⊎-elim (λ x. List·Memᴰ·head x) (λ x. List·Memᴰ·tail (Memᴰ·append-left _ x)) (here k)
       go true e (inr k) ih = List·Memᴰ·tail (Memᴰ·append-right (g (getD ts i 0)) (ih (next k)))
       go false e (inl k) ih = absurd (eqb-false _ _ e (ap (λ (j : ℕ). getD fs j 0) k ∙ r .starts))
@@ -67,9 +67,9 @@ module _ (fs ts : List ℕ) where
 
   -- each entry of g ends a chain
   abbrev Chained : (ℕ → List ℕ) → Type 0
-  Chained g = (p q : ℕ) → List·Memᴰ q (g p) → (j : ℕ) × (c : List ℕ) × Walk fs ts (length fs) p (j ∷ c) q
+  Chained g = (p q : ℕ) → List·Memᴰ q (g p) → (j : ℕ) × (c : List ℕ) × Walk fs ts p (j ∷ c) q
 
-  sent-chain : (g : ℕ → List ℕ) → Chained g → (p i m q : ℕ) → i + m ≤ length fs → (r : Sent g p i m q) → (c : List ℕ) × Walk fs ts (length fs) p (r .route ∷ c) q
+  sent-chain : (g : ℕ → List ℕ) → Chained g → (p i m q : ℕ) → i + m ≤ length fs → (r : Sent g p i m q) → (c : List ℕ) × Walk fs ts p (r .route ∷ c) q
   sent-chain g ch p i m q fits r =
       let l : r .route < length fs = omega (arith, r .high) in
       ⊎-elim (λ (e : q ≡ getD ts (r .route) 0). ([], (l, r .starts, sym e))) (λ h. let k = ch (getD ts (r .route) 0) q h in (k .0 ∷ k .1, (l, r .starts, k .2))) (r .at)
@@ -81,7 +81,7 @@ module _ (fs ts : List ℕ) where
       let k = sent-chain (spreadWithin fs ts d) (within-chained d) p 0 (length fs) q (omega arith) r in
       (r .route, k .0, k .1)
 
-  chain-within : (d p q j : ℕ) (c : List ℕ) → length c < d → Walk fs ts (length fs) p (j ∷ c) q → List·Memᴰ q (spreadWithin fs ts d p)
+  chain-within : (d p q j : ℕ) (c : List ℕ) → length c < d → Walk fs ts p (j ∷ c) q → List·Memᴰ q (spreadWithin fs ts d p)
   chain-within zero p q j c l w = absurd (omega arith)
   chain-within (suc d) p q j [] l (b, f, w) = sent-entry (spreadWithin fs ts d) p 0 (length fs) q (record { route = j; low = omega arith; high = omega arith; starts = f; at = inl (sym w) })
   chain-within (suc d) p q j (x ∷ c) l (b, f, w) =
@@ -105,14 +105,14 @@ module _ (fs ts : List ℕ) where
         fits′ : suc i + m ≤ length fs
         fits′ = omega (arith, add-suc i m, suc-add i m)
 
-        clash : eqb (getD fs i 0) p ≡ true → (q : ℕ) (c : List ℕ) → Walk fs ts (length fs) (getD ts i 0) c q → List·Memᴰ q (sendsAlong fs ts g p (suc i) m) → ⊥
+        clash : eqb (getD fs i 0) p ≡ true → (q : ℕ) (c : List ℕ) → Walk fs ts (getD ts i 0) c q → List·Memᴰ q (sendsAlong fs ts g p (suc i) m) → ⊥
         clash e q c w h =
             let r = entry-sent g p (suc i) m q h in
             let k = sent-chain g ch p (suc i) m q fits′ r in
             single p q (i ∷ c) (r .route ∷ k .0)
             (record { one = (omega (arith, add-suc i m), eqb-true _ _ e, w); other = k .1; different = λ z. let same = head-eq-of-cons-eq z in absurd (omega (arith, r .low, same)) })
 
-        go : (b : Bool) → eqb (getD fs i 0) p ≡ b → Distinct (sendsAlong fs ts g p (suc i) m) → Distinct (pick b (getD ts i 0 ∷ (g (getD ts i 0) ++ sendsAlong fs ts g p (suc i) m)) (sendsAlong fs ts g p (suc i) m))
+        go : (b : Bool) → eqb (getD fs i 0) p ≡ b → Distinct (sendsAlong fs ts g p (suc i) m) → Distinct (cond b (getD ts i 0 ∷ (g (getD ts i 0) ++ sendsAlong fs ts g p (suc i) m)) (sendsAlong fs ts g p (suc i) m))
         go true e ih = (
           λ h. ⊎-elim (λ x. let k = ch (getD ts i 0) (getD ts i 0) x in free (getD ts i 0) (k .0 ∷ k .1) (k .2)) (clash e (getD ts i 0) [] refl) (List·Memᴰ·append-cases (g (getD ts i 0)) h),
           distinct-append (g (getD ts i 0)) (sendsAlong fs ts g p (suc i) m) (dg (getD ts i 0)) ih (λ x h. let k = ch (getD ts i 0) x h in clash e x (k .0 ∷ k .1) (k .2)),
@@ -138,7 +138,7 @@ module _ (fs ts : List ℕ) where
   along-same g h p i (suc m) k = go (eqb (getD fs i 0) p) refl (along-same g h p (suc i) m (λ j l. k j (omega (arith, add-suc i m, suc-add i m))))
     where
       go : (b : Bool) → eqb (getD fs i 0) p ≡ b → sendsAlong fs ts g p (suc i) m ≡ sendsAlong fs ts h p (suc i) m
-          → pick b (getD ts i 0 ∷ (g (getD ts i 0) ++ sendsAlong fs ts g p (suc i) m)) (sendsAlong fs ts g p (suc i) m) ≡ pick b (getD ts i 0 ∷ (h (getD ts i 0) ++ sendsAlong fs ts h p (suc i) m)) (sendsAlong fs ts h p (suc i) m)
+          → cond b (getD ts i 0 ∷ (g (getD ts i 0) ++ sendsAlong fs ts g p (suc i) m)) (sendsAlong fs ts g p (suc i) m) ≡ cond b (getD ts i 0 ∷ (h (getD ts i 0) ++ sendsAlong fs ts h p (suc i) m)) (sendsAlong fs ts h p (suc i) m)
       go true e ih = rw (ih, k i (omega (arith, add-suc i m)) (eqb-true _ _ e))
       go false e ih = ih
 
@@ -147,14 +147,14 @@ module _ (fs ts : List ℕ) where
   along-none g p i (suc m) k = rw (ne-eqb (getD fs i 0) p (k i (omega (arith, add-suc i m)))) (along-none g p (suc i) m (λ j l. k j (omega (arith, add-suc i m, suc-add i m))))
 
   -- what obeys the rule is the spread along chains of at most d routes, where no chain from p is longer
-  rule-within : (g : ℕ → List ℕ) → Rule fs ts g → (d p : ℕ) → ((c : List ℕ) (q : ℕ) → Walk fs ts (length fs) p c q → length c ≤ d) → g p ≡ spreadWithin fs ts d p
+  rule-within : (g : ℕ → List ℕ) → Rule fs ts g → (d p : ℕ) → ((c : List ℕ) (q : ℕ) → Walk fs ts p c q → length c ≤ d) → g p ≡ spreadWithin fs ts d p
   rule-within g rule zero p k = rule p ∙ along-none g p 0 (length fs) (λ j l f. let h = k (j ∷ []) (getD ts j 0) (omega arith, f, refl) in absurd (omega (arith, h)))
   rule-within g rule (suc d) p k =
       rule p ∙ along-same g (spreadWithin fs ts d) p 0 (length fs)
       (λ j l f. rule-within g rule d (getD ts j 0) (λ c q w. let h = k (j ∷ c) q (omega arith, f, w) in omega (arith, h)))
 
   -- more routes than the longest chain has change nothing
-  enough : (d p : ℕ) → ((c : List ℕ) (q : ℕ) → Walk fs ts (length fs) p c q → length c ≤ d) → spreadWithin fs ts (suc d) p ≡ spreadWithin fs ts d p
+  enough : (d p : ℕ) → ((c : List ℕ) (q : ℕ) → Walk fs ts p c q → length c ≤ d) → spreadWithin fs ts (suc d) p ≡ spreadWithin fs ts d p
   enough zero p k = along-none (spreadWithin fs ts 0) p 0 (length fs) (λ j l f. let h = k (j ∷ []) (getD ts j 0) (omega arith, f, refl) in absurd (omega (arith, h)))
   enough (suc d) p k =
       along-same (spreadWithin fs ts (suc d)) (spreadWithin fs ts d) p 0 (length fs)

@@ -2,22 +2,19 @@
 use mathlib.Core.Path.{_≡_, refl, sym, ap, _∙_}
 use mathlib.Core.Logic.{_⊎_, inl, inr, ⊎-elim}
 use mathlib.Core.Bool.{Bool, true, false, not, _||_, _&&_}
-use Prim.Native.Nat.{ℕ, zero, suc, _≤_, _<_}
+use Prim.Native.Nat.{ℕ, zero, suc, _<_}
 use native.Mathlib.Nat.{eq-or-lt-of-le, le-of-suc-le-suc}
 use native.Mathlib.Omega.{arith}
 use mathlib.Core.List.{List}
 use lib.ListN.{length, getD}
 use lib.Dec.{eqb}
 use borrow.Author.Tests.{eqb-true, eqb-false, eq-eqb, ne-eqb, not-true}
-use Rattle.chains.specs.Chain.{LoopFree, BeginsDoubling}
+use Rattle.chains.specs.Chain.{LeadsOn, LoopFree, BeginsDoubling}
+use Rattle.chains.specs.Tests.{any, First}
 use Rattle.chains.proofs.Walks.{walk-last}
-use Rattle.chains.proofs.Reach.{reach, Onward, reach-walk, walk-reach, or-cases, and-parts, or-left, or-right, and-both}
+use Rattle.chains.proofs.Bools.{or-cases, and-parts, or-left, or-right, and-both}
+use Rattle.chains.proofs.Reach.{reach, reach-leads, leads-reach}
 use Rattle.chains.proofs.Forks.{ComesTo, Fork, LeadsToFork, begins-fork, fork-begins}
-
--- one of the numbers below n passes
-abbrev pub any : ℕ → (ℕ → Bool) → Bool
-any zero P = false
-any (suc k) P = any k P || P k
 
 pub any-some : (n : ℕ) (P : ℕ → Bool) → any n P ≡ true → (k : ℕ) × (k < n) × (P k ≡ true)
 any-some zero P e = let z : _≡_ {A = ℕ} 0 1 = cc in absurd (omega arith)
@@ -32,13 +29,7 @@ pub any-same : (n : ℕ) (P Q : ℕ → Bool) → ((k : ℕ) → k < n → P k �
 any-same zero P Q h = refl
 any-same (suc n) P Q h = rw (any-same n P Q (λ k l. h k (omega arith)), h n (omega arith))
 
--- r is the first number below n that passes, and n where none does
-pub record First (P : ℕ → Bool) (n r : ℕ) : Type 0 where
-  pub within : r ≤ n
-  pub before : (k : ℕ) → k < r → P k ≡ false
-  pub found : r < n → P r ≡ true
-
--- there is such a number
+-- there is a first number below n that passes, or none
 pub first : (P : ℕ → Bool) (n : ℕ) → (r : ℕ) × First P n r
 first P zero = (0, record { within = omega arith; before = λ k l. absurd (omega arith); found = λ l. absurd (omega arith) })
 first P (suc n) = go (first P n) (P n) refl
@@ -75,12 +66,12 @@ module _ (fs ts : List ℕ) where
   comes-is : (i j : ℕ) → comesTo i j ≡ true → ComesTo fs ts i j
   unfolding comesTo
   comes-is i j e =
-      ⊎-elim (λ h. inr (reach-walk fs ts (length fs) i (getD fs j 0) h)) (λ h. inl (sym (eqb-true _ _ h))) (or-cases (reach fs ts (length fs) i (getD fs j 0)) (eqb j i) e)
+      ⊎-elim (λ h. inr (reach-leads fs ts i (getD fs j 0) h)) (λ h. inl (sym (eqb-true _ _ h))) (or-cases (reach fs ts (length fs) i (getD fs j 0)) (eqb j i) e)
 
   is-comes : (i j : ℕ) → ComesTo fs ts i j → comesTo i j ≡ true
   unfolding comesTo
   is-comes i j (inl e) = or-right (reach fs ts (length fs) i (getD fs j 0)) (eqb j i) (eq-eqb _ _ (sym e))
-  is-comes i j (inr w) = or-left (reach fs ts (length fs) i (getD fs j 0)) (eqb j i) (walk-reach fs ts (length fs) i (getD fs j 0) w)
+  is-comes i j (inr w) = or-left (reach fs ts (length fs) i (getD fs j 0)) (eqb j i) (leads-reach fs ts i (getD fs j 0) w)
 
   fork-is : (a b : ℕ) → a < length fs → b < length fs → fork a b ≡ true → Fork fs ts a b
   unfolding fork meetAgain
@@ -95,12 +86,12 @@ module _ (fs ts : List ℕ) where
         apart = eqb-false a b (not-true (eqb a b) (h .0));
         same = eqb-true _ _ (h .1);
         place = getD ts (r .0) 0;
-        along-first = reach-walk fs ts (length fs) a (getD ts (r .0) 0) (k .0);
-        along-second = reach-walk fs ts (length fs) b (getD ts (r .0) 0) (k .1);
+        along-first = reach-leads fs ts a (getD ts (r .0) 0) (k .0);
+        along-second = reach-leads fs ts b (getD ts (r .0) 0) (k .1);
       }
 
   -- where a route leads on to is the end of some route
-  end-of : (a x : ℕ) → a < length fs → Onward fs ts (length fs) a x → (v : ℕ) × (v < length fs) × (getD ts v 0 ≡ x)
+  end-of : (a x : ℕ) → a < length fs → LeadsOn fs ts a x → (v : ℕ) × (v < length fs) × (getD ts v 0 ≡ x)
   end-of a x l (c, w) = walk-last fs ts (getD fs a 0) a c x (l, refl, w)
 
   is-fork : (a b : ℕ) → Fork fs ts a b → fork a b ≡ true
@@ -110,7 +101,7 @@ module _ (fs ts : List ℕ) where
       and-both _ _ (and-both _ _ (ap not (ne-eqb a b (k .apart))) (eq-eqb _ _ (k .same)))
       (some-any (length fs) (λ v. reach fs ts (length fs) a (getD ts v 0) && reach fs ts (length fs) b (getD ts v 0)) (u .0) (u .1)
       (and-both (reach fs ts (length fs) a (getD ts (u .0) 0)) (reach fs ts (length fs) b (getD ts (u .0) 0))
-      (rw (u .2) (walk-reach fs ts (length fs) a (k .place) (k .along-first))) (rw (u .2) (walk-reach fs ts (length fs) b (k .place) (k .along-second)))))
+      (rw (u .2) (leads-reach fs ts a (k .place) (k .along-first))) (rw (u .2) (leads-reach fs ts b (k .place) (k .along-second)))))
 
   pub begins-is : (i : ℕ) → i < length fs → begins i ≡ true → BeginsDoubling fs ts i
   unfolding begins

@@ -1,5 +1,6 @@
 -- Chains of routes ("The route book"). A table of routes is two lists of places in step: route i leads from the place
--- `getD froms i 0` to the place `getD tos i 0`, and a lower route stands on a lower R line. Assumes nothing: these are definitions.
+-- `getD froms i 0` to the place `getD tos i 0`, and a lower route stands on a lower R line. Assumes nothing: these are
+-- definitions.
 use mathlib.Core.Path.{_≡_}
 use Prim.Native.Nat.{ℕ, _<_}
 use mathlib.Core.List.{List, [], _∷_, List·Memᴰ}
@@ -10,15 +11,19 @@ abbrev pub Different : List ℕ → List ℕ → Type 0
 Different c d = c ≡ d → ⊥
 
 module _ (froms tos : List ℕ) where
-  -- a walk from p to q: routes among the first k, each starting at the place where the one before ended; it may be empty
-  abbrev pub Walk : ℕ → ℕ → List ℕ → ℕ → Type 0
-  Walk k p [] q = p ≡ q
-  Walk k p (i ∷ c) q = (i < k) × (getD froms i 0 ≡ p) × Walk k (getD tos i 0) c q
+  -- a walk from p to q: routes of the table, each starting at the place where the one before ended; it may be empty
+  abbrev pub Walk : ℕ → List ℕ → ℕ → Type 0
+  Walk p [] q = p ≡ q
+  Walk p (i ∷ c) q = (i < length froms) × (getD froms i 0 ≡ p) × Walk (getD tos i 0) c q
 
   -- a chain from p to q: a walk of one or more routes
   abbrev pub Chain : ℕ → List ℕ → ℕ → Type 0
   Chain p [] q = ⊥
-  Chain p (i ∷ c) q = Walk (length froms) p (i ∷ c) q
+  Chain p (i ∷ c) q = Walk p (i ∷ c) q
+
+  -- route i leads on to the place x: a walk goes there from the place where the route ends
+  abbrev pub LeadsOn : ℕ → ℕ → Type 0
+  LeadsOn i x = (c : List ℕ) × Walk (getD tos i 0) c x
 
   -- a closed chain ends where it began
   abbrev pub Closed : ℕ → List ℕ → Type 0

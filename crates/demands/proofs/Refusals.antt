@@ -1,17 +1,16 @@
 -- Demand 3: a book is refused for a loop exactly when some chain of routes returns to the place it left, for doubling exactly when none does
 -- but two different chains join the same two places, otherwise taken. Over every text whose lines pass. Assumes nothing.
-use mathlib.Core.Path.{_≡_, refl, sym, ap, _∙_, subst}
-use Prim.Native.Nat.{ℕ, suc, _≤_, _<_}
+use mathlib.Core.Path.{_≡_, refl, sym, _∙_, subst}
+use Prim.Native.Nat.{ℕ}
 use native.Mathlib.Omega.{arith}
 use mathlib.Core.List.{List}
-use lib.ListN.{length, getD}
-use Rattle.chains.specs.Chain.{Closed, OnClosed, LoopFree, Doubling, BeginsDoubling, Single}
-use Rattle.verdict.specs.Verdicts.{Lowest}
+use lib.ListN.{getD}
+use Rattle.chains.specs.Chain.{OnClosed, LoopFree, BeginsDoubling, Single}
 use Rattle.answers.specs.Numbers.{Said, taken, refused}
 use Rattle.books.specs.Book.{Book, Route}
-use Rattle.reading.specs.Reading.{Outcome, passed, linesRead}
+use Rattle.reading.specs.Reading.{Outcome, passed}
 use Rattle.reading.specs.Reading as lines
-use Rattle.reading.specs.Taken.{froms, tos, TakenWith, Sound}
+use Rattle.reading.specs.Taken.{froms, tos}
 use Rattle.book.specs.Answered.{Passes, Answered, too-long, bad-line, closed-chain, two-chains, taken-with}
 use Rattle.demands.specs.Loops.{Returns, Doubles, RefusedWith, IsTaken}
 

@@ -1,24 +1,21 @@
 -- Refusal 12 of the spread call, exactly: the route tables of a lent book are those of a taken book exactly when some text is taken with them.
 -- Assumes nothing.
-use mathlib.Core.Path.{_≡_, refl, sym, ap, _∙_, subst}
+use mathlib.Core.Path.{_≡_, refl, sym, ap, _∙_}
 use Prim.Native.Nat.{ℕ, zero, suc, _+_, _-_, _≤_, _<_}
 use native.Mathlib.Omega.{arith}
 use mathlib.Core.Bool.{true}
-use mathlib.Core.List.{List, [], _∷_, _++_, map}
-use lib.ListN.{length, getD, take, drop, replicate, length-append, length-map, length-take, length-drop, take-append-drop}
-use lib.Seq.{take-at, drop-at, take-all, take-take, drop-drop, take-add, length-take-le, getD-take, getD-drop}
+use mathlib.Core.List.{List, [], _∷_, _++_}
+use lib.ListN.{length, getD, take, drop, replicate, length-append, length-map, length-drop, take-append-drop}
+use lib.Seq.{take-at, drop-at, take-all, drop-drop, take-add, length-take-le, getD-drop}
 use Rattle.record.specs.Limits.{routeLimit}
 use Rattle.record.specs.Columns.{fromsAt, tosAt, messageWords, routeWords, routeCountOf, fromsOf, tosOf, bookWords}
-use Rattle.chains.specs.Chain.{LoopFree, Single}
-use Rattle.verdict.specs.Verdicts.{IsSound}
 use Rattle.routes.specs.Answers.{startPlaces, endPlaces, RoutesTaken}
 use Rattle.books.specs.Book.{Book, Route}
 use Rattle.books.specs.Good.{good}
 use Rattle.books.specs.Words.{column, messageColumns, routeColumns, wordsOf}
-use Rattle.books.proofs.Columns.{length-column, take-column, part-of, columns-long, Within, within}
+use Rattle.books.proofs.Columns.{length-column, take-column, part-of, columns-long, within}
 use Rattle.reading.specs.Written.{Places, no-route, route}
-use Rattle.reading.specs.Taken.{froms, tos, Sound, TakenWith, RoutesStand}
-use Rattle.reading.proofs.Counts.{Routed, text-routed}
+use Rattle.reading.specs.Taken.{froms, tos, Sound, RoutesStand}
 use Rattle.reading.specs.Taken.{RoutesFrom}
 use Rattle.reading.proofs.Exact.{RoutesIn, from-routes, routes-from}
 use Rattle.demands.specs.Loops.{Record}

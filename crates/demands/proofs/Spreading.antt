@@ -1,11 +1,10 @@
 -- Demand 3: from any place, the spread by a taken book lists every place that a chain reaches, each once, nothing else. Assumes nothing.
 use mathlib.Core.Path.{_≡_, refl, sym, ap, _∙_, subst}
-use Prim.Native.Nat.{ℕ, _≤_, _<_}
+use Prim.Native.Nat.{ℕ, _≤_}
 use native.Mathlib.Omega.{arith}
-use mathlib.Core.List.{List, _++_}
-use lib.ListN.{length, take, drop, length-map}
+use mathlib.Core.List.{List}
+use lib.ListN.{length, take, length-map}
 use Rattle.record.specs.Place.{placeKey}
-use Rattle.chains.specs.Chain.{LoopFree, Single}
 use Rattle.chains.specs.Spread.{spreadOf}
 use Rattle.chains.proofs.Spreads.{spread-few}
 use Rattle.routes.specs.declared.Sent.{Sent}
@@ -14,7 +13,7 @@ use Rattle.routes.specs.Answers.{endPlaces, RoutesTaken, IsPlace, spreadBy, Ans
 use Rattle.books.specs.Book.{Book, Route}
 use Rattle.books.specs.Words.{wordsOf}
 use Rattle.books.proofs.Building.{built-good}
-use Rattle.reading.specs.Taken.{froms, tos, TakenWith, Sound, RoutesStand}
+use Rattle.reading.specs.Taken.{froms, tos, TakenWith, RoutesStand}
 use Rattle.reading.proofs.Passing.{read-built}
 use Rattle.reading.proofs.Counts.{Routed, text-routed}
 use Rattle.routes.specs.Listed.{Lists}

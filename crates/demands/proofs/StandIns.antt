@@ -1,9 +1,8 @@
 -- A stand-in that demand 3 throws out: a spread that follows the first route of a place and drops the rest. Assumes nothing.
 use mathlib.Core.Path.{_≡_, refl}
 use mathlib.Core.Logic.{⊎-elim}
-use Prim.Native.Nat.{ℕ}
 use native.Mathlib.Omega.{arith}
-use mathlib.Core.List.{List, [], _∷_, List·Memᴰ, List·Memᴰ·cases-cons, List·Memᴰ·not-nil}
+use mathlib.Core.List.{[], _∷_, List·Memᴰ·cases-cons, List·Memᴰ·not-nil}
 use Rattle.routes.specs.Listed.{Lists}
 
 -- place 1 has routes to 2 and to 3: the list of 2 alone is no spread of it

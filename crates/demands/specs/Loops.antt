@@ -1,6 +1,6 @@
 -- Demand 3, in its own words. Assumes nothing: these are definitions.
 use mathlib.Core.Path.{_≡_}
-use Prim.Native.Nat.{ℕ, _<_}
+use Prim.Native.Nat.{ℕ, _<_, _^_}
 use mathlib.Core.List.{List}
 use lib.ListN.{length, getD, take}
 use Rattle.chains.specs.Chain.{Closed, Doubling}
@@ -38,14 +38,14 @@ pub record IsTaken (s : Said) : Type 0 where
   pub routes : ℕ
   pub is : s ≡ taken messages signals routes
 
--- what the spread call gives: this many places at the front of the room, which are every place that a chain of the routes reaches from
--- the place, each once, and nothing else
+-- what the spread call gives: this many places at the front of the room, which are every place that a chain of the routes
+-- reaches from the place, each once, and nothing else
 pub record Spread (rs : List Route) (place : ℕ) (s : Sent) (after : List ℕ) : Type 0 where
   pub count : ℕ
   pub is : s ≡ sent.Places count
   pub lists : Lists (froms rs) (tos rs) place (take count after)
 
--- the words of a record: 771 entries of 32 bits each
+-- the words of a record: as many as a book has, of 32 bits each
 pub record Record (w : List ℕ) : Type 0 where
   pub long : length w ≡ bookWords
-  pub small : (k : ℕ) → getD w k 0 < 4294967296
+  pub small : (k : ℕ) → getD w k 0 < 2 ^ 32

@@ -3,18 +3,19 @@
 // alone, so what is made here needs no promise but that it is safe and ends.
 ghost use mathlib.Core.Path.{_≡_};
 ghost use mathlib.Core.Bool.{true};
-ghost use Prim.Native.Nat.{_+_, _<_, _≤_};
+ghost use Prim.Native.Nat.{_+_, _*_, _<_, _≤_};
 ghost use lib.ListN.{length};
 ghost use Rattle.masks.specs.Bit.{width};
-ghost use Rattle.chains.specs.Chain.{LoopFree, Single};
+ghost use Rattle.chains.specs.Chain.{IsSound};
+ghost use Rattle.marks.specs.Numbers.{slotCount};
 use marks::NO_NUMBER;
 use marks::SLOTS;
 use masks::WIDTH;
 
 // Gives a place a number, which is `next` where it has none yet.
 fn enter(slots: &mut [u8], keys: &mut [u32], next: usize, place: u32) -> usize
-    requires { ⌜ (length (now slots) ≡ 256) × (length (now keys) ≡ 256) × (next < 128) ⌝ }
-    ensures { λ r. ⌜ r < 256 ⌝ }
+    requires { ⌜ (length (now slots) ≡ slotCount) × (length (now keys) ≡ slotCount) × (next < 2 * width) ⌝ }
+    ensures { λ r. ⌜ r < slotCount ⌝ }
 {
     let mut at = marks::slot_of(place);
     let mut tries: usize = 0;
@@ -48,7 +49,7 @@ fn enter_all(
     next: usize,
     numbers: &mut [u8],
 ) -> usize
-    requires { ⌜ (length (now slots) ≡ 256) × (length (now keys) ≡ 256) × (length (now places) ≤ length (now numbers)) × (next + length (now places) ≤ 128) ⌝ }
+    requires { ⌜ (length (now slots) ≡ slotCount) × (length (now keys) ≡ slotCount) × (length (now places) ≤ length (now numbers)) × (next + length (now places) ≤ 2 * width) ⌝ }
     ensures { λ r. ⌜ r ≤ next + length (now (places .entry)) ⌝ }
 {
     let mut count = next;
@@ -64,7 +65,7 @@ fn enter_all(
 
 // Route j hands on to the number it starts from. Whether that was new there.
 fn hand(starts: &[u8], ends: &[u8], j: usize, masks: &mut [u64]) -> bool
-    requires { ⌜ (j < length (now starts)) × (j < length (now ends)) × (length (now masks) ≡ 256) ⌝ }
+    requires { ⌜ (j < length (now starts)) × (j < length (now ends)) × (length (now masks) ≡ slotCount) ⌝ }
 {
     let end = marks::wide(ends[j]);
     let start = marks::wide(starts[j]);
@@ -79,7 +80,7 @@ fn hand(starts: &[u8], ends: &[u8], j: usize, masks: &mut [u64]) -> bool
 
 // All routes hand on, the last first where `down`. Whether anything was new.
 fn pass(starts: &[u8], ends: &[u8], n: usize, down: bool, masks: &mut [u64]) -> bool
-    requires { ⌜ (n ≤ length (now starts)) × (n ≤ length (now ends)) × (length (now masks) ≡ 256) ⌝ }
+    requires { ⌜ (n ≤ length (now starts)) × (n ≤ length (now ends)) × (length (now masks) ≡ slotCount) ⌝ }
 {
     let mut new = false;
     let mut i: usize = 0;
@@ -99,7 +100,7 @@ fn nth(i: usize, n: usize, down: bool) -> usize
 
 // Passes down and up in turn until nothing is new. A table in book order takes two.
 fn settle(starts: &[u8], ends: &[u8], n: usize, masks: &mut [u64])
-    requires { ⌜ (n ≤ length (now starts)) × (n ≤ length (now ends)) × (length (now masks) ≡ 256) ⌝ }
+    requires { ⌜ (n ≤ length (now starts)) × (n ≤ length (now ends)) × (length (now masks) ≡ slotCount) ⌝ }
 {
     let mut turns: usize = 0;
     while turns < WIDTH {
@@ -113,7 +114,7 @@ fn settle(starts: &[u8], ends: &[u8], n: usize, masks: &mut [u64])
 // Whether the table is seen to be sound.
 pub fn seen_sound(froms: &[u32], tos: &[u32]) -> bool
     requires { ⌜ (length (now froms) ≤ width) × (length (now froms) ≡ length (now tos)) ⌝ }
-    ensures { λ r. ⌜ (r ≡ true → LoopFree (now (froms .entry)) (now (tos .entry)) × Single (now (froms .entry)) (now (tos .entry))) ⌝ }
+    ensures { λ r. ⌜ (r ≡ true → IsSound (now (froms .entry)) (now (tos .entry))) ⌝ }
 {
     let mut slots = [0u8; SLOTS];
     let mut keys = [0u32; SLOTS];

@@ -1,6 +1,6 @@
 -- The test of numbers and masks, route by route. Assumes nothing.
 use mathlib.Core.Path.{_≡_, sym, ap, _∙_, subst}
-use mathlib.Core.Bool.{true, false, _||_}
+use mathlib.Core.Bool.{Bool, true, false, _||_}
 use Prim.Native.Nat.{ℕ, _+_, _<_, _≤_}
 use native.Mathlib.Omega.{arith}
 use native.Mathlib.Decide.{ℕ-discrete}
@@ -11,9 +11,14 @@ use lib.Dec.{eqb}
 use borrow.Author.Count.{below-more}
 use Rattle.masks.specs.Bit.{bit, meeting, contained}
 use Rattle.masks.proofs.Bits.{meeting-none, contained-bit}
-use Rattle.chains.proofs.Reach.{or-left, or-right}
-use Rattle.chains.proofs.Marks.{hands, Marked}
-use Rattle.marks.specs.Numbers.{marksIn}
+use Rattle.chains.specs.Chain.{IsSound}
+use Rattle.chains.proofs.Bools.{or-left, or-right}
+use Rattle.chains.proofs.Marks.{hands, marked-sound}
+use Rattle.marks.specs.Numbers.{slotCount}
+
+-- the marks of a number, a mask each
+abbrev marksIn : List ℕ → ℕ → ℕ → Bool
+marksIn masks number mark = bit (getD masks number 0) mark
 
 module _ (fs ts : List ℕ) (number : ℕ → ℕ) (masks : List ℕ) where
   abbrev start : ℕ → ℕ
@@ -33,23 +38,23 @@ module _ (fs ts : List ℕ) (number : ℕ → ℕ) (masks : List ℕ) where
   -- the routes below j are fine and hand on nothing twice at one number, and `seen` has all that they handed on
   pub record Checked (seen : List ℕ) (j : ℕ) : Type 0 where
     pub within : j ≤ length fs
-    pub long : length seen ≡ 256
+    pub long : length seen ≡ slotCount
     pub fine : (i : ℕ) → i < j → Fine i
     pub held : (i : ℕ) → i < j → (x : ℕ) → Hands i x → bit (getD seen (start i) 0) x ≡ true
     pub apart : (k : ℕ) → k < j → (i : ℕ) → i < k → start i ≡ start k → (x : ℕ) → Hands i x → Hands k x → ⊥
 
-  pub checked-start : (seen : List ℕ) → length seen ≡ 256 → Checked seen 0
+  pub checked-start : (seen : List ℕ) → length seen ≡ slotCount → Checked seen 0
   checked-start seen l = record { within = omega arith; long = l; fine = λ i h. absurd (omega arith); held = λ i h. absurd (omega arith); apart = λ k h. absurd (omega arith) }
 
-  pub checked-end : (seen : List ℕ) (j : ℕ) → Checked seen j → length fs ≤ j → Marked fs ts number (marksIn masks)
-  checked-end seen j c l = record {
+  pub checked-end : (seen : List ℕ) (j : ℕ) → Checked seen j → length fs ≤ j → IsSound fs ts
+  checked-end seen j c l = marked-sound fs ts number (marksIn masks) (record {
     fresh = λ i h. c .fine i (omega arith) .fresh;
     handed = λ i x h. c .fine i (omega arith) .handed x;
     apart = λ i k x h hk e. c .apart k (omega arith) i h e x;
-  }
+  })
 
   -- one route more, whose tests passed: s and e are its numbers, and d the mask that it hands on
-  module _ (seen : List ℕ) (j : ℕ) (c : Checked seen j) (l : j < length fs) (s e d : ℕ) (is-start : s ≡ start j) (is-end : e ≡ end j) (low : s < 256)
+  module _ (seen : List ℕ) (j : ℕ) (c : Checked seen j) (l : j < length fs) (s e d : ℕ) (is-start : s ≡ start j) (is-end : e ≡ end j) (low : s < slotCount)
       (made : (x : ℕ) → bit d x ≡ bit (getD masks e 0) x || eqb x e) where
     hands-bit : (x : ℕ) → Hands j x → bit d x ≡ true
     hands-bit x h = made x ∙ (rw is-end h)

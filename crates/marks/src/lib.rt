@@ -4,8 +4,8 @@ ghost use mathlib.Core.Path.{_≡_};
 ghost use mathlib.Core.Bool.{true};
 ghost use Prim.Native.Nat.{_+_, _<_};
 ghost use lib.ListN.{length};
-ghost use Rattle.chains.proofs.Marks.{Marked};
-ghost use Rattle.marks.specs.Numbers.{slotOf, numberIn, marksIn};
+ghost use Rattle.chains.specs.Chain.{IsSound};
+ghost use Rattle.marks.specs.Numbers.{slotCount, slotOf, numberIn};
 use masks::WIDTH;
 
 // How many slots places are spread over, and what a place without a number has.
@@ -14,22 +14,22 @@ pub const SLOTS: usize = 256;
 pub const NO_NUMBER: usize = 255;
 
 pub fn wide(x: u8) -> usize
-    ensures { λ r. ⌜ (r ≡ x) × (r < 256) ⌝ }
+    ensures { λ r. ⌜ (r ≡ x) × (r < slotCount) ⌝ }
 {
     x as usize
 }
 
 // Where the search for a place begins.
 pub fn slot_of(place: u32) -> usize
-    ensures { λ r. ⌜ (r ≡ slotOf place) × (r < 256) ⌝ }
+    ensures { λ r. ⌜ (r ≡ slotOf place) × (r < slotCount) ⌝ }
 {
     ((place as u64 * 2654435761) / 16777216 % 256) as usize
 }
 
 // The number of a place, by a table of slots: from its own slot on, until its key is met or a slot is empty.
 fn number(slots: &[u8], keys: &[u32], place: u32) -> usize
-    requires { ⌜ (length (now slots) ≡ 256) × (length (now keys) ≡ 256) ⌝ }
-    ensures { λ r. ⌜ (r ≡ numberIn (now (slots .entry)) (now (keys .entry)) place) × (r < 256) ⌝ }
+    requires { ⌜ (length (now slots) ≡ slotCount) × (length (now keys) ≡ slotCount) ⌝ }
+    ensures { λ r. ⌜ (r ≡ numberIn (now (slots .entry)) (now (keys .entry)) place) × (r < slotCount) ⌝ }
 {
     let mut at = slot_of(place);
     let mut tries: usize = 0;
@@ -47,10 +47,10 @@ fn number(slots: &[u8], keys: &[u32], place: u32) -> usize
     NO_NUMBER
 }
 
-// Whether the numbers and masks show that the table is sound (chains, proofs/Marks.antt).
+// Whether the numbers and masks show that the table is sound. An answer false says nothing.
 pub fn marked(froms: &[u32], tos: &[u32], slots: &[u8], keys: &[u32], masks: &[u64]) -> bool
-    requires { ⌜ (length (now froms) ≡ length (now tos)) × (length (now slots) ≡ 256) × (length (now keys) ≡ 256) × (length (now masks) ≡ 256) ⌝ }
-    ensures { λ r. ⌜ (r ≡ true → Marked (now (froms .entry)) (now (tos .entry)) (numberIn (now (slots .entry)) (now (keys .entry))) (marksIn (now (masks .entry)))) ⌝ }
+    requires { ⌜ (length (now froms) ≡ length (now tos)) × (length (now slots) ≡ slotCount) × (length (now keys) ≡ slotCount) × (length (now masks) ≡ slotCount) ⌝ }
+    ensures { λ r. ⌜ (r ≡ true → IsSound (now (froms .entry)) (now (tos .entry))) ⌝ }
 {
     let mut seen = [0u64; SLOTS];
     let mut j: usize = 0;

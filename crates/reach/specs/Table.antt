@@ -6,7 +6,8 @@ use mathlib.Core.List.{List}
 use lib.ListN.{length, getD}
 use lib.Dec.{eqb}
 use Rattle.masks.specs.Bit.{bit}
-use Rattle.chains.proofs.Reach.{reach}
+use Rattle.chains.specs.Chain.{LeadsOn}
+use Rattle.chains.specs.Tests.{Tells}
 
 -- the mask has the routes for which P holds, of the first n, and no other
 pub record Holds (n : ℕ) (P : ℕ → Bool) (mask : ℕ) : Type 0 where
@@ -24,6 +25,7 @@ RowsOf places ts m = (i : ℕ) → i < length ts → RowOf places (getD ts i 0) 
 unfoldable pub Round : ℕ → ℕ → List ℕ → List ℕ → List ℕ → Type 0
 Round n k s m m′ = (i j : ℕ) → i < n → bit (getD m′ i 0) j ≡ bit (getD m i 0) j || (bit (getD s i 0) k && bit (getD m k 0) j)
 
--- mask i has the routes j such that route i, and then routes below k, lead to the place of j
-unfoldable pub Table : List ℕ → List ℕ → List ℕ → ℕ → List ℕ → Type 0
-Table fs ts places k m = (i : ℕ) → i < length fs → Holds (length fs) (λ j. reach fs ts k i (getD places j 0)) (getD m i 0)
+-- mask i says of each route j whether route i leads on to the place that `places` has for j, and has nothing else
+pub record Table (froms tos places m : List ℕ) : Type 0 where
+  pub tells : (i j : ℕ) → i < length froms → j < length froms → Tells (LeadsOn froms tos i (getD places j 0)) (bit (getD m i 0) j)
+  pub beyond : (i j : ℕ) → i < length froms → length froms ≤ j → bit (getD m i 0) j ≡ false

@@ -56,7 +56,7 @@ fn round(starts: &mut [u64], ends: &mut [u64], n: usize, k: usize)
 // Fills both tables.
 pub fn fill(froms: &[u32], tos: &[u32], starts: &mut [u64], ends: &mut [u64])
     requires { ⌜ (length (now froms) ≤ width) × (length (now froms) ≡ length (now tos)) × (length (now froms) ≤ length (now starts)) × (length (now froms) ≤ length (now ends)) ⌝ }
-    ensures { λ _. ⌜ Table (now (froms .entry)) (now (tos .entry)) (now (froms .entry)) (length (now (froms .entry))) (now (starts .exit)) × Table (now (froms .entry)) (now (tos .entry)) (now (tos .entry)) (length (now (froms .entry))) (now (ends .exit)) ⌝ }
+    ensures { λ _. ⌜ Table (now (froms .entry)) (now (tos .entry)) (now (froms .entry)) (now (starts .exit)) × Table (now (froms .entry)) (now (tos .entry)) (now (tos .entry)) (now (ends .exit)) ⌝ }
 {
     rows(froms, tos, starts);
     rows(tos, tos, ends);

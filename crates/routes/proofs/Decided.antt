@@ -8,11 +8,12 @@ use lib.ListN.{length, drop, replicate}
 use Rattle.record.specs.Limits.{routeLimit, busLimit, identifierLimit}
 use Rattle.record.specs.Place.{placeKey}
 use Rattle.record.specs.Columns.{routeCountOf, fromsOf, tosOf}
-use Rattle.verdict.specs.Verdicts.{IsSound, Judged}
+use Rattle.chains.specs.Chain.{IsSound}
+use Rattle.verdict.specs.Verdicts.{Judged}
 use Rattle.verdict.specs.declared.Verdict.{Verdict}
 use Rattle.verdict.specs.declared.Verdict.the-variants as verdict
 use Rattle.verdict.proofs.Once.{judged, loop-unsound, doubling-unsound}
-use Rattle.routes.specs.Answers.{startPlaces, endPlaces, RoutesTaken, IsPlace, spreadBy, Answer}
+use Rattle.routes.specs.Answers.{startPlaces, endPlaces, NoMore, RoutesTaken, IsPlace, spreadBy, Answer}
 use Rattle.routes.specs.declared.Sent.{Sent}
 use Rattle.routes.specs.declared.Sent.the-variants as sent
 
@@ -27,13 +28,16 @@ sound-or-not fs ts = go (judged fs ts)
     go : (v : Verdict) × Judged fs ts v → Dec (IsSound fs ts)
     go (v, j) = at v j
 
+no-more-or-not : (n : ℕ) (column : List ℕ) → Dec (NoMore n column)
+no-more-or-not n column = List-discrete ℕ-discrete (drop n column) (replicate (routeLimit - n) 0)
+
 taken-or-not : (w : List ℕ) → Dec (RoutesTaken w)
 taken-or-not w =
-    go (decLe (routeCountOf w) routeLimit) (List-discrete ℕ-discrete (drop (routeCountOf w) (fromsOf w)) (replicate (routeLimit - routeCountOf w) 0))
-    (List-discrete ℕ-discrete (drop (routeCountOf w) (tosOf w)) (replicate (routeLimit - routeCountOf w) 0)) (sound-or-not (startPlaces w) (endPlaces w))
+    go (decLe (routeCountOf w) routeLimit) (no-more-or-not (routeCountOf w) (fromsOf w)) (no-more-or-not (routeCountOf w) (tosOf w))
+    (sound-or-not (startPlaces w) (endPlaces w))
   where
-    go : Dec (routeCountOf w ≤ routeLimit) → Dec (drop (routeCountOf w) (fromsOf w) ≡ replicate (routeLimit - routeCountOf w) 0)
-        → Dec (drop (routeCountOf w) (tosOf w) ≡ replicate (routeLimit - routeCountOf w) 0) → Dec (IsSound (startPlaces w) (endPlaces w)) → Dec (RoutesTaken w)
+    go : Dec (routeCountOf w ≤ routeLimit) → Dec (NoMore (routeCountOf w) (fromsOf w)) → Dec (NoMore (routeCountOf w) (tosOf w))
+        → Dec (IsSound (startPlaces w) (endPlaces w)) → Dec (RoutesTaken w)
     go (yes a) (yes b) (yes c) (yes d) = yes (record { few = a; no-more-froms = b; no-more-tos = c; sound = d })
     go (no n) b c d = no (λ r. n (r .few))
     go (yes a) (no n) c d = no (λ r. n (r .no-more-froms))

@@ -7,7 +7,7 @@ use lib.ListN.{length}
 use Rattle.record.specs.Limits.{routeLimit}
 use Rattle.chains.specs.Spread.{spreadOf}
 use Rattle.chains.proofs.Spreads.{spread-few}
-use Rattle.verdict.specs.Verdicts.{IsSound}
+use Rattle.chains.specs.Chain.{IsSound}
 use Rattle.routes.specs.Answers.{startPlaces, endPlaces, RoutesTaken, spreadBy}
 use Rattle.sending.specs.Writing.{Ready, Written}
 use Rattle.routes.specs.Gathered.{Gathered}

@@ -1,5 +1,5 @@
 -- What the test of the route columns asks is what a taken book has. Assumes nothing.
-use mathlib.Core.Path.{_≡_, refl, sym, ap, _∙_, subst}
+use mathlib.Core.Path.{_≡_, sym, ap, _∙_, subst}
 use mathlib.Core.Bool.{Bool, true, false}
 use Prim.Native.Nat.{ℕ, _-_, _≤_}
 use mathlib.Core.List.{List}
@@ -8,28 +8,19 @@ use Rattle.record.specs.Limits.{routeLimit}
 use Rattle.record.specs.Columns.{routeCountOf, fromsOf, tosOf}
 use Rattle.zeros.specs.Zeros.{zeros}
 use Rattle.zeros.proofs.Laws.{zeros-are, are-zeros}
-use Rattle.chains.proofs.Loops.{true-false}
-use Rattle.verdict.specs.Verdicts.{IsSound, Tells}
-use Rattle.routes.specs.Answers.{RoutesTaken}
-
--- what an answer that tells says
-pub told-yes : {P : Type 0} (r : Bool) → Tells P r → r ≡ true → P
-told-yes true t e = t
-told-yes false t e = absurd (true-false {b = false} e refl)
-
-pub told-no : {P : Type 0} (r : Bool) → Tells P r → r ≡ false → P → ⊥
-told-no true t e = absurd (true-false refl e)
-told-no false t e = t
+use Rattle.chains.specs.Chain.{IsSound}
+use Rattle.chains.specs.Tests.{Tells}
+use Rattle.routes.specs.Answers.{NoMore, RoutesTaken}
 
 -- one column, of which n entries count
 module _ (column wanted : List ℕ) (n count : ℕ) (same : column ≡ wanted) (counted : n ≡ count) where
-  past : length column ≡ routeLimit → zeros (drop n column) ≡ true → drop count wanted ≡ replicate (routeLimit - count) 0
+  past : length column ≡ routeLimit → zeros (drop n column) ≡ true → NoMore count wanted
   past l z =
-      subst (λ (m : ℕ). drop m wanted ≡ replicate (routeLimit - m) 0) counted
-      (subst (λ (c : List ℕ). drop n c ≡ replicate (routeLimit - n) 0) same
+      subst (λ (m : ℕ). NoMore m wanted) counted
+      (subst (λ (c : List ℕ). NoMore n c) same
       (zeros-are (drop n column) z ∙ ap (λ (k : ℕ). replicate k 0) (length-drop n column ∙ ap (λ (k : ℕ). k - n) l)))
 
-  past-back : drop count wanted ≡ replicate (routeLimit - count) 0 → zeros (drop n column) ≡ true
+  past-back : NoMore count wanted → zeros (drop n column) ≡ true
   past-back e =
       ap zeros
       (subst (λ (c : List ℕ). drop n c ≡ replicate (routeLimit - count) 0) (sym same) (subst (λ (m : ℕ). drop m wanted ≡ replicate (routeLimit - count) 0) (sym counted) e))

@@ -6,7 +6,7 @@ use lib.ListN.{length, take, drop, replicate}
 use Rattle.record.specs.Limits.{routeLimit, busLimit, identifierLimit}
 use Rattle.record.specs.Place.{placeKey}
 use Rattle.record.specs.Columns.{routeCountOf, fromsOf, tosOf}
-use Rattle.verdict.specs.Verdicts.{IsSound}
+use Rattle.chains.specs.Chain.{IsSound}
 use Rattle.chains.specs.Spread.{spreadOf}
 use Rattle.routes.specs.declared.Sent.{Sent}
 use Rattle.routes.specs.declared.Sent.the-variants as sent
@@ -18,11 +18,16 @@ startPlaces w = take (routeCountOf w) (fromsOf w)
 abbrev pub endPlaces : List ℕ → List ℕ
 endPlaces w = take (routeCountOf w) (tosOf w)
 
--- the route tables are those of a taken book: no more routes than a book has, 0 past them, no closed chain, no doubling
+-- every entry of a route column past its first n is 0
+abbrev pub NoMore : ℕ → List ℕ → Type 0
+NoMore n column = drop n column ≡ replicate (routeLimit - n) 0
+
+-- the route tables are those of a taken book: no more routes than a book may have, 0 in every entry past their count, no closed
+-- chain, and no two different chains that join the same two places
 pub record RoutesTaken (w : List ℕ) : Type 0 where
   pub few : routeCountOf w ≤ routeLimit
-  pub no-more-froms : drop (routeCountOf w) (fromsOf w) ≡ replicate (routeLimit - routeCountOf w) 0
-  pub no-more-tos : drop (routeCountOf w) (tosOf w) ≡ replicate (routeLimit - routeCountOf w) 0
+  pub no-more-froms : NoMore (routeCountOf w) (fromsOf w)
+  pub no-more-tos : NoMore (routeCountOf w) (tosOf w)
   pub sound : IsSound (startPlaces w) (endPlaces w)
 
 -- a bus and an identifier within their limits make a place
@@ -30,7 +35,7 @@ pub record IsPlace (bus identifier : ℕ) : Type 0 where
   pub on-bus : bus < busLimit
   pub identified : identifier < identifierLimit
 
--- the spread of a place by the routes of the words
+-- the spread of a place along the routes of the words
 abbrev pub spreadBy : List ℕ → ℕ → List ℕ
 spreadBy w place = spreadOf (startPlaces w) (endPlaces w) place
 

@@ -7,7 +7,7 @@ ghost use Prim.Native.Nat.{_≤_};
 ghost use lib.ListN.{length, take, drop};
 ghost use Rattle.record.specs.Limits.{routeLimit};
 ghost use Rattle.record.specs.Columns.{routeCountOf};
-ghost use Rattle.verdict.specs.Verdicts.{Tells};
+ghost use Rattle.chains.specs.Tests.{Tells};
 ghost use Rattle.routes.specs.Answers.{RoutesTaken, spreadBy, Answer};
 ghost use Rattle.routes.specs.Gathered.{Gathered};
 use record::BOOK_WORDS;

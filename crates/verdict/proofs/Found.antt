@@ -5,7 +5,7 @@ use Prim.Native.Nat.{ℕ, _+_, _<_, _≤_}
 use native.Mathlib.Omega.{arith}
 use native.Mathlib.Numerals.{add-one}
 use borrow.Author.Count.{below-more}
-use Rattle.chains.proofs.Tests.{any, First}
+use Rattle.chains.specs.Tests.{any, First}
 
 -- none of those below i passes
 pub record Passed (P : ℕ → Bool) (n i : ℕ) : Type 0 where

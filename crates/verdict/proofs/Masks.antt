@@ -11,17 +11,14 @@ use lib.Dec.{eqb}
 use borrow.Author.Tests.{eqb-true, eq-eqb}
 use Rattle.masks.specs.Bit.{bit, meeting}
 use Rattle.masks.proofs.Bits.{meeting-some, meeting-none}
-use Rattle.chains.proofs.Reach.{reach, or-cases, and-parts, or-left, or-right, and-both}
-use Rattle.chains.proofs.Loops.{comesBack, true-false}
-use Rattle.chains.proofs.Tests.{any, any-some, some-any, any-same, First, comesTo, meetAgain, fork, begins}
+use Rattle.chains.specs.Tests.{any, First}
+use Rattle.chains.proofs.Bools.{true-false, or-cases, and-parts, or-left, or-right, and-both, same-test}
+use Rattle.chains.proofs.Reach.{reach}
+use Rattle.chains.proofs.Loops.{comesBack}
+use Rattle.chains.proofs.Tests.{any-some, some-any, any-same, comesTo, meetAgain, fork, begins}
 use Rattle.reach.specs.Table.{Holds, Table}
+use Rattle.reach.proofs.Rounding.{Between, table-between}
 use Rattle.verdict.specs.Searches.{ownBit, forkBy, forksBy, beginsBy}
-
--- two tests are the same where each being true makes the other so
-same-test : (a b : Bool) → (a ≡ true → b ≡ true) → (b ≡ true → a ≡ true) → a ≡ b
-same-test true b f g = sym (f refl)
-same-test false true f g = g refl
-same-test false false f g = refl
 
 meets-at : (a b k : ℕ) → bit a k ≡ true → bit b k ≡ true → meeting a b ≡ true
 meets-at a b k x y = go (meeting a b) refl
@@ -41,13 +38,19 @@ inside {n} {P} {mask} h k e = go (decLe n k)
 pub first-same : (P Q : ℕ → Bool) (n r : ℕ) → ((i : ℕ) → i < n → P i ≡ Q i) → First P n r → First Q n r
 first-same P Q n r e f = record { within = f .within; before = λ k l. sym (e k (omega (arith, f .within))) ∙ f .before k l; found = λ l. sym (e r l) ∙ f .found l }
 
-module _ (fs ts starts ends : List ℕ) (s : Table fs ts fs (length fs) starts) (t : Table fs ts ts (length fs) ends) where
+module _ (fs ts starts ends : List ℕ) (of-starts : Table fs ts fs starts) (of-ends : Table fs ts ts ends) where
+  abbrev s : Between fs ts fs (length fs) starts
+  s = table-between fs ts fs starts of-starts
+
+  abbrev t : Between fs ts ts (length fs) ends
+  t = table-between fs ts ts ends of-ends
+
   pub own-bit : (i : ℕ) → i < length fs → ownBit starts i ≡ comesBack fs ts i
-  unfolding Table
+  unfolding Between
   own-bit i l = s i l .inside i l
 
   meets-same : (a b : ℕ) → a < length fs → b < length fs → meeting (getD ends a 0) (getD ends b 0) ≡ meetAgain fs ts a b
-  unfolding Table meetAgain
+  unfolding Between meetAgain
   meets-same a b la lb =
       same-test (meeting (getD ends a 0) (getD ends b 0)) (any (length fs) both)
       (λ e. let r = meeting-some (getD ends a 0) (getD ends b 0) e in
@@ -68,7 +71,7 @@ module _ (fs ts starts ends : List ℕ) (s : Table fs ts fs (length fs) starts) 
       (λ b lb. ap (λ (x : Bool). (not (eqb a b) && eqb (getD fs a 0) (getD fs b 0)) && x) (meets-same a b la lb))
 
   pub begins-same : (forking : ℕ) → Holds (length fs) (forksBy fs ends) forking → (i : ℕ) → i < length fs → beginsBy starts forking i ≡ begins fs ts i
-  unfolding Table begins comesTo
+  unfolding Between begins comesTo
   begins-same f h i l =
       same-test (beginsBy starts f i) (any (length fs) begun) (λ e. ⊎-elim own onward (or-cases (bit f i) (meeting (getD starts i 0) f) e)) back
     where

@@ -7,11 +7,13 @@ use native.Mathlib.Omega.{arith}
 use native.Mathlib.Decide.{decLe}
 use mathlib.Core.List.{List, _∷_}
 use lib.ListN.{length}
-use Rattle.chains.specs.Chain.{Walk, OnClosed, LoopFree, Doubling, BeginsDoubling, Single}
+use Rattle.chains.specs.Chain.{Walk, OnClosed, LoopFree, Doubling, BeginsDoubling, Single, IsSound}
 use Rattle.chains.proofs.Walks.{chain-walk}
-use Rattle.chains.proofs.Loops.{comesBack, closed-back, back-closed, loop-free, true-false}
-use Rattle.chains.proofs.Tests.{First, first, begins, begins-is, is-begins}
-use Rattle.verdict.specs.Verdicts.{Lowest, IsSound, Judged}
+use Rattle.chains.specs.Tests.{First}
+use Rattle.chains.proofs.Bools.{true-false}
+use Rattle.chains.proofs.Loops.{comesBack, closed-back, back-closed, loop-free}
+use Rattle.chains.proofs.Tests.{first, begins, begins-is, is-begins}
+use Rattle.verdict.specs.Verdicts.{Lowest, Judged}
 use Rattle.verdict.specs.declared.Verdict.{Verdict}
 use Rattle.verdict.specs.declared.Verdict.the-variants as verdict
 
@@ -20,7 +22,7 @@ module _ (fs ts : List ℕ) where
   single : ((i : ℕ) → i < length fs → BeginsDoubling fs ts i → ⊥) → Single fs ts
   single none p q c d two = go (chain-walk fs ts p c q (two .one))
     where
-      go : (i : ℕ) × (c′ : List ℕ) × (c ≡ i ∷ c′) × Walk fs ts (length fs) p (i ∷ c′) q → ⊥
+      go : (i : ℕ) × (c′ : List ℕ) × (c ≡ i ∷ c′) × Walk fs ts p (i ∷ c′) q → ⊥
       go (i, c′, e, w) = none i (w .0) (p, q, c′, d, record { one = w; other = two .other; different = λ z. two .different (e ∙ z) })
 
   -- what the first route that comes back tells

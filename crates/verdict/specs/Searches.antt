@@ -5,7 +5,7 @@ use mathlib.Core.List.{List}
 use lib.ListN.{length, getD}
 use lib.Dec.{eqb}
 use Rattle.masks.specs.Bit.{bit, meeting}
-use Rattle.chains.proofs.Tests.{any}
+use Rattle.chains.specs.Tests.{any}
 
 abbrev pub ownBit : List ℕ → ℕ → Bool
 ownBit starts i = bit (getD starts i 0) i

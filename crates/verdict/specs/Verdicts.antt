@@ -1,16 +1,9 @@
 -- The verdict on a table of routes, over its chains. Assumes nothing: these are definitions.
-use mathlib.Core.Bool.{Bool, true, false}
 use Prim.Native.Nat.{ℕ, _<_}
 use mathlib.Core.List.{List}
-pub use Rattle.chains.specs.Chain.{IsSound}
-use Rattle.chains.specs.Chain.{OnClosed, LoopFree, BeginsDoubling}
+use Rattle.chains.specs.Chain.{OnClosed, LoopFree, BeginsDoubling, IsSound}
 use Rattle.verdict.specs.declared.Verdict.{Verdict}
 use Rattle.verdict.specs.declared.Verdict.the-variants.{Loop, Doubling, Sound}
-
--- r says whether P holds
-abbrev pub Tells : Type 0 → Bool → Type 0
-Tells P true = P
-Tells P false = P → ⊥
 
 -- P holds of route i and of no lower one
 abbrev pub Lowest : (ℕ → Type 0) → ℕ → Type 0

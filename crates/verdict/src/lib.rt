@@ -3,11 +3,12 @@
 ghost use mathlib.Core.Path.{_≡_};
 ghost use Prim.Native.Nat.{_<_, _≤_};
 ghost use lib.ListN.{length};
-ghost use Rattle.chains.proofs.Tests.{First};
+ghost use Rattle.chains.specs.Chain.{IsSound};
+ghost use Rattle.chains.specs.Tests.{Tells, First};
 ghost use Rattle.masks.specs.Bit.{width};
 ghost use Rattle.reach.specs.Table.{Holds};
 ghost use Rattle.verdict.specs.Searches.{ownBit, forkBy, forksBy, beginsBy};
-ghost use Rattle.verdict.specs.Verdicts.{IsSound, Judged, Tells};
+ghost use Rattle.verdict.specs.Verdicts.{Judged};
 use masks::WIDTH;
 
 // Routes are named by their index in the table.

@@ -3,14 +3,15 @@ use borrow.Author.Needs.{needs}
 use mathlib.Core.Path.{_≡_}
 use Prim.Native.Nat.{_-_, _<_, _≤_}
 use lib.ListN.{length}
+use Rattle.marks.specs.Numbers.{slotCount}
 use Rattle.marking.proofs.enter.Statement.{statement}
 use Rattle.marking.proofs.enter.Tie as tie
 
 abbrev Inv-loop : tie.InvT-loop
-Inv-loop slots₀ keys₀ next place at₀ tries₀ slots keys at tries = (tries ≤ 256) × (at < 256) × (length slots ≡ length slots₀) × (length keys ≡ length keys₀)
+Inv-loop slots₀ keys₀ next place at₀ tries₀ slots keys at tries = (tries ≤ slotCount) × (at < slotCount) × (length slots ≡ length slots₀) × (length keys ≡ length keys₀)
 
 abbrev μ-loop : tie.MeasureT-loop
-μ-loop slots₀ keys₀ next place at₀ tries₀ slots keys at tries = 256 - tries
+μ-loop slots₀ keys₀ next place at₀ tries₀ slots keys at tries = slotCount - tries
 
 slot-of-requires : tie.Need-slot-of-requires Inv-loop μ-loop
 slot-of-requires c κs = search needs

@@ -1,5 +1,4 @@
--- `marking::seen_sound` meets its contract: what `marked` shows makes the table sound. Assumes nothing.
-use Rattle.chains.proofs.Marks.{marked-free, marked-single}
+-- `marking::seen_sound` meets its contract: it is what `marked` shows. Assumes nothing.
 use borrow.Author.Needs.{needs}
 use Rattle.marking.proofs.seen_sound.Statement.{statement}
 use Rattle.marking.proofs.seen_sound.Tie as tie
@@ -53,7 +52,7 @@ marked-requires : tie.Need-marked-requires
 marked-requires c κs = search needs
 
 returns : tie.Need-returns
-returns c = λ e. let m = c .marked .ensures e in (marked-free _ _ _ _ m, marked-single _ _ _ _ m)
+returns c = c .marked .ensures
 
 pub seen-sound-spec : {M : Type 1} → statement M
 seen-sound-spec =

@@ -5,7 +5,7 @@ use mathlib.Core.Path.{refl, sym, _∙_}
 use mathlib.Core.Bool.{false}
 use lib.ListN.{length}
 use borrow.Author.Tests.{not-false}
-use Rattle.chains.proofs.Loops.{true-false}
+use Rattle.chains.proofs.Bools.{true-false}
 use Rattle.marks.specs.Numbers.{numberIn}
 use Rattle.marks.proofs.Checking.{Checked, checked-start, checked-more, checked-end}
 use Rattle.marks.proofs.marked.Statement.{statement}

@@ -2,6 +2,7 @@
 use borrow.Author.Needs.{needs}
 use Prim.Native.Nat.{_-_}
 use native.Mathlib.Omega.{arith}
+use Rattle.marks.specs.Numbers.{slotCount}
 use Rattle.marks.proofs.Probing.{Probing, probing-start, probed-out, probed-empty, probed-met, probed-on}
 use Rattle.marks.proofs.number.Statement.{statement}
 use Rattle.marks.proofs.number.Tie as tie
@@ -10,7 +11,7 @@ abbrev Inv-loop : tie.InvT-loop
 Inv-loop slots keys place at₀ tries₀ at tries = Probing slots keys place at tries
 
 abbrev μ-loop : tie.MeasureT-loop
-μ-loop slots keys place at₀ tries₀ at tries = 256 - tries
+μ-loop slots keys place at₀ tries₀ at tries = slotCount - tries
 
 slot-of-requires : tie.Need-slot-of-requires Inv-loop μ-loop
 slot-of-requires c κs = search needs

@@ -2,7 +2,7 @@
 use borrow.Author.Needs.{needs}
 use Prim.Native.Nat.{_-_}
 use mathlib.Core.Path.{refl}
-use Rattle.reach.proofs.Rounding.{Rounds, table-start, rounds-more, rounds-end}
+use Rattle.reach.proofs.Rounding.{Rounds, between-start, rounds-more, rounds-end}
 use Rattle.reach.proofs.fill.Statement.{statement}
 use Rattle.reach.proofs.fill.Tie as tie
 
@@ -23,7 +23,7 @@ loop-holds c =
     let at-rows2 = c .before .before .rows2 in
     let at-rows = c .before .before .before .before .before .before .rows in
     let at-pre = c .before .before .before .before .before .before .before .before .before .before .before .before .pre in
-    record { within = search needs; long-starts = refl; long-ends = refl; starts = table-start _ _ _ _ (at-pre .1) (at-pre .1) (at-rows .ensures); ends = table-start _ _ _ _ (at-pre .1) refl (at-rows2 .ensures) }
+    record { within = search needs; long-starts = refl; long-ends = refl; starts = between-start _ _ _ _ (at-pre .1) (at-pre .1) (at-rows .ensures); ends = between-start _ _ _ _ (at-pre .1) refl (at-rows2 .ensures) }
 
 round-requires : tie.Need-round-requires Inv-loop μ-loop
 round-requires c κs = search needs

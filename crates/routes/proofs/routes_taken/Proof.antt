@@ -5,8 +5,9 @@ use mathlib.Core.Path.{sym, _∙_, subst}
 use mathlib.Core.List.{List}
 use native.Mathlib.Omega.{arith}
 use borrow.Author.Tests.{not-true, not-false}
-use Rattle.chains.proofs.Loops.{true-false}
-use Rattle.verdict.specs.Verdicts.{IsSound, Tells}
+use Rattle.chains.specs.Chain.{IsSound}
+use Rattle.chains.specs.Tests.{Tells}
+use Rattle.chains.proofs.Bools.{true-false}
 use Rattle.routes.proofs.Taken.{froms-past, tos-past, tells}
 use borrow.Author.Needs.{needs}
 use Rattle.routes.proofs.routes_taken.Statement.{statement}

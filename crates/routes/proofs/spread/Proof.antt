@@ -7,7 +7,7 @@ use Prim.Native.Nat.{ℕ}
 use native.Mathlib.Omega.{arith}
 use lib.ListN.{drop}
 use borrow.Author.Tests.{not-true, not-false}
-use Rattle.routes.proofs.Taken.{told-yes, told-no}
+use Rattle.chains.proofs.Bools.{told-yes, told-no}
 use borrow.Author.Needs.{needs}
 use Rattle.routes.proofs.spread.Statement.{statement}
 use Rattle.routes.proofs.spread.Tie as tie

@@ -7,8 +7,7 @@ use mathlib.Core.Logic.{⊎-elim}
 use mathlib.Core.List.{List}
 use native.Mathlib.Omega.{arith}
 use lib.ListN.{length, getD, length-set}
-use Rattle.chains.specs.Spread.{longestFrom}
-use Rattle.chains.proofs.Longest.{longest-falls}
+use Rattle.chains.proofs.Longest.{longestFrom, longest-falls}
 use Rattle.sending.proofs.Steps.{Going, going-start, going-skip, going-space, going-take, going-end, written-after}
 use Prim.Native.Nat.{ℕ, _+_, _-_, _*_, _<_}
 use borrow.Fn.Kinds.{In}

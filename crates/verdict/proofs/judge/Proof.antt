@@ -7,7 +7,7 @@ seen-sound-requires : tie.Need-seen-sound-requires
 seen-sound-requires c κs = search needs
 
 returns : tie.Need-returns
-returns c = let s = c .before .seen-sound .ensures (c .if1 .taken) in record { loop-free = s .0; single = s .1 }
+returns c = c .before .seen-sound .ensures (c .if1 .taken)
 
 judge-by-reach-requires : tie.Need-judge-by-reach-requires
 judge-by-reach-requires c κs = search needs

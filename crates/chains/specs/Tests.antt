@@ -1,0 +1,21 @@
+-- Tests that compute: what one tells, whether some number passes it, and which is the first that does. Assumes nothing: these are
+-- definitions.
+use mathlib.Core.Path.{_≡_}
+use mathlib.Core.Bool.{Bool, true, false, _||_}
+use Prim.Native.Nat.{ℕ, zero, suc, _≤_, _<_}
+
+-- r says whether P holds
+abbrev pub Tells : Type 0 → Bool → Type 0
+Tells P true = P
+Tells P false = P → ⊥
+
+-- one of the numbers below n passes
+abbrev pub any : ℕ → (ℕ → Bool) → Bool
+any zero P = false
+any (suc n) P = any n P || P n
+
+-- r is the first number below n that passes, and n where none does
+pub record First (P : ℕ → Bool) (n r : ℕ) : Type 0 where
+  pub within : r ≤ n
+  pub before : (k : ℕ) → k < r → P k ≡ false
+  pub found : r < n → P r ≡ true
