@@ -15,7 +15,7 @@ use Rattle.catalogue.specs.declared.Raw.{Raw}
 use Rattle.catalogue.specs.Find.{bitsOf}
 use Rattle.catalogue.specs.Class.{classOf}
 use Rattle.catalogue.proofs.Class as Class
-use Rattle.catalogue.proofs.bits_of as bits-of
+use Rattle.catalogue.proofs.widths.bits_of as bits-of
 use Rattle.catalogue.proofs.classes.class_of as class-of
 
 module _ {M : Type 1} (𝓤 : URA M) (H : Heap 𝓤) (A : Atoms 𝓤) (mem : Memory → SProp 𝓤) (run : Routine → Fun 𝓤) where

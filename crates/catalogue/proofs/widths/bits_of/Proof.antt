@@ -1,4 +1,4 @@
--- `catalogue::bits_of` meets its contract: each arm has the bits of its number's shape, and what is left for `_` is no
+-- `catalogue::widths::bits_of` meets its contract: each arm has the bits of its number's shape, and what is left for `_` is no
 -- signal's number. Assumes nothing.
 use mathlib.Core.Path.{_≡_, sym, _∙_}
 use Prim.Native.Nat.{ℕ}
@@ -6,8 +6,8 @@ use Rattle.catalogue.specs.Find.{bitsIn, bitsOf}
 use Rattle.catalogue.specs.Shapes.{shapeOf, rowShaped}
 use Rattle.catalogue.proofs.Arms.{by-number, by-none}
 use Rattle.catalogue.proofs.Shaped.{bits-by-shape}
-use Rattle.catalogue.proofs.bits_of.Statement.{statement}
-use Rattle.catalogue.proofs.bits_of.Tie as tie
+use Rattle.catalogue.proofs.widths.bits_of.Statement.{statement}
+use Rattle.catalogue.proofs.widths.bits_of.Tie as tie
 
 abbrev bitsShaped : ℕ → ℕ
 bitsShaped s = bitsIn (rowShaped s)
