@@ -61,6 +61,12 @@ module _ (w : List ℕ) (rs : List Route) (few : length rs ≤ routes) (s : Rout
     sound = rw (starts-are, ends-are) (record { loop-free = h .loop-free; single = h .single });
   }
 
+-- two columns, each at its greatest length
+routes-long : (rs : List Route) → length rs ≤ routes → length (routeColumns rs) ≡ 128
+unfolding routeColumns
+routes-long rs few =
+    omega (arith, length-append (column 64 (froms rs)) (column 64 (tos rs)), length-column 64 (froms rs) (omega (arith, length-map rs (λ (r : Route). r .from))), length-column 64 (tos rs) (omega (arith, length-map rs (λ (r : Route). r .to))))
+
 -- the words of a book have its routes
 pub words-routes : (b : Book) → good (b .messages) ≡ true → length (b .routes) ≤ routes → RoutesStand (wordsOf b) (b .routes)
 unfolding wordsOf routeColumns
@@ -68,13 +74,8 @@ words-routes b g few = record {
   count = refl;
   columns =
       ap (take 128) (drop-at (messageColumns (b .messages)) (routeColumns (b .routes)) 640 (columns-long (b .messages) (within (b .messages) g .few) (within (b .messages) g .room))) ∙
-      take-all 128 (routeColumns (b .routes)) (omega (arith, length-append (column 64 (froms (b .routes))) (column 64 (tos (b .routes))), length-column 64 (froms (b .routes)) (omega (arith, length-map (b .routes) (λ (r : Route). r .from))), length-column 64 (tos (b .routes)) (omega (arith, length-map (b .routes) (λ (r : Route). r .to)))));
+      take-all 128 (routeColumns (b .routes)) (omega (arith, routes-long (b .routes) few));
 }
-
-routes-long : (rs : List Route) → length rs ≤ routes → length (routeColumns rs) ≡ 128
-unfolding routeColumns
-routes-long rs few =
-    omega (arith, length-append (column 64 (froms rs)) (column 64 (tos rs)), length-column 64 (froms rs) (omega (arith, length-map rs (λ (r : Route). r .from))), length-column 64 (tos rs) (omega (arith, length-map rs (λ (r : Route). r .to))))
 
 -- a book has as many words as a record
 pub words-long : (b : Book) → good (b .messages) ≡ true → length (b .routes) ≤ routes → length (wordsOf b) ≡ bookWords
