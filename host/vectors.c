@@ -1,5 +1,5 @@
 /* vectors SUBJECT: runs the cases of tools/SUBJECT_vectors.py from standard input and prints what came out, a line a case.
-   The subjects are catalogue, routes, book, frames, packing, record, faults, power and sleep. For catalogue the
+   The subjects are catalogue, routes, spread, book, frames, packing, record, faults, power and sleep. For catalogue the
    input is signal numbers and raw counts, one pair a line. */
 #include "face.h"
 #include <inttypes.h>
@@ -167,7 +167,7 @@ static void damage_book(void) {
             book[(uint32_t)columns[i].first + index] = value;
 }
 
-/* A line of the frames, packing and record streams, by its first byte. */
+/* A line of the spread, frames, packing and record streams, by its first byte. */
 static void lent_book_case(void) {
     uint32_t line;
     switch (input[at++]) {
@@ -249,8 +249,8 @@ static void sleep_case(void) {
 
 int main(int argc, char **argv) {
     static const struct { const char *subject; void (*run)(void); } subjects[] = {
-        { "catalogue", catalogue_case }, { "routes", routes_case }, { "book", book_case }, { "frames", lent_book_case },
-        { "packing", lent_book_case }, { "record", lent_book_case }, { "faults", faults_case },
+        { "catalogue", catalogue_case }, { "routes", routes_case }, { "spread", lent_book_case }, { "book", book_case },
+        { "frames", lent_book_case }, { "packing", lent_book_case }, { "record", lent_book_case }, { "faults", faults_case },
         { "power", power_case }, { "sleep", sleep_case },
     };
     length = fread(input, 1, sizeof input, stdin);

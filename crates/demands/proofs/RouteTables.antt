@@ -61,6 +61,12 @@ module _ (w : List ℕ) (rs : List Route) (few : length rs ≤ routeLimit) (s : 
     sound = rw (starts-are, ends-are) (record { loop-free = h .loop-free; single = h .single });
   }
 
+-- two columns, each at its greatest length
+routes-long : (rs : List Route) → length rs ≤ routeLimit → length (routeColumns rs) ≡ routeWords
+unfolding routeColumns
+routes-long rs few =
+    omega (arith, length-append (column routeLimit (froms rs)) (column routeLimit (tos rs)), length-column routeLimit (froms rs) (omega (arith, length-map rs (λ (r : Route). r .from))), length-column routeLimit (tos rs) (omega (arith, length-map rs (λ (r : Route). r .to))))
+
 -- the words of a book have its routes
 pub words-routes : (b : Book) → good (b .messages) ≡ true → length (b .routes) ≤ routeLimit → RoutesStand (wordsOf b) (b .routes)
 unfolding wordsOf routeColumns
@@ -68,13 +74,8 @@ words-routes b g few = record {
   count = refl;
   columns =
       ap (take routeWords) (drop-at (messageColumns (b .messages)) (routeColumns (b .routes)) messageWords (columns-long (b .messages) (within (b .messages) g .few) (within (b .messages) g .room))) ∙
-      take-all routeWords (routeColumns (b .routes)) (omega (arith, length-append (column routeLimit (froms (b .routes))) (column routeLimit (tos (b .routes))), length-column routeLimit (froms (b .routes)) (omega (arith, length-map (b .routes) (λ (r : Route). r .from))), length-column routeLimit (tos (b .routes)) (omega (arith, length-map (b .routes) (λ (r : Route). r .to)))));
+      take-all routeWords (routeColumns (b .routes)) (omega (arith, routes-long (b .routes) few));
 }
-
-routes-long : (rs : List Route) → length rs ≤ routeLimit → length (routeColumns rs) ≡ routeWords
-unfolding routeColumns
-routes-long rs few =
-    omega (arith, length-append (column routeLimit (froms rs)) (column routeLimit (tos rs)), length-column routeLimit (froms rs) (omega (arith, length-map rs (λ (r : Route). r .from))), length-column routeLimit (tos rs) (omega (arith, length-map rs (λ (r : Route). r .to))))
 
 -- a book has as many words as a record
 pub words-long : (b : Book) → good (b .messages) ≡ true → length (b .routes) ≤ routeLimit → length (wordsOf b) ≡ bookWords

@@ -18,10 +18,11 @@ pub record Holds (n : ℕ) (P : ℕ → Bool) (mask : ℕ) : Type 0 where
 abbrev pub RowOf : List ℕ → ℕ → ℕ → Type 0
 RowOf places t mask = Holds (length places) (λ j. eqb t (getD places j 0)) mask
 
+-- mask i has the routes that `places` has at the place that route i leads to
 unfoldable pub RowsOf : List ℕ → List ℕ → List ℕ → Type 0
 RowsOf places ts m = (i : ℕ) → i < length ts → RowOf places (getD ts i 0) (getD m i 0)
 
--- of the first n masks, those that s says reach k have got all that mask k had
+-- of the first n masks, those of which s says that they have route k have got all that mask k had
 unfoldable pub Round : ℕ → ℕ → List ℕ → List ℕ → List ℕ → Type 0
 Round n k s m m′ = (i j : ℕ) → i < n → bit (getD m′ i 0) j ≡ bit (getD m i 0) j || (bit (getD s i 0) k && bit (getD m k 0) j)
 

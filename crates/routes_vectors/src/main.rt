@@ -3,27 +3,20 @@
 // `doubling` with the route's index, or `sound` with the count of the spread and its places.
 use libc::STDIN_FILENO;
 use libc::STDOUT_FILENO;
-use numerals::Number;
 use record::BOOK_WORDS;
 use record::FROMS;
 use record::IDENTIFIER_LIMIT;
 use record::ROUTE_COUNT;
 use record::ROUTES;
 use record::TOS;
-use routes::Sent;
+use route_cases::hex;
+use route_cases::short_hex;
 use verdict::Verdict;
 
 const MOST_LINES: u32 = 1000000;
 
 // The longest line after its count: 64 routes, a place and the newline.
 const LINE: usize = 1033;
-
-fn hex(digits: &[u8]) -> u32 {
-    match numerals::read_identifier(digits) {
-        Number::Is(n) => n,
-        Number::Not => 0,
-    }
-}
 
 // The book that has the routes of the line, and nothing else.
 fn book_on(line: [u8; 1033], n: usize) -> [u32; 771] {
@@ -59,44 +52,10 @@ fn print_index(word: &[u8], i: usize) {
     io::write_all(STDOUT_FILENO, b"\n");
 }
 
-fn print_place(place: u32) {
-    let mut text = [b'\t', 0, 0, 0, 0, 0, 0, 0, 0];
-    writing::put_identifier(&mut text, 1, place);
-    io::write_all(STDOUT_FILENO, &text);
-}
-
-fn print_places(places: &[u32], n: usize) {
-    io::write_all(STDOUT_FILENO, b"sound\t");
-    io::print_decimal(STDOUT_FILENO, n as u64);
-    let mut i: usize = 0;
-    while i < places.len() {
-        if i < n {
-            print_place(places[i]);
-        }
-        i += 1;
-    }
-    io::write_all(STDOUT_FILENO, b"\n");
-}
-
 fn print_spread(book: &[u32; BOOK_WORDS], place: u32) {
-    let mut room = [0u32; ROUTES];
-    match routes::spread(
-        book,
-        place / IDENTIFIER_LIMIT,
-        place % IDENTIFIER_LIMIT,
-        &mut room,
-    ) {
-        Sent::Places(n) => print_places(&room, n),
-        Sent::NotABook => {
-            io::write_all(STDOUT_FILENO, b"no\t12\n");
-        }
-        Sent::NoSuchPlace => {
-            io::write_all(STDOUT_FILENO, b"no\t61\n");
-        }
-        Sent::NoRoom => {
-            io::write_all(STDOUT_FILENO, b"no\t62\n");
-        }
-    }
+    let bus = place / IDENTIFIER_LIMIT;
+    let identifier = place % IDENTIFIER_LIMIT;
+    route_cases::print_spread(b"sound\t", book, bus, identifier, ROUTES);
 }
 
 fn judge_first(froms: &[u32], tos: &[u32], n: usize) -> Verdict {
@@ -135,7 +94,7 @@ fn main() {
         if io::read_full(STDIN_FILENO, &mut head) < 2 {
             return;
         }
-        let n = hex(&[b'0', b'0', b'0', b'0', b'0', b'0', head[0], head[1]]) as usize;
+        let n = short_hex(head[0], head[1]);
         if n > ROUTES {
             return;
         }

@@ -1,3 +1,4 @@
 pub mod Found
 pub mod Masks
 pub mod Once
+pub mod Judging

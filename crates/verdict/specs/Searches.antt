@@ -7,6 +7,7 @@ use lib.Dec.{eqb}
 use Rattle.masks.specs.Bit.{bit, meeting}
 use Rattle.chains.specs.Tests.{any}
 
+-- mask i has route i itself: the route leads on to the place where it starts
 abbrev pub ownBit : List ℕ → ℕ → Bool
 ownBit starts i = bit (getD starts i 0) i
 
@@ -14,6 +15,7 @@ ownBit starts i = bit (getD starts i 0) i
 abbrev pub forkBy : List ℕ → List ℕ → ℕ → ℕ → Bool
 forkBy froms ends a b = (not (eqb a b) && eqb (getD froms a 0) (getD froms b 0)) && meeting (getD ends a 0) (getD ends b 0)
 
+-- route a makes such a pair with some route
 abbrev pub forksBy : List ℕ → List ℕ → ℕ → Bool
 forksBy froms ends a = any (length froms) (forkBy froms ends a)
 

@@ -27,20 +27,14 @@ read-full-requires c κs = search needs
 returns : tie.Need-returns Inv-loop μ-loop
 returns c = search needs
 
-array-read-t14 : tie.Need-array-read-t14 Inv-loop μ-loop
-array-read-t14 c = search needs
+array-read-short-hex : tie.Need-array-read-short-hex Inv-loop μ-loop
+array-read-short-hex c = search needs
 
-array-read-t17 : tie.Need-array-read-t17 Inv-loop μ-loop
-array-read-t17 c = search needs
+array-read-short-hex-2 : tie.Need-array-read-short-hex-2 Inv-loop μ-loop
+array-read-short-hex-2 c = search needs
 
-slice-aggregate-hex : tie.Need-slice-aggregate-hex Inv-loop μ-loop
-slice-aggregate-hex c = search needs
-
-hex-requires : tie.Need-hex-requires Inv-loop μ-loop
-hex-requires c κs = search needs
-
-cast-n : tie.Need-cast-n Inv-loop μ-loop
-cast-n c = search needs
+short-hex-requires : tie.Need-short-hex-requires Inv-loop μ-loop
+short-hex-requires c κs = search needs
 
 returns-2 : tie.Need-returns-2 Inv-loop μ-loop
 returns-2 c = search needs
@@ -86,11 +80,9 @@ main-spec =
     slice-aggregate-read-full
     read-full-requires
     returns
-    array-read-t14
-    array-read-t17
-    slice-aggregate-hex
-    hex-requires
-    cast-n
+    array-read-short-hex
+    array-read-short-hex-2
+    short-hex-requires
     returns-2
     slice-aggregate-read-first
     mul-read-first

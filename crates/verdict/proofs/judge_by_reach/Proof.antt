@@ -1,8 +1,5 @@
 -- `verdict::judge_by_reach` meets its contract: what the searches found over the masks is what there is to find over chains. Assumes nothing.
-use Rattle.chains.proofs.Loops.{comesBack}
-use Rattle.chains.proofs.Tests.{begins}
-use Rattle.verdict.proofs.Masks.{first-same, own-bit, begins-same}
-use Rattle.verdict.proofs.Once.{loop-found, no-loop, doubling-found, no-doubling}
+use Rattle.verdict.proofs.Judging.{loop-by, doubling-by, sound-by}
 use borrow.Author.Needs.{needs}
 use Rattle.verdict.proofs.judge_by_reach.Statement.{statement}
 use Rattle.verdict.proofs.judge_by_reach.Tie as tie
@@ -27,10 +24,7 @@ returns c =
     let at-first-loop = c .before .first-loop in
     let at-fill = c .before .before .before .before .before .fill in
     let at-args = c .before .before .before .before .before .before .before .before .before .before .args in
-    let fs = at-args .froms .now in
-    let ts = at-args .tos .now in
-    let e = at-fill .ensures in
-    loop-found fs ts _ (first-same _ (comesBack fs ts) _ _ (own-bit fs ts _ _ (e .0) (e .1)) (at-first-loop .ensures)) (c .if1 .taken)
+    loop-by (at-args .froms .now) (at-args .tos .now) _ _ (at-fill .ensures .0) (at-fill .ensures .1) _ (at-first-loop .ensures) (c .if1 .taken)
 
 slice-aggregate-first-doubling : tie.Need-slice-aggregate-first-doubling
 slice-aggregate-first-doubling c = search needs
@@ -52,11 +46,7 @@ returns-2 c =
     let at-first-loop = c .before .before .before .before .before .before .first-loop in
     let at-fill = c .before .before .before .before .before .before .before .before .before .before .fill in
     let at-args = c .before .before .before .before .before .before .before .before .before .before .before .before .before .before .before .args in
-    let fs = at-args .froms .now in
-    let ts = at-args .tos .now in
-    let e = at-fill .ensures in
-    let free = no-loop fs ts _ (first-same _ (comesBack fs ts) _ _ (own-bit fs ts _ _ (e .0) (e .1)) (at-first-loop .ensures)) (at-if1 .left) in
-    doubling-found fs ts free _ (first-same _ (begins fs ts) _ _ (begins-same fs ts _ _ (e .0) (e .1) _ (at-forking .ensures)) (at-first-doubling .ensures)) (c .if2 .taken)
+    doubling-by (at-args .froms .now) (at-args .tos .now) _ _ (at-fill .ensures .0) (at-fill .ensures .1) _ (at-first-loop .ensures) (at-if1 .left) _ (at-forking .ensures) _ (at-first-doubling .ensures) (c .if2 .taken)
 
 returns-3 : tie.Need-returns-3
 returns-3 c =
@@ -66,11 +56,7 @@ returns-3 c =
     let at-first-loop = c .before .before .before .before .before .before .first-loop in
     let at-fill = c .before .before .before .before .before .before .before .before .before .before .fill in
     let at-args = c .before .before .before .before .before .before .before .before .before .before .before .before .before .before .before .args in
-    let fs = at-args .froms .now in
-    let ts = at-args .tos .now in
-    let e = at-fill .ensures in
-    let free = no-loop fs ts _ (first-same _ (comesBack fs ts) _ _ (own-bit fs ts _ _ (e .0) (e .1)) (at-first-loop .ensures)) (at-if1 .left) in
-    no-doubling fs ts free _ (first-same _ (begins fs ts) _ _ (begins-same fs ts _ _ (e .0) (e .1) _ (at-forking .ensures)) (at-first-doubling .ensures)) (c .if2 .left)
+    sound-by (at-args .froms .now) (at-args .tos .now) _ _ (at-fill .ensures .0) (at-fill .ensures .1) _ (at-first-loop .ensures) (at-if1 .left) _ (at-forking .ensures) _ (at-first-doubling .ensures) (c .if2 .left)
 
 pub judge-by-reach-spec : {M : Type 1} → statement M
 judge-by-reach-spec =

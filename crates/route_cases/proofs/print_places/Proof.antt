@@ -1,18 +1,15 @@
--- `routes_vectors::print_places` is safe and ends: each turn passes a place. Assumes nothing.
+-- `route_cases::print_places` is safe and ends: each turn passes a place. Assumes nothing.
 use borrow.Author.Needs.{needs}
 use Prim.Native.Nat.{_-_}
 use lib.ListN.{length}
-use Rattle.routes_vectors.proofs.print_places.Statement.{statement}
-use Rattle.routes_vectors.proofs.print_places.Tie as tie
+use Rattle.route_cases.proofs.print_places.Statement.{statement}
+use Rattle.route_cases.proofs.print_places.Tie as tie
 
 abbrev Inv-loop : tie.InvT-loop
-Inv-loop places n i₀ t5 i = Unit {0}
+Inv-loop word places n i₀ t5 i = Unit {0}
 
 abbrev μ-loop : tie.MeasureT-loop
-μ-loop places n i₀ t5 i = length places - i
-
-slice-aggregate-write-all : tie.Need-slice-aggregate-write-all Inv-loop μ-loop
-slice-aggregate-write-all c = search needs
+μ-loop word places n i₀ t5 i = length places - i
 
 write-all-requires : tie.Need-write-all-requires Inv-loop μ-loop
 write-all-requires c κs = search needs
@@ -41,8 +38,8 @@ loop-less c = search needs
 loop-again : tie.Need-loop-again Inv-loop μ-loop
 loop-again c = search needs
 
-slice-aggregate-write-all-2 : tie.Need-slice-aggregate-write-all-2 Inv-loop μ-loop
-slice-aggregate-write-all-2 c = search needs
+slice-aggregate-write-all : tie.Need-slice-aggregate-write-all Inv-loop μ-loop
+slice-aggregate-write-all c = search needs
 
 write-all-requires-2 : tie.Need-write-all-requires-2 Inv-loop μ-loop
 write-all-requires-2 c κs = search needs
@@ -56,7 +53,6 @@ print-places-spec =
     (tie.spec
     Inv-loop
     μ-loop
-    slice-aggregate-write-all
     write-all-requires
     print-decimal-requires
     loop-holds
@@ -66,6 +62,6 @@ print-places-spec =
     add-i
     loop-less
     loop-again
-    slice-aggregate-write-all-2
+    slice-aggregate-write-all
     write-all-requires-2
     returns)
