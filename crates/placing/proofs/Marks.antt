@@ -1,31 +1,33 @@
 -- A number whose mark is not set is none of those that set theirs. Assumes nothing.
-use mathlib.Core.Path.{_≡_, refl, sym, ap, _∙_, subst}
-use mathlib.Core.Bool.{Bool, true, false, _||_, or-true}
-use mathlib.Core.List.{List}
-use Prim.Native.Nat.{ℕ, _+_, _%_}
+use mathlib.Core.Path.{_≡_, refl, sym, ap, _∙_}
+use mathlib.Core.Bool.{Bool, true, false, _||_, or-true, or-false, or-assoc}
+use mathlib.Core.List.{List, [], _∷_, _++_}
+use Prim.Native.Nat.{ℕ, _%_}
 use native.Mathlib.Omega.{arith}
-use lib.Arith.{lt-of-le-ne}
 use lib.Dec.{eqb}
-use lib.ListN.{take, getD}
-use borrow.Author.Tests.{eqb-true, eqb-false, eq-eqb}
+use borrow.Author.Tests.{eqb-true, eq-eqb}
 use Rattle.books.specs.Lines.{isIn}
-use Rattle.columns.proofs.Laws.{absent}
 use Rattle.masks.specs.Bit.{bit}
-use Rattle.placing.specs.Placing.{Marked}
+use Rattle.placing.specs.Filling.{Marked}
 
-pub unmarked : (l : List ℕ) (marks i x : ℕ) → bit marks (x % 64) ≡ false → Marked l marks i → isIn x (take i l) ≡ false
-unmarked l marks i x e m =
-    absent x l i (λ j p q d.
-    let a : bit marks (x % 64) ≡ true = subst (λ (n : ℕ). bit marks (n % 64) ≡ true) d (m j p q) in
-    let z : _≡_ {A = ℕ} 0 1 = cc in
-    omega arith)
-
-pub marked-more : (l : List ℕ) (marks marks′ i x : ℕ) → x ≡ getD l i 0 → ((j : ℕ) → bit marks′ j ≡ bit marks j || eqb j (x % 64)) → Marked l marks i → Marked l marks′ (i + 1)
-marked-more l marks marks′ i x e w m j p q = w (getD l j 0 % 64) ∙ go (eqb j i) refl
+pub unmarked : (ns : List ℕ) (marks x : ℕ) → Marked marks ns → bit marks (x % 64) ≡ false → isIn x ns ≡ false
+unmarked ns marks x m e = go (isIn x ns) refl
   where
-    go : (t : Bool) → eqb j i ≡ t → bit marks (getD l j 0 % 64) || eqb (getD l j 0 % 64) (x % 64) ≡ true
-    go true d =
-        let same : getD l j 0 % 64 ≡ x % 64 = ap (λ (n : ℕ). getD l n 0 % 64) (eqb-true j i d) ∙ ap (λ (n : ℕ). n % 64) (sym e) in
-        ap (λ (t : Bool). bit marks (getD l j 0 % 64) || t) (eq-eqb _ _ same) ∙ or-true (bit marks (getD l j 0 % 64))
-    go false d =
-        ap (λ (t : Bool). t || eqb (getD l j 0 % 64) (x % 64)) (m j (lt-of-le-ne (omega arith) (eqb-false j i d)) q)
+    go : (t : Bool) → isIn x ns ≡ t → isIn x ns ≡ false
+    go true i = let a = m x i in let z : _≡_ {A = ℕ} 0 1 = cc in absurd (omega arith)
+    go false i = i
+
+in-more : (n x : ℕ) (ns : List ℕ) → isIn n (ns ++ (x ∷ [])) ≡ isIn n ns || eqb n x
+unfolding isIn
+in-more n x [] = or-false (eqb n x)
+in-more n x (y ∷ ns) = ap (λ (t : Bool). eqb n y || t) (in-more n x ns) ∙ sym (or-assoc (eqb n y) (isIn n ns) (eqb n x))
+
+pub marked-more : (ns : List ℕ) (marks marks′ x : ℕ) → ((j : ℕ) → bit marks′ j ≡ bit marks j || eqb j (x % 64)) → Marked marks ns → Marked marks′ (ns ++ (x ∷ []))
+marked-more ns marks marks′ x w m n i = w (n % 64) ∙ go (isIn n ns) refl
+  where
+    go : (t : Bool) → isIn n ns ≡ t → bit marks (n % 64) || eqb (n % 64) (x % 64) ≡ true
+    go true e = ap (λ (t : Bool). t || eqb (n % 64) (x % 64)) (m n e)
+    go false e =
+        let same : eqb n x ≡ true = ap (λ (t : Bool). t || eqb n x) (sym e) ∙ sym (in-more n x ns) ∙ i in
+        let mark : n % 64 ≡ x % 64 = ap (λ (k : ℕ). k % 64) (eqb-true n x same) in
+        ap (λ (t : Bool). bit marks (n % 64) || t) (eq-eqb _ _ mark) ∙ or-true (bit marks (n % 64))
