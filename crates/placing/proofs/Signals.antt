@@ -2,22 +2,18 @@
 use mathlib.Core.Path.{_≡_, refl, sym, ap, _∙_, subst}
 use mathlib.Core.Bool.{Bool, true, false, _&&_, _||_, not}
 use mathlib.Core.List.{List, [], _∷_, _++_}
-use Prim.Native.Nat.{ℕ, suc, _+_, _%_, _≤_, _<_}
-use native.Mathlib.Nat.{pos-of-ne-zero}
+use Prim.Native.Nat.{ℕ, suc, _+_, _≤_, _<_}
 use native.Mathlib.Omega.{arith}
 use native.Mathlib.Numerals.{add-one}
-use lib.Dec.{eqb, leb}
 use lib.ListN.{length, take, drop, getD, drop-of-length-le}
 use lib.Seq.{drop-cons, take-suc, length-take-le}
-use borrow.Author.Tests.{eqb-false, not-true, not-false}
 use Rattle.catalogue.specs.Find.{bitsOf}
 use Rattle.books.specs.Book.{Placement, numbers}
-use Rattle.books.specs.Lines.{isIn, unknownOrOver, misplaced, meetsEarlier, frameBits}
+use Rattle.books.specs.Lines.{isIn, unknownOrOver, misplaced, meetsEarlier}
 use Rattle.books.specs.Good.{goodAfter}
 use Rattle.books.specs.Words.{placed}
-use Rattle.books.proofs.Tests.{neither, both-false}
+use Rattle.books.proofs.Tests.{neither}
 use Rattle.masks.specs.Bit.{bit, meeting}
-use Rattle.masks.proofs.Bits.{bit-zero}
 use Rattle.placing.specs.declared.Filled.{Filled}
 use Rattle.placing.specs.Placing.{placement, standsAlone, inRun}
 use Rattle.placing.specs.Filling.{Marked, Fills, FilledMore}

@@ -1,5 +1,4 @@
 // One line more at the end of a book: the words are then those of the book with the line, or stay where the line is refused.
-ghost use mathlib.Core.Path.{_≡_};
 ghost use Rattle.books.specs.Book.{Book};
 ghost use Rattle.books.specs.Lines.{messageRefusal, routeRefusal};
 ghost use Rattle.tables.specs.Adding.{OfBook, Holds, OfKept, Kept, Judged, SignalJudged, withMessage, withRoute, placement, route};
@@ -50,16 +49,12 @@ pub fn add_signal(book: &mut [u32; BOOK_WORDS], filled: Filled, number: u32, sta
         let messages = record::message_count(&*book);
         let signals = record::signal_count(&*book);
         put_signal(book, messages, signals, number, start);
-        let more = filled_with(filled, number, start, bits);
         return Placed {
             added,
-            filled: more,
+            filled: filled_with(filled, number, start, bits),
         };
     }
-    Placed {
-        added,
-        filled,
-    }
+    Placed { added, filled }
 }
 
 // An `R` line: from place, to place.

@@ -8,8 +8,8 @@ mod testing;
 pub use adding::add_message;
 pub use adding::add_route;
 pub use adding::add_signal;
-pub use testing::messages_taken;
 use placing::Filled;
+pub use testing::messages_taken;
 
 // What becomes of a line.
 pub enum Added {

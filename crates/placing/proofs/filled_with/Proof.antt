@@ -5,11 +5,6 @@ use Rattle.masks.specs.Bit.{bit}
 use borrow.Author.Needs.{needs}
 use Rattle.placing.proofs.filled_with.Statement.{statement}
 use Rattle.placing.proofs.filled_with.Tie as tie
-use Rattle.placing.proofs.filled_with.Reads as reads
-use Rattle.placing.proofs.filled_with.Lts as lts
-use Rattle.masks.proofs.both.Reads as both-reads
-use Rattle.masks.proofs.with.Reads as with-reads
-use Rattle.placing.proofs.run.Reads as run-reads
 
 run-requires : tie.Need-run-requires
 run-requires c κs = search needs

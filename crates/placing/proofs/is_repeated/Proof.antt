@@ -4,10 +4,6 @@ use Rattle.placing.proofs.Marks.{unmarked}
 use borrow.Author.Needs.{needs}
 use Rattle.placing.proofs.is_repeated.Statement.{statement}
 use Rattle.placing.proofs.is_repeated.Tie as tie
-use Rattle.placing.proofs.is_repeated.Reads as reads
-use Rattle.placing.proofs.is_repeated.Lts as lts
-use Rattle.columns.proofs.holds.Reads as holds-reads
-use Rattle.masks.proofs.has.Reads as has-reads
 
 has-requires : tie.Need-has-requires
 has-requires c κs = search needs

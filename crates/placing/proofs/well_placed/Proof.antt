@@ -10,15 +10,6 @@ use Rattle.placing.proofs.Placing.{alone-room}
 use Rattle.placing.proofs.Signals.{Passed, begin, end, marked, refuse-alone, refuse-meeting, refuse-again, next}
 use Rattle.placing.proofs.well_placed.Statement.{statement}
 use Rattle.placing.proofs.well_placed.Tie as tie
-use Rattle.placing.proofs.well_placed.Reads as reads
-use Rattle.placing.proofs.well_placed.Lts as lts
-use Rattle.catalogue.proofs.bits_of.Reads as bits-of-reads
-use Rattle.masks.proofs.meet.Reads as meet-reads
-use Rattle.placing.proofs.filled_with.Reads as filled-with-reads
-use Rattle.placing.proofs.is_repeated.Reads as is-repeated-reads
-use Rattle.placing.proofs.nothing.Reads as nothing-reads
-use Rattle.placing.proofs.run.Reads as run-reads
-use Rattle.placing.proofs.stands_alone.Reads as stands-alone-reads
 
 abbrev Inv-loop : tie.InvT-loop
 Inv-loop numbers starts filled₀ at₀ filled at = Passed numbers starts filled at

@@ -45,7 +45,7 @@ signal-count-requires : tie.Need-signal-count-requires
 signal-count-requires c κs = search needs
 
 put-signal-requires : tie.Need-put-signal-requires
-put-signal-requires c κs = 
+put-signal-requires c κs =
     let b = c .before .before .before .before .before .before .before .before .before .before .pre .0 in
     let h = c .before .before .before .before .before .before .before .before .before .before .pre .1 .holds in
     let e = ap refusalOf (c .before .before .before .before .before .enum-told .given .1) in
@@ -53,7 +53,7 @@ put-signal-requires c κs =
     (omega (arith, c .before .before .before .message-count .ensures, messages-held _ b h, r .some), omega (arith, c .before .before .before .message-count .ensures, messages-held _ b h, h .within .messages), omega (arith, c .before .signal-count .ensures, signals-held _ b h, r .room))
 
 filled-with-requires : tie.Need-filled-with-requires
-filled-with-requires c κs = 
+filled-with-requires c κs =
     let b = c .before .before .before .before .before .before .before .before .before .before .before .pre .0 in
     let e = ap refusalOf (c .before .before .before .before .before .before .enum-told .given .1) in
     let r = signal-room (b .messages) (placement (c .before .before .before .before .before .before .before .before .before .before .before .args .number) (c .before .before .before .before .before .before .before .before .before .before .before .args .start)) (sym (c .before .before .before .before .before .before .before .before .judge-signal .ensures b (c .before .before .before .before .before .before .before .before .before .before .before .pre .1)) ∙ e) in

@@ -9,12 +9,6 @@ use Rattle.tables.specs.Adding.{placement, afterRefusal}
 use borrow.Author.Needs.{needs}
 use Rattle.tables.proofs.judging.judge_after.Statement.{statement}
 use Rattle.tables.proofs.judging.judge_after.Tie as tie
-use Rattle.tables.proofs.judging.judge_after.Reads as reads
-use Rattle.tables.proofs.judging.judge_after.Lts as lts
-use Rattle.masks.proofs.meet.Reads as meet-reads
-use Rattle.placing.proofs.is_misplaced.Reads as is-misplaced-reads
-use Rattle.placing.proofs.is_repeated.Reads as is-repeated-reads
-use Rattle.placing.proofs.run.Reads as run-reads
 
 is-repeated-requires : tie.Need-is-repeated-requires
 is-repeated-requires c κs = subst (Marked (c .before .args .filled .marks)) (c .before .pre .0 .1 .listed) (c .before .pre .0 .1 .fills .marks)

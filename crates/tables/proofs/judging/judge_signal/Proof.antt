@@ -14,15 +14,6 @@ use Rattle.tables.proofs.Refused.{signal-unknown, signal-early, signal-
 use borrow.Author.Needs.{needs}
 use Rattle.tables.proofs.judging.judge_signal.Statement.{statement}
 use Rattle.tables.proofs.judging.judge_signal.Tie as tie
-use Rattle.tables.proofs.judging.judge_signal.Reads as reads
-use Rattle.tables.proofs.judging.judge_signal.Lts as lts
-use Rattle.columns.proofs.part.Reads as part-reads
-use Rattle.columns.proofs.wide.Reads as wide-reads
-use Rattle.record.proofs.message_count.Reads as message-count-reads
-use Rattle.record.proofs.numbers.Reads as numbers-reads
-use Rattle.record.proofs.signal_count.Reads as signal-count-reads
-use Rattle.tables.proofs.judging.judge_after.Reads as judge-after-reads
-use Rattle.tables.proofs.judging.last_begin.Reads as last-begin-reads
 
 returns : tie.Need-returns
 returns c = λ b h. sym (signal-unknown (b .messages) _ (unknown (c .before .args .number) (c .before .args .start) (sym (c .before .pre .1) ∙ c .if1 .taken)))
@@ -52,7 +43,7 @@ part-requires : tie.Need-part-requires
 part-requires c κs = (last-in _ (c .before .before .before .before .before .before .before .before .pre .0 .0) (c .before .before .before .before .before .before .before .before .pre .0 .1 .holds) (c .before .before .before .before .before .message-count .result) (c .before .before .wide .result) (c .before .last-begin .result) (c .before .before .before .before .before .message-count .ensures) (c .before .before .wide .ensures ∙ c .before .before .before .signal-count .ensures) (c .before .last-begin .ensures) (pos-of-ne-zero (c .before .before .before .before .if3 .left)), omega (arith, c .numbers .ensures .1, c .before .before .wide .ensures, c .before .before .before .signal-count .ensures, signals-held _ (c .before .before .before .before .before .before .before .before .pre .0 .0) (c .before .before .before .before .before .before .before .before .pre .0 .1 .holds), c .before .before .before .before .before .before .before .before .pre .0 .1 .holds .within .signals))
 
 judge-after-requires : tie.Need-judge-after-requires
-judge-after-requires c κs = 
+judge-after-requires c κs =
     let held = last-held _ (c .before .before .before .before .before .before .before .before .before .pre .0 .0) (c .before .before .before .before .before .before .before .before .before .pre .0 .1 .holds) (c .before .before .before .before .before .before .message-count .result) (c .before .before .before .wide .result) (c .before .before .last-begin .result) (c .before .before .before .before .before .before .message-count .ensures) (c .before .before .before .wide .ensures ∙ c .before .before .before .before .signal-count .ensures) (c .before .before .last-begin .ensures) (pos-of-ne-zero (c .before .before .before .before .before .if3 .left)) in
     let column = c .part .ensures .0 ∙ ap (λ (l : List ℕ). take (c .before .before .before .wide .result - c .before .before .last-begin .result) (drop (c .before .before .last-begin .result) l)) (c .before .numbers .ensures .0) in
     ((lastPlacements (c .before .before .before .before .before .before .before .before .before .pre .0 .0 .messages), record { listed = held ∙ sym column; fills = c .before .before .before .before .before .before .before .before .before .pre .0 .1 .fills }), c .before .before .before .before .before .before .before .if2 .left, pos-of-ne-zero (c .before .before .before .before .before .before .before .before .if1 .left), omega (arith, c .before .before .before .before .before .before .before .before .before .pre .1, few-bits (c .before .before .before .before .before .before .before .before .before .args .number)), c .before .before .before .before .before .before .before .before .before .pre .1)
