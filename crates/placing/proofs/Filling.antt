@@ -1,27 +1,26 @@
 -- What the signals of a message fill tells whether one more meets them, and grows by it. Assumes nothing.
-use mathlib.Core.Path.{_≡_, sym, ap, _∙_, subst}
+use mathlib.Core.Path.{_≡_, sym, ap, _∙_}
 use mathlib.Core.Bool.{Bool, _||_}
 use mathlib.Core.List.{List, [], _∷_, _++_}
-use Prim.Native.Nat.{ℕ, _<_}
-use native.Mathlib.Omega.{arith}
+use Prim.Native.Nat.{ℕ, _%_, _<_}
+use lib.Dec.{eqb}
 use Rattle.catalogue.specs.Find.{bitsOf}
 use Rattle.books.specs.Book.{Placement, numbers}
-use Rattle.books.specs.Lines.{isIn, meetsEarlier}
+use Rattle.books.specs.Lines.{meetsEarlier}
 use Rattle.books.proofs.Ends.{map-append}
-use Rattle.masks.specs.Bit.{bit, meeting}
+use Rattle.masks.specs.Bit.{width, bit, meeting}
 use Rattle.masks.proofs.Bits.{bit-zero}
 use Rattle.placing.specs.declared.Filled.{Filled}
 use Rattle.placing.specs.Placing.{inRun}
-use Rattle.placing.specs.Filling.{has, covers, none, Marked, Fills, FilledMore}
+use Rattle.placing.specs.Filling.{has, covers, none, marked, Fills, FilledMore}
 use Rattle.placing.proofs.Covering.{covers-none, covers-more, wide-more, same-meeting}
-use Rattle.placing.proofs.Marks.{marked-more}
+use Rattle.placing.proofs.Marks.{marked-none, marked-more}
 
 pub fills-none : (f : Filled) → f .bits ≡ 0 → f .marks ≡ 0 → Fills [] f
-unfolding isIn
 fills-none f b m = record {
   each-wide = none;
   bits = λ k. ap (λ (n : ℕ). bit n k) b ∙ bit-zero k ∙ sym (covers-none k);
-  marks = λ n i. let z : _≡_ {A = ℕ} 0 1 = cc in absurd (omega arith);
+  marks = λ j. ap (λ (n : ℕ). bit n j) m ∙ bit-zero j ∙ sym (marked-none j);
 }
 
 -- one signal more, which has b bits
@@ -37,6 +36,6 @@ module _ (ps : List Placement) (p : Placement) (f : Filled) (h : Fills ps f) (so
     each-wide = wide-more p (h .each-wide) some;
     bits = λ k. m .bits-more k ∙ ap (λ (t : Bool). t || inRun (p .start) b k) (h .bits k) ∙
         ap (λ (t : Bool). covers ps k || t) (own-bits k) ∙ sym (covers-more ps p k);
-    marks = subst (Marked (g .marks)) (sym (map-append (λ (q : Placement). q .number) ps (p ∷ [])))
-        (marked-more (numbers ps) (f .marks) (g .marks) (p .number) (m .marks-more) (h .marks));
+    marks = λ j. m .marks-more j ∙ ap (λ (t : Bool). t || eqb j (p .number % width)) (h .marks j) ∙ sym (marked-more (numbers ps) (p .number) j) ∙
+        ap (λ (ns : List ℕ). marked ns j) (sym (map-append (λ (q : Placement). q .number) ps (p ∷ [])));
   }

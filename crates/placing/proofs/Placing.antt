@@ -14,7 +14,7 @@ use Rattle.books.specs.Book.{Placement, numbers}
 use Rattle.books.specs.Lines.{unknownOrOver, misplaced, frameBits}
 use Rattle.books.specs.Words.{placed}
 use Rattle.books.proofs.Tests.{neither, both-false}
-use Rattle.placing.specs.Placing.{placement, standsAlone}
+use Rattle.placing.specs.Placing.{placement, standsAlone, Room}
 
 -- ---- by itself: past the frame's end, and the two that have a start of their own
 module _ (n s b : ℕ) (e : b ≡ bitsOf n) where
@@ -53,12 +53,7 @@ module _ (n s : ℕ) where
   unfolding unknownOrOver
   known e g = rw (ne-eqb _ _ e, lt-leb _ _ g)
 
--- what a signal that stands alone takes of a frame
-pub record Room (start bits : ℕ) : Type 0 where
-  pub from : start < 64
-  pub few : bits ≤ 32
-  pub to : start + bits ≤ 64
-
+-- a frame has room for a signal that stands alone
 pub alone-room : (n s b : ℕ) → b ≡ bitsOf n → standsAlone (placement n s) ≡ true → Room s b
 unfolding unknownOrOver
 alone-room n s b e h =

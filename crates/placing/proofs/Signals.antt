@@ -16,7 +16,7 @@ use Rattle.books.proofs.Tests.{neither}
 use Rattle.masks.specs.Bit.{bit, meeting}
 use Rattle.placing.specs.declared.Filled.{Filled}
 use Rattle.placing.specs.Placing.{placement, standsAlone, inRun}
-use Rattle.placing.specs.Filling.{Marked, Fills, FilledMore}
+use Rattle.placing.specs.Filling.{Marks, Fills, FilledMore}
 use Rattle.placing.proofs.Placing.{placed-numbers, has-bits}
 use Rattle.placing.proofs.Filling.{fills-none, meets-same, fills-more}
 
@@ -113,8 +113,8 @@ module _ (ns ss : List ℕ) (filled : Filled) (at : ℕ) (e : length ss ≡ leng
     among : isIn (getD ns at 0) (numbers (earlier ns ss at)) ≡ isIn (getD ns at 0) (take at ns)
     among = ap (isIn (getD ns at 0)) listed
 
-    pub marked : Marked (filled .marks) (take at ns)
-    marked = subst (Marked (filled .marks)) listed (w .fills .marks)
+    pub marks-before : Marks (take at ns) (filled .marks)
+    marks-before = subst (λ (l : List ℕ). Marks l (filled .marks)) listed (w .fills .marks)
 
     pub refuse-alone : standsAlone (nth ns ss at) ≡ false → false ≡ goodAfter [] (placed ns ss)
     refuse-alone f = fail (not-alone (earlier ns ss at) (nth ns ss at) f)

@@ -1,9 +1,9 @@
 -- A signal by itself, and its frame bits. Assumes nothing: these are definitions.
 use mathlib.Core.Bool.{Bool, _&&_, _||_, not}
-use Prim.Native.Nat.{ℕ, _+_}
+use Prim.Native.Nat.{ℕ, _+_, _≤_, _<_}
 use lib.Dec.{leb, ltb}
 use Rattle.books.specs.Book.{Placement}
-use Rattle.books.specs.Lines.{unknownOrOver, misplaced}
+use Rattle.books.specs.Lines.{unknownOrOver, misplaced, frameBits}
 
 -- the line that a number with a start makes
 abbrev pub placement : ℕ → ℕ → Placement
@@ -13,6 +13,12 @@ placement n s = record { number = n; start = s }
 abbrev pub standsAlone : Placement → Bool
 standsAlone p = not (unknownOrOver p || misplaced p)
 
--- frame bit k is one of the bits from start on
+-- a frame has room for so many bits from start on
+pub record Room (start bits : ℕ) : Type 0 where
+  pub from : start < frameBits
+  pub few : bits ≤ 32
+  pub to : start + bits ≤ frameBits
+
+-- frame bit k is one of them
 unfoldable pub inRun : ℕ → ℕ → ℕ → Bool
 inRun start bits k = leb start k && ltb k (start + bits)

@@ -8,8 +8,8 @@ ghost use Rattle.books.specs.Lines.{isIn, misplaced};
 ghost use Rattle.books.specs.Good.{goodAfter};
 ghost use Rattle.books.specs.Words.{placed};
 ghost use Rattle.masks.specs.Bit.{bit};
-ghost use Rattle.placing.specs.Placing.{placement, standsAlone, inRun};
-ghost use Rattle.placing.specs.Filling.{Marked, FilledMore};
+ghost use Rattle.placing.specs.Placing.{placement, standsAlone, Room, inRun};
+ghost use Rattle.placing.specs.Filling.{Marks, FilledMore};
 use record::START_LIMIT;
 
 // Whether a signal of the catalogue stands where it may not, by itself.
@@ -45,13 +45,13 @@ fn stands_alone(number: u32, start: u32, bits: u32) -> bool
 
 // A mask of the frame bits of a signal.
 pub fn run(start: u32, bits: u32) -> u64
-    requires { ⌜ (start < 64) × (bits ≤ 32) × (start + bits ≤ 64) ⌝ }
+    requires { ⌜ Room start bits ⌝ }
     ensures { λ r. ⌜ ((k : ℕ) → bit r k ≡ inRun start bits k) ⌝ }
 {
     ((1u64 << bits) - 1) << start
 }
 
-// What the signals of a message fill: a mask of their frame bits, and one of 64 marks, of which each number sets one.
+// What the signals of a message fill: a mask of their frame bits, and one of their numbers' marks.
 pub struct Filled {
     pub bits: u64,
     pub marks: u64,
@@ -66,7 +66,7 @@ pub fn nothing() -> Filled
 
 // What they fill with one signal more.
 pub fn filled_with(filled: Filled, number: u32, start: u32, bits: u32) -> Filled
-    requires { ⌜ (start < 64) × (bits ≤ 32) × (start + bits ≤ 64) ⌝ }
+    requires { ⌜ Room start bits ⌝ }
     ensures { λ r. ⌜ FilledMore filled number start bits r ⌝ }
 {
     let bits_here = run(start, bits);
@@ -76,9 +76,9 @@ pub fn filled_with(filled: Filled, number: u32, start: u32, bits: u32) -> Filled
     }
 }
 
-// Whether a number stands among those that have set their marks: they are looked at only where one of them has the same mark.
+// Whether a number stands among those whose marks are filled: they are looked at only where one of them has the same mark.
 pub fn is_repeated(numbers: &[u32], filled: Filled, number: u32) -> bool
-    requires { ⌜ Marked (filled .marks) (now numbers) ⌝ }
+    requires { ⌜ Marks (now numbers) (filled .marks) ⌝ }
     ensures { λ r. ⌜ r ≡ isIn number (now (numbers .entry)) ⌝ }
 {
     if masks::has(filled.marks, number % 64) {

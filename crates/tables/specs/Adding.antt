@@ -42,11 +42,12 @@ pub record Holds (w : List ℕ) (b : Book) : Type 0 where
 abbrev pub OfBook : List ℕ → Type 0
 OfBook w = (b : Book) × Holds w b
 
--- and so much is filled by the signals of its last message
+-- the words are those of the book, and so much is filled by the signals of its last message
 pub record Kept (w : List ℕ) (f : Filled) (b : Book) : Type 0 where
   pub holds : Holds w b
   pub fills : Fills (lastPlacements (b .messages)) f
 
+-- the same of a book
 abbrev pub OfKept : List ℕ → Filled → Type 0
 OfKept w f = (b : Book) × Kept w f b
 
@@ -74,7 +75,7 @@ pub record Judged (refusal : ℕ) (old new : Book) (r : Added) (w : List ℕ) : 
   pub answer : refusalOf r ≡ refusal
   pub words : w ≡ wordsOf (unless refusal old new)
 
--- and what the signals of the last message fill then
+-- so with an `S` line, and it is told what the signals of the last message fill then
 pub record SignalJudged (b : Book) (p : Placement) (r : Placed) (w : List ℕ) : Type 0 where
   pub judged : Judged (signalRefusal (b .messages) p) b (withSignal b p) (r .added) w
   pub fills : Fills (lastPlacements (unless (signalRefusal (b .messages) p) b (withSignal b p) .messages)) (r .filled)

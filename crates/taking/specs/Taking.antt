@@ -27,7 +27,7 @@ stepNumber (step.Refused why) = number why
 abbrev pub addedNumber : Added → ℕ
 addedNumber added = adding.refusalOf added
 
--- where the line is taken, what is filled is told
+-- where a line is taken, the step carries what is filled
 abbrev pub Carries : Filled → Step → Type 0
 Carries filled (step.Taken more) = more ≡ filled
 Carries filled (step.Refused why) = Unit
@@ -37,7 +37,7 @@ abbrev pub FillsThen : List Placement → Step → Type 0
 FillsThen ps (step.Taken filled) = Fills ps filled
 FillsThen ps (step.Refused why) = Unit
 
--- the line is judged after the book b, and is in the words where it is taken; what the signals of the last message fill then is told
+-- the line is judged after the book b; where it is taken it is in the words, and the step carries what the last message's signals fill
 pub record Took (b : Book) (l : Line) (r : Step) (w : List ℕ) : Type 0 where
   pub answer : stepNumber r ≡ refusalOf b l
   pub words : w ≡ wordsOf (unless (refusalOf b l) b (withLine b l))

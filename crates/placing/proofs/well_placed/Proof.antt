@@ -1,4 +1,5 @@
 -- `placing::well_placed` meets its contract: the answer for the signals from `at` on is the answer for all, and those before it fill what is held. Assumes nothing.
+use Rattle.placing.proofs.Signals.{Passed, begin, end, marks-before, refuse-alone, refuse-meeting, refuse-again, next}
 use mathlib.Core.Path.{sym, _∙_}
 use Prim.Native.Nat.{_-_}
 use native.Mathlib.Omega.{arith}
@@ -7,7 +8,6 @@ use borrow.Author.Tests.{not-true, not-false}
 use lib.ListN.{length}
 use lib.Seq.{length-take-le}
 use Rattle.placing.proofs.Placing.{alone-room}
-use Rattle.placing.proofs.Signals.{Passed, begin, end, marked, refuse-alone, refuse-meeting, refuse-again, next}
 use Rattle.placing.proofs.well_placed.Statement.{statement}
 use Rattle.placing.proofs.well_placed.Tie as tie
 
@@ -45,7 +45,7 @@ returns : tie.Need-returns Inv-loop μ-loop
 returns c = refuse-alone _ _ _ _ (c .before .before .before .before .before .before .before .before .before .before .pre) (c .before .before .before .before .before .before .loop .inv) (c .before .before .before .before .before .loop-test .taken) (sym (c .before .stands-alone .ensures) ∙ not-true _ (c .if1 .taken))
 
 run-requires : tie.Need-run-requires Inv-loop μ-loop
-run-requires c κs = let room = alone-room _ _ _ (c .before .before .bits-of .ensures) (sym (c .before .stands-alone .ensures) ∙ not-false _ (c .if1 .left)) in (room .from, room .few, room .to)
+run-requires c κs = alone-room _ _ _ (c .before .before .bits-of .ensures) (sym (c .before .stands-alone .ensures) ∙ not-false _ (c .if1 .left))
 
 meet-requires : tie.Need-meet-requires Inv-loop μ-loop
 meet-requires c κs = search needs
@@ -57,13 +57,13 @@ slice-aggregate-is-repeated : tie.Need-slice-aggregate-is-repeated Inv-loop μ-l
 slice-aggregate-is-repeated c = sym (length-take-le _ _ (omega arith))
 
 is-repeated-requires : tie.Need-is-repeated-requires Inv-loop μ-loop
-is-repeated-requires c κs = marked _ _ _ _ (c .before .before .before .before .before .before .before .before .before .before .before .before .before .before .pre) (c .before .before .before .before .before .before .before .before .before .before .loop .inv) (c .before .before .before .before .before .before .before .before .before .loop-test .taken)
+is-repeated-requires c κs = marks-before _ _ _ _ (c .before .before .before .before .before .before .before .before .before .before .before .before .before .before .pre) (c .before .before .before .before .before .before .before .before .before .before .loop .inv) (c .before .before .before .before .before .before .before .before .before .loop-test .taken)
 
 returns-3 : tie.Need-returns-3 Inv-loop μ-loop
 returns-3 c = refuse-again _ _ _ _ (c .before .before .before .before .before .before .before .before .before .before .before .before .before .before .before .before .pre) (c .before .before .before .before .before .before .before .before .before .before .before .before .loop .inv) (c .before .before .before .before .before .before .before .before .before .before .before .loop-test .taken) (sym (c .before .before .before .before .before .before .before .stands-alone .ensures) ∙ not-false _ (c .before .before .before .before .before .before .if1 .left)) _ (c .before .before .before .before .before .run .result) (c .before .before .before .before .before .before .before .before .bits-of .ensures) (c .before .before .before .before .before .run .ensures) (sym (c .before .is-repeated .ensures) ∙ c .if3 .taken)
 
 filled-with-requires : tie.Need-filled-with-requires Inv-loop μ-loop
-filled-with-requires c κs = let room = alone-room _ _ _ (c .before .before .before .before .before .before .before .before .bits-of .ensures) (sym (c .before .before .before .before .before .before .before .stands-alone .ensures) ∙ not-false _ (c .before .before .before .before .before .before .if1 .left)) in (room .from, room .few, room .to)
+filled-with-requires c κs = alone-room _ _ _ (c .before .before .before .before .before .before .before .before .bits-of .ensures) (sym (c .before .before .before .before .before .before .before .stands-alone .ensures) ∙ not-false _ (c .before .before .before .before .before .before .if1 .left))
 
 add-at : tie.Need-add-at Inv-loop μ-loop
 add-at c = omega arith

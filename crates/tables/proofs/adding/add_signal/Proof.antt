@@ -57,8 +57,7 @@ filled-with-requires c κs =
     let b = c .before .before .before .before .before .before .before .before .before .before .before .pre .0 in
     let e = ap refusalOf (c .before .before .before .before .before .before .enum-told .given .1) in
     let r = signal-room (b .messages) (placement (c .before .before .before .before .before .before .before .before .before .before .before .args .number) (c .before .before .before .before .before .before .before .before .before .before .before .args .start)) (sym (c .before .before .before .before .before .before .before .before .judge-signal .ensures b (c .before .before .before .before .before .before .before .before .before .before .before .pre .1)) ∙ e) in
-    let room = alone-room _ _ _ (c .before .before .before .before .before .before .before .before .before .before .bits-of .ensures) (r .alone) in
-    (room .from, room .few, room .to)
+    alone-room _ _ _ (c .before .before .before .before .before .before .before .before .before .before .bits-of .ensures) (r .alone)
 
 returns : tie.Need-returns
 returns c = λ b k.
@@ -70,7 +69,7 @@ returns c = λ b k.
     let messages = c .before .before .before .before .before .message-count .ensures ∙ messages-held _ b h in
     let signals = c .before .before .before .signal-count .ensures ∙ signals-held _ b h in
     let stored = signal-stored (b .messages) (b .routes) p (h .within) (r .some) (r .room) in
-    signal-takes b p _ _ f taken (c .before .put-signal .ensures ∙ rw (messages, signals, h .words) stored) (fills-signal (b .messages) p taken (c .before .before .before .before .before .before .before .before .before .before .before .before .args .filled) (k .fills) _ (c .before .before .before .before .before .before .before .before .before .before .before .bits-of .ensures) _ (c .filled-with .ensures))
+    signal-takes b p _ _ f taken (rw (c .before .put-signal .ensures, messages, signals, h .words) stored) (fills-signal (b .messages) p taken (c .before .before .before .before .before .before .before .before .before .before .before .before .args .filled) (k .fills) _ (c .before .before .before .before .before .before .before .before .before .before .before .bits-of .ensures) _ (c .filled-with .ensures))
 
 returns-2 : tie.Need-returns-2
 returns-2 c = λ b k.

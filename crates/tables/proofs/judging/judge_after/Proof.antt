@@ -1,8 +1,10 @@
 -- `tables::judging::judge_after` meets its contract: each `return` is one case of the refusal. Assumes nothing.
+use mathlib.Core.List.{List}
+use Prim.Native.Nat.{ℕ}
+use Rattle.placing.specs.Filling.{Marks}
 use mathlib.Core.Path.{sym, _∙_, subst}
 use native.Mathlib.Omega.{arith}
 use borrow.Author.Tests.{le-leb, lt-leb}
-use Rattle.placing.specs.Filling.{Marked}
 use Rattle.placing.proofs.Placing.{not-past}
 use Rattle.placing.proofs.Filling.{meets-same}
 use Rattle.tables.specs.Adding.{placement, afterRefusal}
@@ -11,7 +13,7 @@ use Rattle.tables.proofs.judging.judge_after.Statement.{statement}
 use Rattle.tables.proofs.judging.judge_after.Tie as tie
 
 is-repeated-requires : tie.Need-is-repeated-requires
-is-repeated-requires c κs = subst (Marked (c .before .args .filled .marks)) (c .before .pre .0 .1 .listed) (c .before .pre .0 .1 .fills .marks)
+is-repeated-requires c κs = subst (λ (l : List ℕ). Marks l (c .before .args .filled .marks)) (c .before .pre .0 .1 .listed) (c .before .pre .0 .1 .fills .marks)
 
 returns : tie.Need-returns
 unfolding afterRefusal
@@ -25,7 +27,7 @@ unfolding afterRefusal
 returns-2 c = λ ps e. rw (e .listed, sym (c .before .before .before .is-repeated .ensures) ∙ c .before .before .if1 .left, sym (c .before .is-misplaced .ensures) ∙ c .if2 .taken)
 
 run-requires : tie.Need-run-requires
-run-requires c κs = (c .before .before .before .before .before .pre .1, c .before .before .before .before .before .pre .3, not-past _ _ _ (c .before .before .before .before .before .pre .4) (sym (c .before .is-misplaced .ensures) ∙ c .if2 .left))
+run-requires c κs = record { from = c .before .before .before .before .before .pre .1; few = c .before .before .before .before .before .pre .3; to = not-past _ _ _ (c .before .before .before .before .before .pre .4) (sym (c .before .is-misplaced .ensures) ∙ c .if2 .left) }
 
 meet-requires : tie.Need-meet-requires
 meet-requires c κs = search needs

@@ -1,10 +1,7 @@
 -- `tables::judging::judge_signal` meets its contract: the tests that led to each `return` say which case of the refusal holds. Assumes nothing.
-use mathlib.Core.Path.{sym, ap, _∙_}
-use mathlib.Core.List.{List}
-use Prim.Native.Nat.{ℕ, _-_}
+use mathlib.Core.Path.{sym, _∙_}
 use native.Mathlib.Nat.{pos-of-ne-zero}
 use native.Mathlib.Omega.{arith}
-use lib.ListN.{take, drop}
 use Rattle.catalogue.proofs.Found.{few-bits}
 use Rattle.books.specs.Book.{lastPlacements}
 use Rattle.placing.proofs.Placing.{unknown, over, known}
@@ -45,14 +42,12 @@ part-requires c κs = (last-in _ (c .before .before .before .before .before .bef
 judge-after-requires : tie.Need-judge-after-requires
 judge-after-requires c κs =
     let held = last-held _ (c .before .before .before .before .before .before .before .before .before .pre .0 .0) (c .before .before .before .before .before .before .before .before .before .pre .0 .1 .holds) (c .before .before .before .before .before .before .message-count .result) (c .before .before .before .wide .result) (c .before .before .last-begin .result) (c .before .before .before .before .before .before .message-count .ensures) (c .before .before .before .wide .ensures ∙ c .before .before .before .before .signal-count .ensures) (c .before .before .last-begin .ensures) (pos-of-ne-zero (c .before .before .before .before .before .if3 .left)) in
-    let column = c .part .ensures .0 ∙ ap (λ (l : List ℕ). take (c .before .before .before .wide .result - c .before .before .last-begin .result) (drop (c .before .before .last-begin .result) l)) (c .before .numbers .ensures .0) in
-    ((lastPlacements (c .before .before .before .before .before .before .before .before .before .pre .0 .0 .messages), record { listed = held ∙ sym column; fills = c .before .before .before .before .before .before .before .before .before .pre .0 .1 .fills }), c .before .before .before .before .before .before .before .if2 .left, pos-of-ne-zero (c .before .before .before .before .before .before .before .before .if1 .left), omega (arith, c .before .before .before .before .before .before .before .before .before .pre .1, few-bits (c .before .before .before .before .before .before .before .before .before .args .number)), c .before .before .before .before .before .before .before .before .before .pre .1)
+    ((lastPlacements (c .before .before .before .before .before .before .before .before .before .pre .0 .0 .messages), record { listed = rw (c .part .ensures .0, c .before .numbers .ensures .0) held; fills = c .before .before .before .before .before .before .before .before .before .pre .0 .1 .fills }), c .before .before .before .before .before .before .before .if2 .left, pos-of-ne-zero (c .before .before .before .before .before .before .before .before .if1 .left), omega (arith, c .before .before .before .before .before .before .before .before .before .pre .1, few-bits (c .before .before .before .before .before .before .before .before .before .args .number)), c .before .before .before .before .before .before .before .before .before .pre .1)
 
 returns-4 : tie.Need-returns-4
 returns-4 c = λ b h.
     let held = last-held _ b (h .holds) (c .before .before .before .before .before .before .before .message-count .result) (c .before .before .before .before .wide .result) (c .before .before .before .last-begin .result) (c .before .before .before .before .before .before .before .message-count .ensures) (c .before .before .before .before .wide .ensures ∙ c .before .before .before .before .before .signal-count .ensures) (c .before .before .before .last-begin .ensures) (pos-of-ne-zero (c .before .before .before .before .before .before .if3 .left)) in
-    let column = c .before .part .ensures .0 ∙ ap (λ (l : List ℕ). take (c .before .before .before .before .wide .result - c .before .before .before .last-begin .result) (drop (c .before .before .before .last-begin .result) l)) (c .before .before .numbers .ensures .0) in
-    let judged = c .judge-after .ensures (lastPlacements (b .messages)) (record { listed = held ∙ sym column; fills = h .fills }) in
+    let judged = c .judge-after .ensures (lastPlacements (b .messages)) (record { listed = rw (c .before .part .ensures .0, c .before .before .numbers .ensures .0) held; fills = h .fills }) in
     let all = c .before .before .before .before .wide .ensures ∙ c .before .before .before .before .before .signal-count .ensures ∙ signals-held _ b (h .holds) in
     let fits = known (c .before .before .before .before .before .before .before .before .before .before .args .number) (c .before .before .before .before .before .before .before .before .before .before .args .start) (λ z. c .before .before .before .before .before .before .before .before .before .if1 .left (c .before .before .before .before .before .before .before .before .before .before .pre .1 ∙ z)) (c .before .before .before .before .before .before .before .before .if2 .left) in
     let later = signal-later (b .messages) (placement (c .before .before .before .before .before .before .before .before .before .before .args .number) (c .before .before .before .before .before .before .before .before .before .before .args .start)) fits (λ z. c .before .before .before .before .before .before .if3 .left (c .before .before .before .before .before .before .before .message-count .ensures ∙ messages-held _ b (h .holds) ∙ z)) in
