@@ -188,6 +188,7 @@ static const struct {
 } cases[] = {
     { "book-read-typical", typical_book, call_book_read },
     { "book-read-full", full_book, call_book_read },
+    { "book-read-30-bits", thirty_bits, call_book_read },
     { "frame-read-typical", typical_book, call_frame_read },
     { "frame-read-full", full_book, call_frame_read },
     { "frame-read-30-bits", thirty_bits, call_frame_read },

@@ -13,15 +13,7 @@ use Rattle.books.proofs.Tests.{both, with}
 use Rattle.masks.specs.Bit.{bit, meeting}
 use Rattle.masks.proofs.Bits.{meeting-some, meeting-none}
 use Rattle.placing.specs.Placing.{inRun}
-
--- frame bit k is one of the signal's
-abbrev pub has : Placement → ℕ → Bool
-has p k = inRun (p .start) (bitsOf (p .number)) k
-
--- or of one of several
-pub covers : List Placement → ℕ → Bool
-covers [] k = false
-covers (q ∷ qs) k = has q k || covers qs k
+use Rattle.placing.specs.Filling.{has, covers, Wide, none, more}
 
 pub covers-none : (k : ℕ) → covers [] k ≡ false
 unfolding covers
@@ -31,11 +23,6 @@ pub covers-more : (qs : List Placement) (p : Placement) (k : ℕ) → covers (qs
 unfolding covers inRun
 covers-more [] p k = or-false (has p k)
 covers-more (q ∷ qs) p k = ap (λ (t : Bool). has q k || t) (covers-more qs p k) ∙ sym (or-assoc (has q k) (covers qs k) (has p k))
-
--- each of the signals has bits
-pub data Wide : List Placement → Type 0 where
-  none : Wide []
-  more : {q : Placement} {qs : List Placement} → 0 < bitsOf (q .number) → Wide qs → Wide (q ∷ qs)
 
 pub wide-more : {qs : List Placement} (p : Placement) → Wide qs → 0 < bitsOf (p .number) → Wide (qs ++ (p ∷ []))
 wide-more p none h = more h none

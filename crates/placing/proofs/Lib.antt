@@ -2,4 +2,5 @@ pub mod Placing
 pub mod Runs
 pub mod Covering
 pub mod Marks
+pub mod Filling
 pub mod Signals

@@ -1,31 +1,42 @@
--- A number whose mark is not set is none of those that set theirs. Assumes nothing.
-use mathlib.Core.Path.{_≡_, refl, sym, ap, _∙_, subst}
-use mathlib.Core.Bool.{Bool, true, false, _||_, or-true}
-use mathlib.Core.List.{List}
-use Prim.Native.Nat.{ℕ, _+_, _%_}
+-- A number whose mark is not filled is none of those that fill theirs. Assumes nothing.
+use mathlib.Core.Path.{_≡_, refl, sym, ap, _∙_}
+use mathlib.Core.Bool.{Bool, true, false, _||_, or-true, or-false, or-assoc}
+use mathlib.Core.List.{List, [], _∷_, _++_}
+use Prim.Native.Nat.{ℕ, _%_}
 use native.Mathlib.Omega.{arith}
-use lib.Arith.{lt-of-le-ne}
 use lib.Dec.{eqb}
-use lib.ListN.{take, getD}
-use borrow.Author.Tests.{eqb-true, eqb-false, eq-eqb}
+use borrow.Author.Tests.{eqb-true, eq-eqb}
 use Rattle.books.specs.Lines.{isIn}
-use Rattle.columns.proofs.Laws.{absent}
-use Rattle.masks.specs.Bit.{bit}
-use Rattle.placing.specs.Placing.{Marked}
+use Rattle.masks.specs.Bit.{width, bit}
+use Rattle.placing.specs.Filling.{marked, Marks}
 
-pub unmarked : (l : List ℕ) (marks i x : ℕ) → bit marks (x % 64) ≡ false → Marked l marks i → isIn x (take i l) ≡ false
-unmarked l marks i x e m =
-    absent x l i (λ j p q d.
-    let a : bit marks (x % 64) ≡ true = subst (λ (n : ℕ). bit marks (n % 64) ≡ true) d (m j p q) in
-    let z : _≡_ {A = ℕ} 0 1 = cc in
-    omega arith)
+pub marked-none : (j : ℕ) → marked [] j ≡ false
+unfolding marked
+marked-none j = refl
 
-pub marked-more : (l : List ℕ) (marks marks′ i x : ℕ) → x ≡ getD l i 0 → ((j : ℕ) → bit marks′ j ≡ bit marks j || eqb j (x % 64)) → Marked l marks i → Marked l marks′ (i + 1)
-marked-more l marks marks′ i x e w m j p q = w (getD l j 0 % 64) ∙ go (eqb j i) refl
+pub marked-more : (ns : List ℕ) (x j : ℕ) → marked (ns ++ (x ∷ [])) j ≡ marked ns j || eqb j (x % width)
+unfolding marked
+marked-more [] x j = or-false (eqb j (x % width))
+marked-more (n ∷ ns) x j =
+    ap (λ (t : Bool). eqb j (n % width) || t) (marked-more ns x j) ∙ sym (or-assoc (eqb j (n % width)) (marked ns j) (eqb j (x % width)))
+
+-- the mark of a number that stands there
+in-marked : (ns : List ℕ) (x : ℕ) → isIn x ns ≡ true → marked ns (x % width) ≡ true
+unfolding marked isIn
+in-marked [] x e = e
+in-marked (n ∷ ns) x e = go (eqb x n) refl (λ i. in-marked ns x i)
   where
-    go : (t : Bool) → eqb j i ≡ t → bit marks (getD l j 0 % 64) || eqb (getD l j 0 % 64) (x % 64) ≡ true
-    go true d =
-        let same : getD l j 0 % 64 ≡ x % 64 = ap (λ (n : ℕ). getD l n 0 % 64) (eqb-true j i d) ∙ ap (λ (n : ℕ). n % 64) (sym e) in
-        ap (λ (t : Bool). bit marks (getD l j 0 % 64) || t) (eq-eqb _ _ same) ∙ or-true (bit marks (getD l j 0 % 64))
-    go false d =
-        ap (λ (t : Bool). t || eqb (getD l j 0 % 64) (x % 64)) (m j (lt-of-le-ne (omega arith) (eqb-false j i d)) q)
+    go : (t : Bool) → eqb x n ≡ t → (isIn x ns ≡ true → marked ns (x % width) ≡ true) → eqb (x % width) (n % width) || marked ns (x % width) ≡ true
+    go true s later = ap (λ (t : Bool). t || marked ns (x % width)) (eq-eqb _ _ (ap (λ (k : ℕ). k % width) (eqb-true x n s)))
+    go false s later =
+        ap (λ (t : Bool). eqb (x % width) (n % width) || t) (later (ap (λ (t : Bool). t || isIn x ns) (sym s) ∙ e)) ∙ or-true (eqb (x % width) (n % width))
+
+pub unmarked : (ns : List ℕ) (marks x : ℕ) → Marks ns marks → bit marks (x % width) ≡ false → isIn x ns ≡ false
+unmarked ns marks x m e = go (isIn x ns) refl
+  where
+    go : (t : Bool) → isIn x ns ≡ t → isIn x ns ≡ false
+    go true i =
+        let set : bit marks (x % width) ≡ true = m (x % width) ∙ in-marked ns x i in
+        let z : _≡_ {A = ℕ} 0 1 = cc in
+        absurd (omega arith)
+    go false i = i

@@ -1,28 +1,31 @@
 -- One signal against its frame, and against those before it, one at a time. Assumes nothing.
 use mathlib.Core.Path.{_≡_, refl, ap}
-use mathlib.Core.Bool.{true, false, not, or-true, or-false}
+use mathlib.Core.Bool.{true, false, _||_, not, or-true, or-false}
 use mathlib.Core.List.{List, [], _∷_}
 use Prim.Native.Nat.{ℕ, suc, _+_, _≤_, _<_}
+use native.Mathlib.Nat.{pos-of-ne-zero}
 use native.Mathlib.Omega.{arith}
-use native.Mathlib.Numerals.{add-one}
 use lib.Dec.{eqb, leb, ltb}
-use lib.ListN.{length, drop, getD, drop-of-length-le}
-use lib.Seq.{drop-cons}
-use borrow.Author.Tests.{ne-eqb, lt-ltb, le-ltb, le-leb, lt-leb, leb-false, ltb-false}
+use lib.ListN.{length}
+use borrow.Author.Tests.{ne-eqb, eqb-false, lt-ltb, le-ltb, le-leb, lt-leb, leb-false, ltb-false}
 use Rattle.catalogue.specs.Find.{bitsOf}
 use Rattle.catalogue.proofs.Found.{few-bits}
 use Rattle.books.specs.Book.{Placement, numbers}
 use Rattle.books.specs.Fixed.{checksumNumber, checksumStart, counterNumber, counterStart}
-use Rattle.books.specs.Lines.{unknownOrOver, misplaced, meets, meetsEarlier, frameBits}
+use Rattle.books.specs.Lines.{unknownOrOver, misplaced, frameBits}
 use Rattle.books.specs.Words.{placed}
 use Rattle.books.proofs.Tests.{neither, both-false}
-use Rattle.placing.specs.Placing.{placement, standsAlone}
+use Rattle.placing.specs.Placing.{placement, standsAlone, Room}
 
 -- ---- by itself: past the frame's end, and the two that have a start of their own
 module _ (n s b : ℕ) (e : b ≡ bitsOf n) where
   pub past-end : 64 < s + b → misplaced (placement n s) ≡ true
   unfolding misplaced
   past-end h = rw (← e, lt-ltb _ _ h)
+
+  pub not-past : misplaced (placement n s) ≡ false → s + b ≤ 64
+  unfolding misplaced
+  not-past m = omega (arith, e, ltb-false frameBits (s + bitsOf n) (both-false (ltb frameBits (s + bitsOf n)) _ m .0))
 
   module _ (h : s + b ≤ 64) where
     pub sum-placed : n ≡ checksumNumber → misplaced (placement n s) ≡ not (eqb s checksumStart)
@@ -51,39 +54,25 @@ module _ (n s : ℕ) where
   unfolding unknownOrOver
   known e g = rw (ne-eqb _ _ e, lt-leb _ _ g)
 
--- what a signal that stands alone takes of a frame
-pub record Room (start bits : ℕ) : Type 0 where
-  pub from : start < 64
-  pub few : bits ≤ 32
-  pub to : start + bits ≤ 64
-
+-- a frame has room for a signal that stands alone
 pub alone-room : (n s b : ℕ) → b ≡ bitsOf n → standsAlone (placement n s) ≡ true → Room s b
-unfolding unknownOrOver misplaced
+unfolding unknownOrOver
 alone-room n s b e h =
     let p = placement n s in
     let a = neither (unknownOrOver p) (misplaced p) h in
     let u = both-false (eqb (bitsOf n) 0) (leb frameBits s) (a .0) in
-    let m = both-false (ltb frameBits (s + bitsOf n)) _ (a .1) in
-    record { from = leb-false _ _ (u .1); few = omega (arith, e, few-bits n); to = omega (arith, e, ltb-false frameBits (s + bitsOf n) (m .0)) }
+    record { from = leb-false _ _ (u .1); few = omega (arith, e, few-bits n); to = not-past n s b e (a .1) }
 
--- ---- against those before it
+-- and it has bits
+pub has-bits : (p : Placement) → standsAlone p ≡ true → 0 < bitsOf (p .number)
+unfolding unknownOrOver
+has-bits p h =
+    let n = neither (eqb (bitsOf (p .number)) 0 || leb frameBits (p .start)) (misplaced p) h in
+    pos-of-ne-zero (eqb-false _ _ (both-false (eqb (bitsOf (p .number)) 0) (leb frameBits (p .start)) (n .0) .0))
+
+-- ---- those before it
 pub placed-numbers : (ns ss : List ℕ) → length ss ≡ length ns → numbers (placed ns ss) ≡ ns
 unfolding placed
 placed-numbers [] ss e = refl
 placed-numbers (n ∷ ns) [] e = let z : 0 ≡ suc (length ns) = e in absurd (omega arith)
 placed-numbers (n ∷ ns) (s ∷ ss) e = ap (_∷_ n) (placed-numbers ns ss (omega (arith, e)))
-
-module _ (ns ss : List ℕ) (i : ℕ) (p : Placement) where
-  pub meets-none : length ns ≤ i → meetsEarlier (placed (drop i ns) (drop i ss)) p ≡ false
-  unfolding placed meetsEarlier
-  meets-none h = rw (drop-of-length-le ns h)
-
-  module _ (h : i < length ns) (e : length ss ≡ length ns) where
-    pub meets-here : meets p (placement (getD ns i 0) (getD ss i 0)) ≡ true → meetsEarlier (placed (drop i ns) (drop i ss)) p ≡ true
-    unfolding placed meetsEarlier
-    meets-here m = let g : i < length ss = omega arith in rw (drop-cons ns i 0 h, drop-cons ss i 0 g, m)
-
-    pub meets-later : meets p (placement (getD ns i 0) (getD ss i 0)) ≡ false
-        → meetsEarlier (placed (drop i ns) (drop i ss)) p ≡ meetsEarlier (placed (drop (i + 1) ns) (drop (i + 1) ss)) p
-    unfolding placed meetsEarlier
-    meets-later m = let g : i < length ss = omega arith in rw (drop-cons ns i 0 h, drop-cons ss i 0 g, m, add-one i)

@@ -2,26 +2,23 @@
 use mathlib.Core.Path.{_≡_, refl, sym, ap, _∙_, subst}
 use mathlib.Core.Bool.{Bool, true, false, _&&_, _||_, not}
 use mathlib.Core.List.{List, [], _∷_, _++_}
-use Prim.Native.Nat.{ℕ, suc, _+_, _%_, _≤_, _<_}
-use native.Mathlib.Nat.{pos-of-ne-zero}
+use Prim.Native.Nat.{ℕ, suc, _+_, _≤_, _<_}
 use native.Mathlib.Omega.{arith}
 use native.Mathlib.Numerals.{add-one}
-use lib.Dec.{eqb, leb}
 use lib.ListN.{length, take, drop, getD, drop-of-length-le}
 use lib.Seq.{drop-cons, take-suc, length-take-le}
-use borrow.Author.Tests.{eqb-false, not-true, not-false}
 use Rattle.catalogue.specs.Find.{bitsOf}
 use Rattle.books.specs.Book.{Placement, numbers}
-use Rattle.books.specs.Lines.{isIn, unknownOrOver, misplaced, meetsEarlier, frameBits}
+use Rattle.books.specs.Lines.{isIn, unknownOrOver, misplaced, meetsEarlier}
 use Rattle.books.specs.Good.{goodAfter}
 use Rattle.books.specs.Words.{placed}
-use Rattle.books.proofs.Tests.{neither, both-false}
+use Rattle.books.proofs.Tests.{neither}
 use Rattle.masks.specs.Bit.{bit, meeting}
-use Rattle.masks.proofs.Bits.{bit-zero}
-use Rattle.placing.specs.Placing.{placement, standsAlone, inRun, Marked}
-use Rattle.placing.proofs.Placing.{placed-numbers}
-use Rattle.placing.proofs.Covering.{has, covers, covers-none, covers-more, Wide, none, wide-more, same-meeting}
-use Rattle.placing.proofs.Marks.{marked-more}
+use Rattle.placing.specs.declared.Filled.{Filled}
+use Rattle.placing.specs.Placing.{placement, standsAlone, inRun}
+use Rattle.placing.specs.Filling.{Marks, Fills, FilledMore}
+use Rattle.placing.proofs.Placing.{placed-numbers, has-bits}
+use Rattle.placing.proofs.Filling.{fills-none, meets-same, fills-more}
 
 -- the signals before `at`, and those from it on
 abbrev pub earlier : List ℕ → List ℕ → ℕ → List Placement
@@ -77,31 +74,17 @@ module _ (others : List Placement) (p : Placement) where
   well : standsAlone p ≡ true → isIn (p .number) (numbers others) ≡ false → meetsEarlier others p ≡ false → fits others p ≡ true
   well = all-pass (unknownOrOver p) (isIn (p .number) (numbers others)) (misplaced p) (meetsEarlier others p)
 
--- such a signal has bits
-has-bits : (p : Placement) → standsAlone p ≡ true → 0 < bitsOf (p .number)
-unfolding unknownOrOver
-has-bits p h =
-    let n = neither (eqb (bitsOf (p .number)) 0 || leb frameBits (p .start)) (misplaced p) h in
-    pos-of-ne-zero (eqb-false _ _ (both-false (eqb (bitsOf (p .number)) 0) (leb frameBits (p .start)) (n .0) .0))
-
 -- ---- the loop
 
-pub record Passed (ns ss : List ℕ) (taken marks at : ℕ) : Type 0 where
+pub record Passed (ns ss : List ℕ) (filled : Filled) (at : ℕ) : Type 0 where
   pub same : goodAfter (placed (take at ns) (take at ss)) (placed (drop at ns) (drop at ss)) ≡ goodAfter [] (placed ns ss)
-  pub covered : (k : ℕ) → bit taken k ≡ covers (placed (take at ns) (take at ss)) k
-  pub each-wide : Wide (placed (take at ns) (take at ss))
-  pub marked : Marked ns marks at
+  pub fills : Fills (placed (take at ns) (take at ss)) filled
 
-pub begin : (ns ss : List ℕ) → Passed ns ss 0 0 0
+pub begin : (ns ss : List ℕ) (f : Filled) → f .bits ≡ 0 → f .marks ≡ 0 → Passed ns ss f 0
 unfolding placed
-begin ns ss = record {
-  same = refl;
-  covered = λ k. bit-zero k ∙ sym (covers-none k);
-  each-wide = none;
-  marked = λ j p q. absurd (omega arith);
-}
+begin ns ss f b m = record { same = refl; fills = fills-none f b m }
 
-module _ (ns ss : List ℕ) (taken marks at : ℕ) (e : length ss ≡ length ns) (w : Passed ns ss taken marks at) where
+module _ (ns ss : List ℕ) (filled : Filled) (at : ℕ) (e : length ss ≡ length ns) (w : Passed ns ss filled at) where
   pub end : length ns ≤ at → true ≡ goodAfter [] (placed ns ss)
   unfolding goodAfter placed
   end h = sym (ap (λ (l : List ℕ). goodAfter (earlier ns ss at) (placed l (drop at ss))) (drop-of-length-le ns h)) ∙ w .same
@@ -124,39 +107,39 @@ module _ (ns ss : List ℕ) (taken marks at : ℕ) (e : length ss ≡ length ns)
     long : length (take at ss) ≡ length (take at ns)
     long = length-take-le at ss (omega arith) ∙ sym (length-take-le at ns (omega arith))
 
+    listed : numbers (earlier ns ss at) ≡ take at ns
+    listed = placed-numbers (take at ns) (take at ss) long
+
     among : isIn (getD ns at 0) (numbers (earlier ns ss at)) ≡ isIn (getD ns at 0) (take at ns)
-    among = ap (isIn (getD ns at 0)) (placed-numbers (take at ns) (take at ss) long)
+    among = ap (isIn (getD ns at 0)) listed
+
+    pub marks-before : Marks (take at ns) (filled .marks)
+    marks-before = subst (λ (l : List ℕ). Marks l (filled .marks)) listed (w .fills .marks)
 
     pub refuse-alone : standsAlone (nth ns ss at) ≡ false → false ≡ goodAfter [] (placed ns ss)
     refuse-alone f = fail (not-alone (earlier ns ss at) (nth ns ss at) f)
 
     module _ (alone : standsAlone (nth ns ss at) ≡ true) (b run : ℕ) (eb : b ≡ bitsOf (getD ns at 0)) (inside : (k : ℕ) → bit run k ≡ inRun (getD ss at 0) b k) where
-      bits : (k : ℕ) → bit run k ≡ has (nth ns ss at) k
-      bits k = inside k ∙ ap (λ (n : ℕ). inRun (getD ss at 0) n k) eb
+      same-bits : meeting (filled .bits) run ≡ meetsEarlier (earlier ns ss at) (nth ns ss at)
+      same-bits = meets-same (earlier ns ss at) (nth ns ss at) filled (w .fills) (has-bits (nth ns ss at) alone) b eb run inside
 
-      meets-same : meeting taken run ≡ meetsEarlier (earlier ns ss at) (nth ns ss at)
-      meets-same = same-meeting (earlier ns ss at) (nth ns ss at) taken run (w .covered) bits (w .each-wide) (has-bits (nth ns ss at) alone)
+      pub refuse-meeting : meeting (filled .bits) run ≡ true → false ≡ goodAfter [] (placed ns ss)
+      refuse-meeting f = fail (not-apart (earlier ns ss at) (nth ns ss at) (sym same-bits ∙ f))
 
-      pub refuse-meeting : meeting taken run ≡ true → false ≡ goodAfter [] (placed ns ss)
-      refuse-meeting f = fail (not-apart (earlier ns ss at) (nth ns ss at) (sym meets-same ∙ f))
+      pub refuse-again : isIn (getD ns at 0) (take at ns) ≡ true → false ≡ goodAfter [] (placed ns ss)
+      refuse-again f = fail (not-new (earlier ns ss at) (nth ns ss at) (among ∙ f))
 
-      pub refuse-again : not (isIn (getD ns at 0) (take at ns)) ≡ false → false ≡ goodAfter [] (placed ns ss)
-      refuse-again f = fail (not-new (earlier ns ss at) (nth ns ss at) (among ∙ not-false _ f))
-
-      pub next : meeting taken run ≡ false → not (isIn (getD ns at 0) (take at ns)) ≡ true → (taken′ marks′ : ℕ)
-          → ((k : ℕ) → bit taken′ k ≡ bit taken k || bit run k) → ((j : ℕ) → bit marks′ j ≡ bit marks j || eqb j (getD ns at 0 % 64))
-          → Passed ns ss taken′ marks′ (at + 1)
+      pub next : meeting (filled .bits) run ≡ false → isIn (getD ns at 0) (take at ns) ≡ false → (f : Filled)
+          → FilledMore filled (getD ns at 0) (getD ss at 0) b f → Passed ns ss f (at + 1)
       unfolding rest
-      next f g taken′ marks′ t m =
-          let passes = well (earlier ns ss at) (nth ns ss at) alone (among ∙ not-true _ g) (sym meets-same ∙ f) in
+      next m i f more =
+          let passes = well (earlier ns ss at) (nth ns ss at) alone (among ∙ i) (sym same-bits ∙ m) in
           let gs : at < length ss = omega arith in
           let longer : earlier ns ss (at + 1) ≡ earlier ns ss at ++ (nth ns ss at ∷ []) =
           rw (add-one at, take-suc ns at 0 h, take-suc ss at 0 gs) (placed-more (take at ns) (take at ss) (getD ns at 0) (getD ss at 0) long)
           in
           record {
             same = ap (λ (l : List Placement). goodAfter l (later ns ss (at + 1))) longer ∙ sym (ap (λ (t : Bool). t && rest) passes) ∙ step;
-            covered = λ k. t k ∙ ap (λ (t : Bool). t || bit run k) (w .covered k) ∙ ap (λ (t : Bool). covers (earlier ns ss at) k || t) (bits k) ∙
-                sym (ap (λ (l : List Placement). covers l k) longer ∙ covers-more (earlier ns ss at) (nth ns ss at) k);
-            each-wide = subst Wide (sym longer) (wide-more (nth ns ss at) (w .each-wide) (has-bits (nth ns ss at) alone));
-            marked = marked-more ns marks marks′ at (getD ns at 0) refl m (w .marked);
+            fills = subst (λ (l : List Placement). Fills l f) (sym longer)
+                (fills-more (earlier ns ss at) (nth ns ss at) filled (w .fills) (has-bits (nth ns ss at) alone) b eb f more);
           }

@@ -1,17 +1,16 @@
 // The signals of one message: whether one stands where it may, and whether all of them do.
 ghost use mathlib.Core.Path.{_≡_};
-ghost use mathlib.Core.Bool.{not};
 ghost use mathlib.Core.List.{[]};
 ghost use Prim.Native.Nat.{ℕ, _+_, _≤_, _<_};
-ghost use lib.ListN.{length, take};
+ghost use lib.ListN.{length};
 ghost use Rattle.catalogue.specs.Find.{bitsOf};
-ghost use Rattle.books.specs.Lines.{isIn, misplaced, meets, meetsEarlier};
+ghost use Rattle.books.specs.Lines.{isIn, misplaced};
 ghost use Rattle.books.specs.Good.{goodAfter};
 ghost use Rattle.books.specs.Words.{placed};
 ghost use Rattle.masks.specs.Bit.{bit};
-ghost use Rattle.placing.specs.Placing.{placement, standsAlone, inRun, Marked};
+ghost use Rattle.placing.specs.Placing.{placement, standsAlone, Room, inRun};
+ghost use Rattle.placing.specs.Filling.{Marks, FilledMore};
 ghost use Rattle.record.specs.Limits.{startLimit};
-use columns::wide;
 use record::START_LIMIT;
 
 const FRAME_BITS: u32 = 64;
@@ -42,32 +41,6 @@ pub fn is_misplaced(number: u32, start: u32, bits: u32) -> bool
     false
 }
 
-// Whether the bits of two signals meet, where the first has `bits`.
-fn meet(number: u32, start: u32, bits: u32, other_number: u32, other_start: u32) -> bool
-    requires { ⌜ bits ≡ bitsOf number ⌝ }
-    ensures { λ r. ⌜ r ≡ meets (placement number start) (placement «other_number» «other_start») ⌝ }
-{
-    let other_bits = catalogue::bits_of(other_number);
-    let from = wide(start);
-    let other_from = wide(other_start);
-    (from < other_from + wide(other_bits)) & (other_from < from + wide(bits))
-}
-
-// Whether a signal's bits meet those of one of the signals before it.
-pub fn meets_earlier(numbers: &[u32], starts: &[u32], number: u32, start: u32, bits: u32) -> bool
-    requires { ⌜ (length (now starts) ≡ length (now numbers)) × (bits ≡ bitsOf number) ⌝ }
-    ensures { λ r. ⌜ r ≡ meetsEarlier (placed (now (numbers .entry)) (now (starts .entry))) (placement number start) ⌝ }
-{
-    let mut at: usize = 0;
-    while at < numbers.len() {
-        if meet(number, start, bits, numbers[at], starts[at]) {
-            return true;
-        }
-        at += 1;
-    }
-    false
-}
-
 // Whether a number with a start is a signal that stands where it may, by itself.
 fn stands_alone(number: u32, start: u32, bits: u32) -> bool
     requires { ⌜ bits ≡ bitsOf number ⌝ }
@@ -83,22 +56,47 @@ fn stands_alone(number: u32, start: u32, bits: u32) -> bool
 }
 
 // A mask of the frame bits of a signal.
-fn run(start: u32, bits: u32) -> u64
-    requires { ⌜ (start < 64) × (bits ≤ 32) × (start + bits ≤ 64) ⌝ }
+pub fn run(start: u32, bits: u32) -> u64
+    requires { ⌜ Room start bits ⌝ }
     ensures { λ r. ⌜ ((k : ℕ) → bit r k ≡ inRun start bits k) ⌝ }
 {
     ((1u64 << bits) - 1) << start
 }
 
-// Whether a number stands nowhere before `at`: the numbers there are looked at only where one of them has the same mark.
-fn is_new(numbers: &[u32], at: usize, number: u32, marks: u64) -> bool
-    requires { ⌜ (at ≤ length (now numbers)) × Marked (now numbers) marks at ⌝ }
-    ensures { λ r. ⌜ r ≡ not (isIn number (take at (now (numbers .entry)))) ⌝ }
+// What the signals of a message fill: a mask of their frame bits, and one of their numbers' marks.
+pub struct Filled {
+    pub bits: u64,
+    pub marks: u64,
+}
+
+// What no signal fills.
+pub fn nothing() -> Filled
+    ensures { λ r. ⌜ (r .bits ≡ 0) × (r .marks ≡ 0) ⌝ }
 {
-    if masks::has(marks, number % 64) {
-        return !columns::holds(&numbers[..at], number);
+    Filled { bits: 0, marks: 0 }
+}
+
+// What they fill with one signal more.
+pub fn filled_with(filled: Filled, number: u32, start: u32, bits: u32) -> Filled
+    requires { ⌜ Room start bits ⌝ }
+    ensures { λ r. ⌜ FilledMore filled number start bits r ⌝ }
+{
+    let bits_here = run(start, bits);
+    Filled {
+        bits: masks::both(filled.bits, bits_here),
+        marks: masks::with(filled.marks, number % 64),
     }
-    true
+}
+
+// Whether a number stands among those whose marks are filled: they are looked at only where one of them has the same mark.
+pub fn is_repeated(numbers: &[u32], filled: Filled, number: u32) -> bool
+    requires { ⌜ Marks (now numbers) (filled .marks) ⌝ }
+    ensures { λ r. ⌜ r ≡ isIn number (now (numbers .entry)) ⌝ }
+{
+    if masks::has(filled.marks, number % 64) {
+        return columns::holds(numbers, number);
+    }
+    false
 }
 
 // Whether all signals of a message stand where they may: each by itself, none twice, and no bits that meet.
@@ -106,8 +104,7 @@ pub fn well_placed(numbers: &[u32], starts: &[u32]) -> bool
     requires { ⌜ length (now starts) ≡ length (now numbers) ⌝ }
     ensures { λ r. ⌜ r ≡ goodAfter [] (placed (now (numbers .entry)) (now (starts .entry))) ⌝ }
 {
-    let mut taken: u64 = 0;
-    let mut marks: u64 = 0;
+    let mut filled = nothing();
     let mut at: usize = 0;
     while at < numbers.len() {
         let number = numbers[at];
@@ -116,15 +113,13 @@ pub fn well_placed(numbers: &[u32], starts: &[u32]) -> bool
         if !stands_alone(number, start, bits) {
             return false;
         }
-        let bits_here = run(start, bits);
-        if masks::meet(taken, bits_here) {
+        if masks::meet(filled.bits, run(start, bits)) {
             return false;
         }
-        if !is_new(numbers, at, number, marks) {
+        if is_repeated(&numbers[..at], filled, number) {
             return false;
         }
-        taken = masks::both(taken, bits_here);
-        marks = masks::with(marks, number % 64);
+        filled = filled_with(filled, number, start, bits);
         at += 1;
     }
     true

@@ -9,17 +9,12 @@ use lib.Seq.{take-at, drop-at, getD-at}
 use borrow.Author.Tests.{le-ltb}
 use Rattle.books.specs.Book.{Placement, Message, Book, identifiers, numbers, allPlacements, lastPlacements}
 use Rattle.books.specs.Lines.{messageLimit, signalLimit}
-use Rattle.books.specs.Words.{column, starts, endsAfter, endColumn, numberColumn, startColumn, messageColumns, routeColumns, wordsOf, placed, Stands}
+use Rattle.books.specs.Words.{column, endsAfter, endColumn, numberColumn, messageColumns, routeColumns, wordsOf, Stands}
 use Rattle.books.proofs.Ends.{map-append, last-placements, last}
-use Rattle.books.proofs.Columns.{take-column, length-ends, columns-long, ids-stand, ends-stand, numbers-stand, starts-stand}
-use Rattle.record.specs.Columns.{messageWords, messageCountOf, signalCountOf, routeCountOf, idsOf, endsOf, numbersOf, startsOf}
+use Rattle.books.proofs.Columns.{take-column, length-ends, columns-long, ids-stand, ends-stand, numbers-stand}
+use Rattle.record.specs.Columns.{messageWords, messageCountOf, signalCountOf, routeCountOf, idsOf, endsOf, numbersOf}
 use Rattle.tables.specs.Adding.{Holds, lastBegin}
 use Rattle.tables.proofs.Longer.{all-last, ends-last}
-
-pub placed-back : (ps : List Placement) → placed (numbers ps) (starts ps) ≡ ps
-unfolding placed
-placed-back [] = refl
-placed-back (p ∷ ps) = ap (_∷_ p) (placed-back ps)
 
 -- what stands past the first part of a column's entries
 rest-of-column {ℓ} : {A : Type ℓ} (k n e : ℕ) (f : A → ℕ) (l r : List A) → n ≡ length l → e ≡ length (l ++ r) → take (e - n) (drop n (column k (map f (l ++ r)))) ≡ map f r
@@ -62,26 +57,21 @@ begin-last (x ∷ xs) m =
     let l = last x xs in
     subst (λ (ms : List Message). lastBegin (length (ms ++ (m ∷ []))) (endColumn (ms ++ (m ∷ []))) ≡ length (allPlacements ms)) (sym (l .whole)) (begin-next (l .before) (l .last) m)
 
--- the last message's part of a column that f makes
+-- the last message's part of the numbers
 record Part (ms : List Message) : Type 0 where
   first : lastBegin (length ms) (endColumn ms) ≤ length (allPlacements ms)
   numbers-part : take (length (allPlacements ms) - lastBegin (length ms) (endColumn ms)) (drop (lastBegin (length ms) (endColumn ms)) (numberColumn ms)) ≡ numbers (lastPlacements ms)
-  starts-part : take (length (allPlacements ms) - lastBegin (length ms) (endColumn ms)) (drop (lastBegin (length ms) (endColumn ms)) (startColumn ms)) ≡ starts (lastPlacements ms)
 
 part-last : (before : List Message) (m : Message) → Part (before ++ (m ∷ []))
 part-last before m =
     let ms = before ++ (m ∷ []) in
     let b = begin-last before m in
     let all = all-last before m in
-    let l = last-placements before m in
-    let part : (f : Placement → ℕ) → take (length (allPlacements ms) - lastBegin (length ms) (endColumn ms)) (drop (lastBegin (length ms) (endColumn ms)) (column signalLimit (map f (allPlacements ms)))) ≡ map f (lastPlacements ms) =
-    λ f. rw l (ap (λ (ps : List Placement). take (length (allPlacements ms) - lastBegin (length ms) (endColumn ms)) (drop (lastBegin (length ms) (endColumn ms)) (column signalLimit (map f ps)))) all ∙
-    rest-of-column signalLimit (lastBegin (length ms) (endColumn ms)) (length (allPlacements ms)) f (allPlacements before) (m .placements) b (ap length all))
-    in
     record {
       first = omega (arith, b, ap length all, length-append (allPlacements before) (m .placements));
-      numbers-part = part (λ (p : Placement). p .number);
-      starts-part = part (λ (p : Placement). p .start);
+      numbers-part = rw (last-placements before m)
+          (ap (λ (ps : List Placement). take (length (allPlacements ms) - lastBegin (length ms) (endColumn ms)) (drop (lastBegin (length ms) (endColumn ms)) (column signalLimit (numbers ps)))) all ∙
+          rest-of-column signalLimit (lastBegin (length ms) (endColumn ms)) (length (allPlacements ms)) (λ (p : Placement). p .number) (allPlacements before) (m .placements) b (ap length all));
     }
 
 part : (ms : List Message) → 0 < length ms → Part ms
@@ -128,15 +118,7 @@ module _ (w : List ℕ) (b : Book) (h : Holds w b) where
     pub last-in : f ≤ s
     last-in = rw (begins, es ∙ signals-held) (part (b .messages) some-held .first)
 
-    pub last-held : placed (take (s - f) (drop f (numbersOf w))) (take (s - f) (drop f (startsOf w))) ≡ lastPlacements (b .messages)
+    pub last-held : numbers (lastPlacements (b .messages)) ≡ take (s - f) (drop f (numbersOf w))
     last-held =
-        let p = part (b .messages) some-held in
-        rw (
-          begins,
-          es ∙ signals-held,
-          numbers-stand w (b .messages) (h .within .messages) (h .within .signals) stands,
-          starts-stand w (b .messages) (h .within .messages) (h .within .signals) stands,
-          p .numbers-part,
-          p .starts-part,
-        )
-        (placed-back (lastPlacements (b .messages)))
+        rw (begins, es ∙ signals-held, numbers-stand w (b .messages) (h .within .messages) (h .within .signals) stands)
+        (sym (part (b .messages) some-held .numbers-part))

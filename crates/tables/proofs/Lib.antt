@@ -4,6 +4,7 @@ pub mod Stored
 pub mod Held
 pub mod Refused
 pub mod Room
+pub mod Kept
 pub mod Parted
 pub mod Tested
 pub mod Once

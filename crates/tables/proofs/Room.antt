@@ -1,6 +1,6 @@
 -- A book stays within the limits with each line that is taken. Assumes nothing.
 use mathlib.Core.Path.{_≡_, sym, ap, _∙_, subst}
-use mathlib.Core.Bool.{_||_}
+use mathlib.Core.Bool.{true, _||_, not}
 use mathlib.Core.List.{List, [], _∷_, _++_}
 use Prim.Native.Nat.{ℕ, _+_, _<_}
 use native.Mathlib.Nat.{pos-of-ne-zero}
@@ -10,8 +10,9 @@ use lib.ListN.{length, length-append}
 use borrow.Author.Tests.{leb-false, eqb-false}
 use Rattle.books.specs.Book.{Placement, Message, Route, Book, noBook, allPlacements, fresh, inLast, withPlacement, lastPlacements, numbers, identifiers}
 use Rattle.books.specs.Lines.{isIn, unknownOrOver, misplaced, meetsEarlier, messageRefusal, signalRefusal, routeRefusal, messageLimit, signalLimit, routeLimit, identifierLimit, busLimit}
-use Rattle.books.proofs.Tests.{not-refused}
+use Rattle.books.proofs.Tests.{not-refused, nor}
 use Rattle.books.proofs.Ends.{in-last, last}
+use Rattle.placing.specs.Placing.{standsAlone}
 use Rattle.tables.specs.Adding.{Within, withMessage, withSignal, withRoute}
 use Rattle.tables.proofs.Longer.{placements-stay, placements-more}
 
@@ -23,12 +24,13 @@ message-room ms i e =
     let b = not-refused (isIn i (identifiers ms)) 4 _ (a .1) in
     leb-false _ _ (not-refused (leb messageLimit (length ms)) 8 0 (b .1) .0)
 
--- an `S` line that is taken has a message above it, and room
-pub record SignalRoom (ms : List Message) : Type 0 where
+-- an `S` line that is taken has a message above it, a signal that stands where it may by itself, and room
+pub record SignalRoom (ms : List Message) (p : Placement) : Type 0 where
   pub some : 0 < length ms
+  pub alone : standsAlone p ≡ true
   pub room : length (allPlacements ms) < signalLimit
 
-pub signal-room : (ms : List Message) (p : Placement) → signalRefusal ms p ≡ 0 → SignalRoom ms
+pub signal-room : (ms : List Message) (p : Placement) → signalRefusal ms p ≡ 0 → SignalRoom ms p
 unfolding signalRefusal
 signal-room ms p e =
     let a = not-refused (unknownOrOver p) 2 _ e in
@@ -38,7 +40,7 @@ signal-room ms p e =
     let f = not-refused (meetsEarlier (lastPlacements ms) p) 7 _ (d .1) in
     let g = not-refused (leb signalLimit (length (allPlacements ms))) 8 0 (f .1) in
     let n = eqb-false (length ms) 0 (b .0) in
-    record { some = pos-of-ne-zero n; room = leb-false _ _ (g .0) }
+    record { some = pos-of-ne-zero n; alone = ap not (nor (unknownOrOver p) (misplaced p) (a .0) (d .0)); room = leb-false _ _ (g .0) }
 
 pub route-room : (rs : List Route) (a i b j : ℕ) → routeRefusal rs a i b j ≡ 0 → length rs < routeLimit
 unfolding routeRefusal

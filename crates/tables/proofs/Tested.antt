@@ -19,7 +19,6 @@ use Rattle.zeros.specs.Zeros.{zeros}
 use Rattle.zeros.proofs.Laws.{zeros-are, are-zeros}
 use Rattle.placing.proofs.Placing.{placed-numbers}
 use Rattle.tables.specs.Testing.{parted}
-use Rattle.tables.proofs.Held.{placed-back}
 use Rattle.tables.proofs.Parted.{shown-ids, shown-ends, shown-all, shown-good, good-parted, good-distinct, length-placed}
 
 -- ---- a column whose rest is 0
@@ -40,6 +39,11 @@ placed-starts [] [] e = refl
 placed-starts [] (y ∷ ss) e = absurd (omega (arith, e))
 placed-starts (x ∷ ns) [] e = absurd (omega (arith, e))
 placed-starts (x ∷ ns) (y ∷ ss) e = ap (_∷_ y) (placed-starts ns ss (omega (arith, e)))
+
+placed-back : (ps : List Placement) → placed (numbers ps) (starts ps) ≡ ps
+unfolding placed
+placed-back [] = refl
+placed-back (p ∷ ps) = ap (_∷_ p) (placed-back ps)
 
 -- the four columns are one after the other
 columns-whole : (w : List ℕ) → messageColumnsOf w ≡ idsOf w ++ (endsOf w ++ (numbersOf w ++ startsOf w))

@@ -5,13 +5,16 @@ use mathlib.Core.Bool.{cond}
 use lib.Dec.{leb, ltb}
 use mathlib.Core.List.{List, [], _∷_, _++_}
 use lib.ListN.{length, getD}
-use Rattle.books.specs.Book.{Placement, Route, Book, numbers, allPlacements, fresh, inLast}
-use Rattle.books.specs.Lines.{isIn, misplaced, meetsEarlier, messageLimit, signalLimit, routeLimit}
+use Rattle.books.specs.Book.{Placement, Route, Book, numbers, allPlacements, fresh, inLast, lastPlacements}
+use Rattle.books.specs.Lines.{isIn, misplaced, meetsEarlier, signalRefusal, messageLimit, signalLimit, routeLimit}
 use Rattle.books.specs.Words.{wordsOf}
 pub use Rattle.placing.specs.Placing.{placement}
+use Rattle.placing.specs.declared.Filled.{Filled}
+use Rattle.placing.specs.Filling.{Fills}
 use Rattle.record.specs.Place.{placeKey}
 use Rattle.tables.specs.declared.Added.{Added}
 use Rattle.tables.specs.declared.Added.the-variants as added
+use Rattle.tables.specs.declared.Placed.{Placed}
 
 -- the refusal number of each answer, 0 where the line is taken
 abbrev pub refusalOf : Added → ℕ
@@ -39,6 +42,15 @@ pub record Holds (w : List ℕ) (b : Book) : Type 0 where
 abbrev pub OfBook : List ℕ → Type 0
 OfBook w = (b : Book) × Holds w b
 
+-- the words are those of the book, and so much is filled by the signals of its last message
+pub record Kept (w : List ℕ) (f : Filled) (b : Book) : Type 0 where
+  pub holds : Holds w b
+  pub fills : Fills (lastPlacements (b .messages)) f
+
+-- the same of a book
+abbrev pub OfKept : List ℕ → Filled → Type 0
+OfKept w f = (b : Book) × Kept w f b
+
 -- the book with an `M`, an `S`, an `R` line more
 abbrev pub withMessage : Book → ℕ → Book
 withMessage b i = record { messages = b .messages ++ (fresh i ∷ []); routes = b .routes }
@@ -62,6 +74,16 @@ unless (suc refusal) old new = old
 pub record Judged (refusal : ℕ) (old new : Book) (r : Added) (w : List ℕ) : Type 0 where
   pub answer : refusalOf r ≡ refusal
   pub words : w ≡ wordsOf (unless refusal old new)
+
+-- so with an `S` line, and it is told what the signals of the last message fill then
+pub record SignalJudged (b : Book) (p : Placement) (r : Placed) (w : List ℕ) : Type 0 where
+  pub judged : Judged (signalRefusal (b .messages) p) b (withSignal b p) (r .added) w
+  pub fills : Fills (lastPlacements (unless (signalRefusal (b .messages) p) b (withSignal b p) .messages)) (r .filled)
+
+-- the signals before one in its message: the column has their numbers, and so much is filled by them
+pub record Earlier (column : List ℕ) (f : Filled) (ps : List Placement) : Type 0 where
+  pub listed : numbers ps ≡ column
+  pub fills : Fills ps f
 
 -- what refuses an `S` line that fits a frame, after the placements before it in its message, where the book has so many
 unfoldable pub afterRefusal : List Placement → ℕ → Placement → ℕ

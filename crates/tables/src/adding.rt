@@ -1,9 +1,9 @@
 // One line more at the end of a book: the words are then those of the book with the line, or stay where the line is refused.
-ghost use mathlib.Core.Path.{_≡_};
 ghost use Rattle.books.specs.Book.{Book};
-ghost use Rattle.books.specs.Lines.{messageRefusal, signalRefusal, routeRefusal};
-ghost use Rattle.tables.specs.Adding.{OfBook, Holds, Judged, withMessage, withSignal, withRoute, placement, route};
+ghost use Rattle.books.specs.Lines.{messageRefusal, routeRefusal};
+ghost use Rattle.tables.specs.Adding.{OfBook, Holds, OfKept, Kept, Judged, SignalJudged, withMessage, withRoute, placement, route};
 use crate::Added;
+use crate::Placed;
 use crate::judging::has_message;
 use crate::judging::judge_signal;
 use crate::judging::over_limit;
@@ -11,6 +11,8 @@ use crate::storing::put_message;
 use crate::storing::put_route;
 use crate::storing::put_signal;
 use columns::wide;
+use placing::Filled;
+use placing::filled_with;
 use record::BOOK_WORDS;
 use record::IDENTIFIER_LIMIT;
 use record::MESSAGES;
@@ -36,18 +38,23 @@ pub fn add_message(book: &mut [u32; BOOK_WORDS], identifier: u32) -> Added
     Added::Taken
 }
 
-// An `S` line: it belongs to the last message.
-pub fn add_signal(book: &mut [u32; BOOK_WORDS], number: u32, start: u32) -> Added
-    requires { ⌜ OfBook (now book) ⌝ }
-    ensures { λ r. ⌜ ((b : Book) → Holds (now (book .entry)) b → Judged (signalRefusal (b .messages) (placement number start)) b (withSignal b (placement number start)) r (now (book .exit))) ⌝ }
+// An `S` line: it belongs to the last message, whose signals have filled so much.
+pub fn add_signal(book: &mut [u32; BOOK_WORDS], filled: Filled, number: u32, start: u32) -> Placed
+    requires { ⌜ OfKept (now book) filled ⌝ }
+    ensures { λ r. ⌜ ((b : Book) → Kept (now (book .entry)) filled b → SignalJudged b (placement number start) r (now (book .exit))) ⌝ }
 {
-    let judged = judge_signal(&*book, number, start);
-    if let Added::Taken = judged {
+    let bits = catalogue::bits_of(number);
+    let added = judge_signal(&*book, filled, number, start, bits);
+    if let Added::Taken = added {
         let messages = record::message_count(&*book);
         let signals = record::signal_count(&*book);
         put_signal(book, messages, signals, number, start);
+        return Placed {
+            added,
+            filled: filled_with(filled, number, start, bits),
+        };
     }
-    judged
+    Placed { added, filled }
 }
 
 // An `R` line: from place, to place.

@@ -1,19 +1,21 @@
 // Whether a line may be added, by what the book holds already.
 ghost use mathlib.Core.Path.{_≡_};
 ghost use mathlib.Core.Bool.{_||_};
+ghost use mathlib.Core.List.{List};
 ghost use Prim.Native.Nat.{_≤_, _<_};
 ghost use lib.Dec.{leb};
-ghost use lib.ListN.{length, take};
+ghost use lib.ListN.{take};
 ghost use Rattle.catalogue.specs.Find.{bitsOf};
-ghost use Rattle.books.specs.Book.{Book};
+ghost use Rattle.books.specs.Book.{Placement, Book};
 ghost use Rattle.books.specs.Lines.{isIn, signalRefusal, busLimit, identifierLimit};
-ghost use Rattle.books.specs.Words.{placed};
 ghost use Rattle.record.specs.Columns.{idsOf, endsOf};
-ghost use Rattle.tables.specs.Adding.{OfBook, Holds, refusalOf, placement, afterRefusal, lastBegin};
+ghost use Rattle.tables.specs.Adding.{OfKept, Kept, Earlier, refusalOf, placement, afterRefusal, lastBegin};
 use crate::Added;
 use columns::wide;
+use placing::Filled;
 use placing::is_misplaced;
-use placing::meets_earlier;
+use placing::is_repeated;
+use placing::run;
 use record::BOOK_WORDS;
 use record::BUSES;
 use record::IDENTIFIER_LIMIT;
@@ -50,25 +52,25 @@ fn last_begin(book: &[u32; BOOK_WORDS], messages: u32) -> usize
     wide(ends[at])
 }
 
-// A signal that fits a frame, after the signals before it in its message, where the book has `count` signals.
+// A signal of the catalogue, after those before it in its message, which have filled so much, where the book has `count` signals.
 fn judge_after(
-    numbers: &[u32],
-    starts: &[u32],
+    before: &[u32],
+    filled: Filled,
     count: usize,
     number: u32,
     start: u32,
     bits: u32,
 ) -> Added
-    requires { ⌜ (length (now starts) ≡ length (now numbers)) × (start < 64) × (bits ≤ 32) × (bits ≡ bitsOf number) ⌝ }
-    ensures { λ r. ⌜ refusalOf r ≡ afterRefusal (placed (now (numbers .entry)) (now (starts .entry))) count (placement number start) ⌝ }
+    requires { ⌜ ((ps : List Placement) × Earlier (now before) filled ps) × (start < 64) × (0 < bits) × (bits ≤ 32) × (bits ≡ bitsOf number) ⌝ }
+    ensures { λ r. ⌜ ((ps : List Placement) → Earlier (now (before .entry)) filled ps → refusalOf r ≡ afterRefusal ps count (placement number start)) ⌝ }
 {
-    if columns::holds(numbers, number) {
+    if is_repeated(before, filled, number) {
         return Added::SignalRepeated;
     }
     if is_misplaced(number, start, bits) {
         return Added::Misplaced;
     }
-    if meets_earlier(numbers, starts, number, start, bits) {
+    if masks::meet(filled.bits, run(start, bits)) {
         return Added::BitsMeet;
     }
     if count >= SIGNALS {
@@ -78,11 +80,16 @@ fn judge_after(
 }
 
 // An `S` line.
-pub fn judge_signal(book: &[u32; BOOK_WORDS], number: u32, start: u32) -> Added
-    requires { ⌜ OfBook (now book) ⌝ }
-    ensures { λ r. ⌜ ((b : Book) → Holds (now (book .entry)) b → refusalOf r ≡ signalRefusal (b .messages) (placement number start)) ⌝ }
+pub fn judge_signal(
+    book: &[u32; BOOK_WORDS],
+    filled: Filled,
+    number: u32,
+    start: u32,
+    bits: u32,
+) -> Added
+    requires { ⌜ OfKept (now book) filled × (bits ≡ bitsOf number) ⌝ }
+    ensures { λ r. ⌜ ((b : Book) → Kept (now (book .entry)) filled b → refusalOf r ≡ signalRefusal (b .messages) (placement number start)) ⌝ }
 {
-    let bits = catalogue::bits_of(number);
     if bits == 0 {
         return Added::OverLimit;
     }
@@ -95,7 +102,6 @@ pub fn judge_signal(book: &[u32; BOOK_WORDS], number: u32, start: u32) -> Added
     }
     let end = wide(record::signal_count(book));
     let first = last_begin(book, messages);
-    let numbers = columns::part(record::numbers(book), first, end);
-    let starts = columns::part(record::starts(book), first, end);
-    judge_after(numbers, starts, end, number, start, bits)
+    let before = columns::part(record::numbers(book), first, end);
+    judge_after(before, filled, end, number, start, bits)
 }

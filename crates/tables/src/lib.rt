@@ -8,6 +8,7 @@ mod testing;
 pub use adding::add_message;
 pub use adding::add_route;
 pub use adding::add_signal;
+use placing::Filled;
 pub use testing::messages_taken;
 
 // What becomes of a line.
@@ -27,4 +28,10 @@ pub enum Added {
     BitsMeet,
     // The book has as many lines of this kind as it may have.
     Full,
+}
+
+// What becomes of an `S` line, and what the signals of the last message fill then.
+pub struct Placed {
+    pub added: Added,
+    pub filled: Filled,
 }

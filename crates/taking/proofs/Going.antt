@@ -1,27 +1,26 @@
 -- The loop over the lines: the answer for the rest, after the book so far, is the answer for the whole. Assumes nothing.
-use mathlib.Core.Path.{_≡_, refl, sym, ap, _∙_}
-use Prim.Native.Nat.{ℕ, zero, suc, _+_, _≤_, _<_}
+use mathlib.Core.Path.{_≡_, refl, sym, ap, _∙_, subst}
+use Prim.Native.Nat.{ℕ, suc, _+_, _≤_, _<_}
 use native.Mathlib.Numerals.{add-one}
 use native.Mathlib.Omega.{arith}
-use mathlib.Core.List.{List, [], _∷_, map}
+use mathlib.Core.List.{List, [], _∷_}
 use lib.ListN.{length, drop, length-drop}
 use lib.Seq.{drop-drop}
 use Rattle.answers.specs.declared.Refusal.{Refusal}
 use Rattle.answers.specs.Numbers.{number}
-use Rattle.parts.specs.Parts.{lines}
-use Rattle.line.specs.declared.Line.{Line}
 use Rattle.line.specs.declared.Line.the-variants as line
 use Rattle.line.specs.declared.First.{First}
-use Rattle.line.specs.Meaning.{meaningOf}
 use Rattle.line.specs.First.{firstLine}
 use Rattle.line.proofs.Firsts as firsts
-use Rattle.books.specs.Book.{Book, noBook}
-use Rattle.reading.specs.Reading.{Outcome, passed, refused, onward, refusalOf, withLine, numberedWith, readFrom, meanings, linesRead}
-use Rattle.tables.specs.Adding.{Holds, unless}
+use Rattle.books.specs.Book.{Book, noBook, lastPlacements}
+use Rattle.reading.specs.Reading.{Outcome, refused, onward, refusalOf, withLine, numberedWith, readFrom, meanings, linesRead}
+use Rattle.placing.specs.declared.Filled.{Filled}
+use Rattle.placing.proofs.Filling.{fills-none}
+use Rattle.tables.specs.Adding.{Kept, unless}
 use Rattle.tables.proofs.Room.{within-none}
 use Rattle.taking.specs.declared.Step.{Step}
 use Rattle.taking.specs.declared.Step.the-variants as step
-use Rattle.taking.specs.Taking.{stepNumber, Took, Empty, PassedTo}
+use Rattle.taking.specs.Taking.{stepNumber, FillsThen, Took, Empty, PassedTo}
 use Rattle.taking.proofs.Steps.{stops, taken-well, within-line}
 
 -- the first line of what is left of a text
@@ -43,35 +42,35 @@ module _ (text : List ℕ) (at : ℕ) (h : at < length text) (rest : List ℕ) (
   pub fits : at + f .size ≤ length text
   fits = omega (arith, left, next .within)
 
--- `at` bytes of the text are read, line n is next, and the words are those of the book so far
-pub record Going (text : List ℕ) (at n : ℕ) (w : List ℕ) : Type 0 where
+-- `at` bytes of the text are read, line n is next, the words are those of the book so far, and so much is filled by its last message's signals
+pub record Going (text : List ℕ) (at n : ℕ) (filled : Filled) (w : List ℕ) : Type 0 where
   pub book : Book
   pub numbers : List ℕ
   pub answer : readFrom n book numbers (meanings (drop at text)) ≡ linesRead text
-  pub holds : Holds w book
+  pub kept : Kept w filled book
   pub within : at ≤ length text
   pub numbered : n ≤ at + 1
 
-pub start : (text w : List ℕ) → Empty w → Going text 0 1 w
-unfolding linesRead
-start text w e =
+pub start : (text w : List ℕ) → Empty w → (f : Filled) → (f .bits ≡ 0) × (f .marks ≡ 0) → Going text 0 1 f w
+unfolding linesRead lastPlacements
+start text w e f z =
     record {
       book = noBook;
       numbers = [];
       answer = refl;
-      holds = record { words = e; within = within-none };
+      kept = record { holds = record { words = e; within = within-none }; fills = fills-none f (z .0) (z .1) };
       within = omega arith;
       numbered = omega arith;
     }
 
-module _ {text : List ℕ} {at n : ℕ} {w : List ℕ} (g : Going text at n w) where
+module _ {text : List ℕ} {at n : ℕ} {filled : Filled} {w : List ℕ} (g : Going text at n filled w) where
   none-left : length text ≤ at → meanings (drop at text) ≡ []
   unfolding meanings
   none-left h = firsts.no-more text at h
 
   pub all-taken : length text ≤ at → PassedTo text w
   unfolding readFrom
-  all-taken h = record { book = g .book; numbers = g .numbers; read = sym (rw (none-left h) at (g .answer)); holds = g .holds }
+  all-taken h = record { book = g .book; numbers = g .numbers; read = sym (rw (none-left h) at (g .answer)); holds = g .kept .holds }
 
   module _ (h : at < length text) {rest : List ℕ} (r : rest ≡ drop at text) (f : First) (e : f ≡ firstLine rest) (s : Step) {w′ : List ℕ} (t : Took (g .book) (f .line) s w′) where
     onto : Outcome
@@ -86,26 +85,30 @@ module _ {text : List ℕ} {at n : ℕ} {w : List ℕ} (g : Going text at n w) w
         let z : refusalOf (g .book) (f .line) ≡ number why = sym (t .answer) ∙ ap stepNumber q in
         sym one-more ∙ ap (λ (x : ℕ). onward x n onto) z ∙ stops why n onto
 
-    taken : s ≡ step.Taken → refusalOf (g .book) (f .line) ≡ 0
-    taken q = sym (t .answer) ∙ ap stepNumber q
-
-    well : s ≡ step.Taken → f .line ≡ line.IllFormed → ⊥
-    well q = taken-well (g .book) (f .line) (taken q)
-
-    pub some : s ≡ step.Taken → 0 < f .size
-    some q = next text at h rest r f e .some (well q)
-
     pub inside : at + f .size ≤ length text
     inside = fits text at h rest r f e
 
-    pub goes-on : s ≡ step.Taken → Going text (at + f .size) (n + 1) w′
-    unfolding onward unless onto
-    goes-on q =
-        record {
-          book = withLine (g .book) (f .line);
-          numbers = numberedWith (g .numbers) n (f .line);
-          answer = rw (add-one n, ← then text at h rest r f e (well q)) (rw (taken q) at one-more);
-          holds = record { words = t .words ∙ rw (taken q); within = within-line (g .book) (f .line) (g .holds .within) (taken q) };
-          within = inside;
-          numbered = omega (arith, g .numbered, some q);
-        }
+    module _ (more : Filled) (q : s ≡ step.Taken more) where
+      taken : refusalOf (g .book) (f .line) ≡ 0
+      taken = sym (t .answer) ∙ ap stepNumber q
+
+      well : f .line ≡ line.IllFormed → ⊥
+      well = taken-well (g .book) (f .line) taken
+
+      pub some : 0 < f .size
+      some = next text at h rest r f e .some well
+
+      pub goes-on : Going text (at + f .size) (n + 1) more w′
+      unfolding onward unless onto
+      goes-on =
+          record {
+            book = withLine (g .book) (f .line);
+            numbers = numberedWith (g .numbers) n (f .line);
+            answer = rw (add-one n, ← then text at h rest r f e well) (rw taken at one-more);
+            kept = record {
+              holds = record { words = t .words ∙ rw taken; within = within-line (g .book) (f .line) (g .kept .holds .within) taken };
+              fills = subst (FillsThen (lastPlacements (withLine (g .book) (f .line) .messages))) q (t .fills);
+            };
+            within = inside;
+            numbered = omega (arith, g .numbered, some);
+          }

@@ -6,9 +6,11 @@ use mathlib.Core.List.{List, [], _∷_}
 use Rattle.answers.specs.Numbers.{number}
 use Rattle.line.specs.declared.Line.{Line}
 use Rattle.line.specs.declared.Line.the-variants as line
-use Rattle.books.specs.Book.{Book, noBook}
+use Rattle.books.specs.Book.{Placement, Book, noBook, lastPlacements}
 use Rattle.books.specs.Words.{wordsOf}
-use Rattle.reading.specs.Reading.{Outcome, passed, refused, refusalOf, withLine, linesRead}
+use Rattle.reading.specs.Reading.{passed, refused, refusalOf, withLine, linesRead}
+use Rattle.placing.specs.declared.Filled.{Filled}
+use Rattle.placing.specs.Filling.{Fills}
 use Rattle.tables.specs.declared.Added.{Added}
 use Rattle.tables.specs.Adding.{Holds, unless}
 use Rattle.tables.specs.Adding as adding
@@ -19,16 +21,27 @@ use Rattle.taking.specs.declared.Lines.the-variants as came
 
 -- document 01's number of what refused a line, 0 where it is taken
 abbrev pub stepNumber : Step → ℕ
-stepNumber step.Taken = 0
+stepNumber (step.Taken filled) = 0
 stepNumber (step.Refused why) = number why
 
 abbrev pub addedNumber : Added → ℕ
 addedNumber added = adding.refusalOf added
 
--- the line is judged after the book b, and is in the words where it is taken
+-- where a line is taken, the step carries what is filled
+abbrev pub Carries : Filled → Step → Type 0
+Carries filled (step.Taken more) = more ≡ filled
+Carries filled (step.Refused why) = Unit
+
+-- and it is what the signals fill
+abbrev pub FillsThen : List Placement → Step → Type 0
+FillsThen ps (step.Taken filled) = Fills ps filled
+FillsThen ps (step.Refused why) = Unit
+
+-- the line is judged after the book b; where it is taken it is in the words, and the step carries what the last message's signals fill
 pub record Took (b : Book) (l : Line) (r : Step) (w : List ℕ) : Type 0 where
   pub answer : stepNumber r ≡ refusalOf b l
   pub words : w ≡ wordsOf (unless (refusalOf b l) b (withLine b l))
+  pub fills : FillsThen (lastPlacements (withLine b l .messages)) r
 
 -- the words of the empty book
 abbrev pub Empty : List ℕ → Type 0

@@ -4,6 +4,8 @@ use answers::Refusal;
 use line::Line;
 use line::read_first;
 use parts::part_from;
+use placing::Filled;
+use placing::nothing;
 use record::BOOK_WORDS;
 use tables::Added;
 ghost use mathlib.Core.Path.{_≡_};
@@ -13,12 +15,12 @@ ghost use Rattle.record.specs.Limits.{textLimit};
 ghost use Rattle.books.specs.Book.{Book};
 ghost use Rattle.reading.specs.Reading.{meanings};
 ghost use Rattle.reading.specs.Taken.{rLinesFrom};
-ghost use Rattle.tables.specs.Adding.{OfBook, Holds};
-ghost use Rattle.taking.specs.Taking.{stepNumber, addedNumber, isRoute, Took, Empty, Came, Well};
+ghost use Rattle.tables.specs.Adding.{OfKept, Kept};
+ghost use Rattle.taking.specs.Taking.{stepNumber, addedNumber, Carries, isRoute, Took, Empty, Came, Well};
 
-// What came of one line.
+// What came of one line: it was taken, with what the signals of the last message fill then, or refused.
 pub enum Step {
-    Taken,
+    Taken(Filled),
     Refused(Refusal),
 }
 
@@ -28,11 +30,11 @@ pub enum Lines {
     Refused(Refusal, u32),
 }
 
-fn step_of(added: Added) -> Step
-    ensures { λ r. ⌜ stepNumber r ≡ addedNumber added ⌝ }
+fn step_of(added: Added, filled: Filled) -> Step
+    ensures { λ r. ⌜ (stepNumber r ≡ addedNumber added) × Carries filled r ⌝ }
 {
     match added {
-        Added::Taken => Step::Taken,
+        Added::Taken => Step::Taken(filled),
         Added::OverLimit => Step::Refused(Refusal::OverLimit),
         Added::BeforeAnyMessage => Step::Refused(Refusal::BeforeAnyMessage),
         Added::MessageRepeated => Step::Refused(Refusal::MessageRepeated),
@@ -44,15 +46,22 @@ fn step_of(added: Added) -> Step
 }
 
 // One line more: the words are then those of the book with the line, or stay where the line is refused.
-fn take_line(book: &mut [u32; BOOK_WORDS], line: Line) -> Step
-    requires { ⌜ OfBook (now book) ⌝ }
-    ensures { λ r. ⌜ ((b : Book) → Holds (now (book .entry)) b → Took b line r (now (book .exit))) ⌝ }
+fn take_line(book: &mut [u32; BOOK_WORDS], filled: Filled, line: Line) -> Step
+    requires { ⌜ OfKept (now book) filled ⌝ }
+    ensures { λ r. ⌜ ((b : Book) → Kept (now (book .entry)) filled b → Took b line r (now (book .exit))) ⌝ }
 {
     match line {
-        Line::Message(id) => step_of(tables::add_message(book, id)),
-        Line::Signal(number, start) => step_of(tables::add_signal(book, number, start)),
+        Line::Message(id) => step_of(tables::add_message(book, id), nothing()),
+        Line::Signal(number, start) => {
+            let placed = tables::add_signal(book, filled, number, start);
+            let added = placed.added;
+            step_of(added, placed.filled)
+        }
         Line::Route(from_bus, from_id, to_bus, to_id) => {
-            step_of(tables::add_route(book, from_bus, from_id, to_bus, to_id))
+            step_of(
+                tables::add_route(book, from_bus, from_id, to_bus, to_id),
+                filled,
+            )
         }
         Line::IllFormed => Step::Refused(Refusal::IllFormed),
     }
@@ -65,12 +74,14 @@ pub fn take_lines(text: &[u8], book: &mut [u32; BOOK_WORDS]) -> Lines
 {
     let mut at: usize = 0;
     let mut n: u32 = 1;
+    let mut filled = nothing();
     while at < text.len() {
         let first = read_first(part_from(text, at));
         let size = first.size;
         let line = first.line;
-        if let Step::Refused(why) = take_line(&mut *book, line) {
-            return Lines::Refused(why, n);
+        match take_line(&mut *book, filled, line) {
+            Step::Taken(more) => filled = more,
+            Step::Refused(why) => return Lines::Refused(why, n),
         }
         at += size;
         n += 1;

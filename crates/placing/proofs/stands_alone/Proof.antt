@@ -1,5 +1,5 @@
-use Rattle.placing.proofs.Placing.{unknown, over, known}
 -- `placing::stands_alone` meets its contract: each `return` is one part of the rule. Assumes nothing.
+use Rattle.placing.proofs.Placing.{unknown, over, known}
 use mathlib.Core.Path.{sym, _∙_}
 use native.Mathlib.Omega.{arith}
 use Rattle.catalogue.proofs.Found.{few-bits}

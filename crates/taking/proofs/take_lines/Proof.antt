@@ -6,20 +6,18 @@ use borrow.Author.Needs.{needs}
 use Rattle.taking.proofs.Going.{Going, start, all-taken, refused-here, some, inside, goes-on}
 use Rattle.taking.proofs.take_lines.Statement.{statement}
 use Rattle.taking.proofs.take_lines.Tie as tie
-use Rattle.taking.proofs.take_lines.Reads as reads
-use Rattle.taking.proofs.take_lines.Lts as lts
-use Rattle.line.proofs.read_first.Reads as read-first-reads
-use Rattle.parts.proofs.part_from.Reads as part-from-reads
-use Rattle.taking.proofs.take_line.Reads as take-line-reads
 
 abbrev Inv-loop : tie.InvT-loop
-Inv-loop text book₀ at₀ n₀ book at n = Going text at n book
+Inv-loop text book₀ at₀ n₀ filled₀ book at n filled = Going text at n filled book
 
 abbrev μ-loop : tie.MeasureT-loop
-μ-loop text book₀ at₀ n₀ book at n = length text - at
+μ-loop text book₀ at₀ n₀ filled₀ book at n filled = length text - at
+
+nothing-requires : tie.Need-nothing-requires Inv-loop μ-loop
+nothing-requires c κs = search needs
 
 loop-holds : tie.Need-loop-holds Inv-loop μ-loop
-loop-holds c = start _ _ (c .before .pre .1)
+loop-holds c = start _ _ (c .before .before .pre .1) _ (c .nothing .ensures)
 
 part-from-requires : tie.Need-part-from-requires Inv-loop μ-loop
 part-from-requires c κs = omega (arith, c .before .loop .inv .within)
@@ -28,28 +26,28 @@ read-first-requires : tie.Need-read-first-requires Inv-loop μ-loop
 read-first-requires c κs = search needs
 
 take-line-requires : tie.Need-take-line-requires Inv-loop μ-loop
-take-line-requires c κs = (c .before .before .before .before .loop .inv .book, c .before .before .before .before .loop .inv .holds)
+take-line-requires c κs = (c .before .before .before .before .loop .inv .book, c .before .before .before .before .loop .inv .kept)
+
+enum-known-more : tie.Need-enum-known-more Inv-loop μ-loop
+enum-known-more c = search needs
 
 enum-known-why : tie.Need-enum-known-why Inv-loop μ-loop
 enum-known-why c = search needs
 
 returns : tie.Need-returns Inv-loop μ-loop
-returns c = refused-here (c .before .before .before .before .before .before .before .before .loop .inv) (c .before .before .before .before .before .before .before .loop-test .taken) (c .before .before .before .before .before .before .part-from .ensures) _ (c .before .before .before .before .before .read-first .ensures) _ (c .before .before .before .take-line .ensures (c .before .before .before .before .before .before .before .before .loop .inv .book) (c .before .before .before .before .before .before .before .before .loop .inv .holds)) _ (c .before .why .given .1)
-
-enum-told : tie.Need-enum-told Inv-loop μ-loop
-enum-told c = search needs
+returns c = refused-here (c .before .before .before .before .before .before .before .before .loop .inv) (c .before .before .before .before .before .before .before .loop-test .taken) (c .before .before .before .before .before .before .part-from .ensures) _ (c .before .before .before .before .before .read-first .ensures) _ (c .before .before .before .take-line .ensures (c .before .before .before .before .before .before .before .before .loop .inv .book) (c .before .before .before .before .before .before .before .before .loop .inv .kept)) _ (c .before .why .given .1)
 
 add-at : tie.Need-add-at Inv-loop μ-loop
-add-at c = omega (arith, inside (c .before .before .before .before .before .before .before .loop .inv) (c .before .before .before .before .before .before .loop-test .taken) (c .before .before .before .before .before .part-from .ensures) _ (c .before .before .before .before .read-first .ensures) _ (c .before .before .take-line .ensures (c .before .before .before .before .before .before .before .loop .inv .book) (c .before .before .before .before .before .before .before .loop .inv .holds)))
+add-at c = omega (arith, inside (c .before .before .before .before .before .before .before .before .loop .inv) (c .before .before .before .before .before .before .before .loop-test .taken) (c .before .before .before .before .before .before .part-from .ensures) _ (c .before .before .before .before .before .read-first .ensures) _ (c .before .before .before .take-line .ensures (c .before .before .before .before .before .before .before .before .loop .inv .book) (c .before .before .before .before .before .before .before .before .loop .inv .kept)))
 
 add-n : tie.Need-add-n Inv-loop μ-loop
-add-n c = omega (arith, c .before .before .before .before .before .before .before .loop .inv .numbered, c .before .before .before .before .before .before .before .loop .inv .within, c .before .before .before .before .before .before .before .before .before .pre .0)
+add-n c = omega (arith, c .before .before .before .before .before .before .before .before .loop .inv .numbered, c .before .before .before .before .before .before .before .before .loop .inv .within, c .before .before .before .before .before .before .before .before .before .before .before .pre .0)
 
 loop-less : tie.Need-loop-less Inv-loop μ-loop
-loop-less c = omega (arith, some (c .before .before .before .before .before .before .before .loop .inv) (c .before .before .before .before .before .before .loop-test .taken) (c .before .before .before .before .before .part-from .ensures) _ (c .before .before .before .before .read-first .ensures) _ (c .before .before .take-line .ensures (c .before .before .before .before .before .before .before .loop .inv .book) (c .before .before .before .before .before .before .before .loop .inv .holds)) (c .enum-told .given .1), inside (c .before .before .before .before .before .before .before .loop .inv) (c .before .before .before .before .before .before .loop-test .taken) (c .before .before .before .before .before .part-from .ensures) _ (c .before .before .before .before .read-first .ensures) _ (c .before .before .take-line .ensures (c .before .before .before .before .before .before .before .loop .inv .book) (c .before .before .before .before .before .before .before .loop .inv .holds)))
+loop-less c = omega (arith, some (c .before .before .before .before .before .before .before .before .loop .inv) (c .before .before .before .before .before .before .before .loop-test .taken) (c .before .before .before .before .before .before .part-from .ensures) _ (c .before .before .before .before .before .read-first .ensures) _ (c .before .before .before .take-line .ensures (c .before .before .before .before .before .before .before .before .loop .inv .book) (c .before .before .before .before .before .before .before .before .loop .inv .kept)) _ (c .before .more .given .1), inside (c .before .before .before .before .before .before .before .before .loop .inv) (c .before .before .before .before .before .before .before .loop-test .taken) (c .before .before .before .before .before .before .part-from .ensures) _ (c .before .before .before .before .before .read-first .ensures) _ (c .before .before .before .take-line .ensures (c .before .before .before .before .before .before .before .before .loop .inv .book) (c .before .before .before .before .before .before .before .before .loop .inv .kept)))
 
 loop-again : tie.Need-loop-again Inv-loop μ-loop
-loop-again c = goes-on (c .before .before .before .before .before .before .before .loop .inv) (c .before .before .before .before .before .before .loop-test .taken) (c .before .before .before .before .before .part-from .ensures) _ (c .before .before .before .before .read-first .ensures) _ (c .before .before .take-line .ensures (c .before .before .before .before .before .before .before .loop .inv .book) (c .before .before .before .before .before .before .before .loop .inv .holds)) (c .enum-told .given .1)
+loop-again c = goes-on (c .before .before .before .before .before .before .before .before .loop .inv) (c .before .before .before .before .before .before .before .loop-test .taken) (c .before .before .before .before .before .before .part-from .ensures) _ (c .before .before .before .before .before .read-first .ensures) _ (c .before .before .before .take-line .ensures (c .before .before .before .before .before .before .before .before .loop .inv .book) (c .before .before .before .before .before .before .before .before .loop .inv .kept)) _ (c .before .more .given .1)
 
 returns-2 : tie.Need-returns-2 Inv-loop μ-loop
 returns-2 c = all-taken (c .before .loop .inv) (c .loop-test .left)
@@ -60,13 +58,14 @@ take-lines-spec =
     (tie.spec
     Inv-loop
     μ-loop
+    nothing-requires
     loop-holds
     part-from-requires
     read-first-requires
     take-line-requires
+    enum-known-more
     enum-known-why
     returns
-    enum-told
     add-at
     add-n
     loop-less

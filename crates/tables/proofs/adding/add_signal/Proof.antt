@@ -5,6 +5,7 @@ use mathlib.Core.List.{[], _∷_}
 use native.Mathlib.Omega.{arith}
 use types.Run.{OneOf, miss}
 use denote.Enum.Declared.{tagOf}
+use Rattle.placing.proofs.Placing.{alone-room}
 use Rattle.tables.specs.declared.Added.{Added}
 use Rattle.tables.proofs.Added.{the-type}
 use Rattle.tables.specs.declared.Added.the-variants as added
@@ -12,7 +13,7 @@ use Rattle.tables.specs.Adding.{refusalOf, placement}
 use Rattle.tables.proofs.Held.{messages-held, signals-held}
 use Rattle.tables.proofs.Stored.{signal-stored}
 use Rattle.tables.proofs.Room.{signal-room}
-use Rattle.tables.proofs.Refused.{stays, takes}
+use Rattle.tables.proofs.Kept.{fills-signal, signal-stays, signal-takes}
 use borrow.Author.Needs.{needs}
 use Rattle.tables.proofs.adding.add_signal.Statement.{statement}
 use Rattle.tables.proofs.adding.add_signal.Tie as tie
@@ -28,6 +29,9 @@ refused added.Misplaced k = (6, refl)
 refused added.BitsMeet k = (7, refl)
 refused added.Full k = (8, refl)
 
+bits-of-requires : tie.Need-bits-of-requires
+bits-of-requires c κs = search needs
+
 judge-signal-requires : tie.Need-judge-signal-requires
 judge-signal-requires c κs = search needs
 
@@ -42,38 +46,47 @@ signal-count-requires c κs = search needs
 
 put-signal-requires : tie.Need-put-signal-requires
 put-signal-requires c κs =
-    let b = c .before .before .before .before .before .before .before .before .before .pre .0 in
-    let h = c .before .before .before .before .before .before .before .before .before .pre .1 in
+    let b = c .before .before .before .before .before .before .before .before .before .before .pre .0 in
+    let h = c .before .before .before .before .before .before .before .before .before .before .pre .1 .holds in
     let e = ap refusalOf (c .before .before .before .before .before .enum-told .given .1) in
-    let r = signal-room (b .messages) (placement (c .before .before .before .before .before .before .before .before .before .args .number) (c .before .before .before .before .before .before .before .before .before .args .start)) (sym (c .before .before .before .before .before .before .before .judge-signal .ensures b h) ∙ e) in
+    let r = signal-room (b .messages) (placement (c .before .before .before .before .before .before .before .before .before .before .args .number) (c .before .before .before .before .before .before .before .before .before .before .args .start)) (sym (c .before .before .before .before .before .before .before .judge-signal .ensures b (c .before .before .before .before .before .before .before .before .before .before .pre .1)) ∙ e) in
     (omega (arith, c .before .before .before .message-count .ensures, messages-held _ b h, r .some), omega (arith, c .before .before .before .message-count .ensures, messages-held _ b h, h .within .messages), omega (arith, c .before .signal-count .ensures, signals-held _ b h, r .room))
 
-returns : tie.Need-returns
-returns c = λ b h.
-    let p = placement (c .before .before .before .before .before .before .before .before .before .before .args .number) (c .before .before .before .before .before .before .before .before .before .before .args .start) in
+filled-with-requires : tie.Need-filled-with-requires
+filled-with-requires c κs =
+    let b = c .before .before .before .before .before .before .before .before .before .before .before .pre .0 in
     let e = ap refusalOf (c .before .before .before .before .before .before .enum-told .given .1) in
-    let f = c .before .before .before .before .before .before .before .before .judge-signal .ensures b h in
-    let r = signal-room (b .messages) p (sym f ∙ e) in
-    let n = messages-held _ b h in
-    let s = signals-held _ b h in
-    let m = c .before .before .before .before .message-count .ensures in
-    let k = c .before .before .signal-count .ensures in
-    let w = h .words in
-    let q = c .put-signal .ensures in
+    let r = signal-room (b .messages) (placement (c .before .before .before .before .before .before .before .before .before .before .before .args .number) (c .before .before .before .before .before .before .before .before .before .before .before .args .start)) (sym (c .before .before .before .before .before .before .before .before .judge-signal .ensures b (c .before .before .before .before .before .before .before .before .before .before .before .pre .1)) ∙ e) in
+    alone-room _ _ _ (c .before .before .before .before .before .before .before .before .before .before .bits-of .ensures) (r .alone)
+
+returns : tie.Need-returns
+returns c = λ b k.
+    let h = k .holds in
+    let p = placement (c .before .before .before .before .before .before .before .before .before .before .before .before .args .number) (c .before .before .before .before .before .before .before .before .before .before .before .before .args .start) in
+    let f = c .before .before .before .before .before .before .before .before .before .judge-signal .ensures b k in
+    let taken = sym f ∙ ap refusalOf (c .before .before .before .before .before .before .before .enum-told .given .1) in
+    let r = signal-room (b .messages) p taken in
+    let messages = c .before .before .before .before .before .message-count .ensures ∙ messages-held _ b h in
+    let signals = c .before .before .before .signal-count .ensures ∙ signals-held _ b h in
     let stored = signal-stored (b .messages) (b .routes) p (h .within) (r .some) (r .room) in
-    takes _ _ _ _ _ f (sym f ∙ e) (cc)
+    signal-takes b p _ _ f taken (rw (c .before .put-signal .ensures, messages, signals, h .words) stored) (fills-signal (b .messages) p taken (c .before .before .before .before .before .before .before .before .before .before .before .before .args .filled) (k .fills) _ (c .before .before .before .before .before .before .before .before .before .before .before .bits-of .ensures) _ (c .filled-with .ensures))
 
 returns-2 : tie.Need-returns-2
-returns-2 c = λ b h. let f = c .before .judge-signal .ensures b h in let n = refused (c .before .judge-signal .result) (c .match .keys2) in stays _ _ _ _ _ f (n .0) (sym f ∙ n .1) h
+returns-2 c = λ b k.
+    let f = c .before .judge-signal .ensures b k in
+    let n = refused (c .before .judge-signal .result) (c .match .keys2) in
+    signal-stays b _ _ _ f (n .0) (sym f ∙ n .1) k
 
 pub add-signal-spec : {M : Type 1} → statement M
 add-signal-spec =
     tie.close
     (tie.spec
+    bits-of-requires
     judge-signal-requires
     enum-told
     message-count-requires
     signal-count-requires
     put-signal-requires
+    filled-with-requires
     returns
     returns-2)

@@ -1,0 +1,41 @@
+-- What the signals of a message fill tells whether one more meets them, and grows by it. Assumes nothing.
+use mathlib.Core.Path.{_≡_, sym, ap, _∙_}
+use mathlib.Core.Bool.{Bool, _||_}
+use mathlib.Core.List.{List, [], _∷_, _++_}
+use Prim.Native.Nat.{ℕ, _%_, _<_}
+use lib.Dec.{eqb}
+use Rattle.catalogue.specs.Find.{bitsOf}
+use Rattle.books.specs.Book.{Placement, numbers}
+use Rattle.books.specs.Lines.{meetsEarlier}
+use Rattle.books.proofs.Ends.{map-append}
+use Rattle.masks.specs.Bit.{width, bit, meeting}
+use Rattle.masks.proofs.Bits.{bit-zero}
+use Rattle.placing.specs.declared.Filled.{Filled}
+use Rattle.placing.specs.Placing.{inRun}
+use Rattle.placing.specs.Filling.{has, covers, none, marked, Fills, FilledMore}
+use Rattle.placing.proofs.Covering.{covers-none, covers-more, wide-more, same-meeting}
+use Rattle.placing.proofs.Marks.{marked-none, marked-more}
+
+pub fills-none : (f : Filled) → f .bits ≡ 0 → f .marks ≡ 0 → Fills [] f
+fills-none f b m = record {
+  each-wide = none;
+  bits = λ k. ap (λ (n : ℕ). bit n k) b ∙ bit-zero k ∙ sym (covers-none k);
+  marks = λ j. ap (λ (n : ℕ). bit n j) m ∙ bit-zero j ∙ sym (marked-none j);
+}
+
+-- one signal more, which has b bits
+module _ (ps : List Placement) (p : Placement) (f : Filled) (h : Fills ps f) (some : 0 < bitsOf (p .number)) (b : ℕ) (e : b ≡ bitsOf (p .number)) where
+  own-bits : (k : ℕ) → inRun (p .start) b k ≡ has p k
+  own-bits k = ap (λ (n : ℕ). inRun (p .start) n k) e
+
+  pub meets-same : (run : ℕ) → ((k : ℕ) → bit run k ≡ inRun (p .start) b k) → meeting (f .bits) run ≡ meetsEarlier ps p
+  meets-same run r = same-meeting ps p (f .bits) run (h .bits) (λ k. r k ∙ own-bits k) (h .each-wide) some
+
+  pub fills-more : (g : Filled) → FilledMore f (p .number) (p .start) b g → Fills (ps ++ (p ∷ [])) g
+  fills-more g m = record {
+    each-wide = wide-more p (h .each-wide) some;
+    bits = λ k. m .bits-more k ∙ ap (λ (t : Bool). t || inRun (p .start) b k) (h .bits k) ∙
+        ap (λ (t : Bool). covers ps k || t) (own-bits k) ∙ sym (covers-more ps p k);
+    marks = λ j. m .marks-more j ∙ ap (λ (t : Bool). t || eqb j (p .number % width)) (h .marks j) ∙ sym (marked-more (numbers ps) (p .number) j) ∙
+        ap (λ (ns : List ℕ). marked ns j) (sym (map-append (λ (q : Placement). q .number) ps (p ∷ [])));
+  }
