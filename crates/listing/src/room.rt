@@ -1,5 +1,4 @@
-// A text in the room that is left, where it fits: one that is written already, a refused frame's line, an ill-formed line's. A
-// line goes straight to its place where that has room for the longest, and is otherwise written aside first.
+// A text in the room that is left, where it fits: a line that is already written, a refused frame, an ill-formed line.
 ghost use mathlib.Core.Path.{_≡_};
 ghost use mathlib.Core.List.{List};
 ghost use Prim.Native.Nat.{ℕ, _≤_};
@@ -29,9 +28,6 @@ pub fn list_refused(out: &mut [u8], at: usize, identifier: u32, refusal: u32) ->
     requires { ⌜ at ≤ length (now out) ⌝ }
     ensures { λ r. ⌜ _≡_ {A = Fitted × List ℕ} (r, now (out .exit)) (fitted (now (out .entry)) at (refusedLine identifier refusal)) ⌝ }
 {
-    if LINE_ROOM <= out.len() - at {
-        return Fitted::Next(put_refused(&mut *out, at, identifier, refusal));
-    }
     let mut line = [0u8; LINE_ROOM];
     let length = put_refused(&mut line, 0, identifier, refusal);
     fit(&mut *out, at, &line[..length])
@@ -42,9 +38,6 @@ pub fn list_ill_formed(out: &mut [u8], at: usize) -> Fitted
     requires { ⌜ at ≤ length (now out) ⌝ }
     ensures { λ r. ⌜ _≡_ {A = Fitted × List ℕ} (r, now (out .exit)) (fitted (now (out .entry)) at illFormedLine) ⌝ }
 {
-    if LINE_ROOM <= out.len() - at {
-        return Fitted::Next(put_ill_formed(&mut *out, at));
-    }
     let mut line = [0u8; LINE_ROOM];
     let length = put_ill_formed(&mut line, 0);
     fit(&mut *out, at, &line[..length])
