@@ -1,0 +1,63 @@
+-- `numbering::enter` meets its contract: a place is new where its search stopped at an empty slot, and laid there. Assumes nothing.
+use Rattle.numbering.proofs.Laying.{laid-met, laid-new}
+use borrow.Author.Needs.{needs}
+use borrow.Author.Needs.{needs}
+use Rattle.numbering.proofs.enter.Statement.{statement}
+use Rattle.numbering.proofs.enter.Tie as tie
+
+mul-seek : tie.Need-mul-seek
+mul-seek c = search needs
+
+shared-slice-read-seek : tie.Need-shared-slice-read-seek
+shared-slice-read-seek c = search needs
+
+seek-requires : tie.Need-seek-requires
+seek-requires c κs = search needs
+
+slice-read-wide : tie.Need-slice-read-wide
+slice-read-wide c = search needs
+
+wide-requires : tie.Need-wide-requires
+wide-requires c κs = search needs
+
+add-slots : tie.Need-add-slots
+add-slots c = search needs
+
+cast-slots : tie.Need-cast-slots
+cast-slots c = search needs
+
+slice-write-slots : tie.Need-slice-write-slots
+slice-write-slots c = search needs
+
+same-length : tie.Need-same-length
+same-length c = search needs
+
+returns : tie.Need-returns
+returns c = laid-new _ _ _ (c .before .before .before .before .before .before .before .before .pre .0) _ _ (c .before .before .before .seek .ensures .0) (c .before .wide .ensures .0) (c .if1 .taken) (c .before .before .before .seek .ensures .1)
+
+sub-result : tie.Need-sub-result
+sub-result c = search needs
+
+same-length-2 : tie.Need-same-length-2
+same-length-2 c = search needs
+
+returns-2 : tie.Need-returns-2
+returns-2 c = laid-met _ _ _ (c .before .before .before .before .before .before .before .before .pre .0) _ _ (c .before .before .before .seek .ensures .0) (c .before .wide .ensures .0) (c .if1 .left) (c .before .before .before .seek .ensures .2)
+
+pub enter-spec : {M : Type 1} → statement M
+enter-spec =
+    tie.close
+    (tie.spec
+    mul-seek
+    shared-slice-read-seek
+    seek-requires
+    slice-read-wide
+    wide-requires
+    add-slots
+    cast-slots
+    slice-write-slots
+    same-length
+    returns
+    sub-result
+    same-length-2
+    returns-2)

@@ -1,0 +1,77 @@
+-- `numbering::seek` meets its contract: the slots passed hold other places, and with an empty slot left the search stops. Assumes nothing.
+use Prim.Native.Nat.{_-_}
+use native.Mathlib.Omega.{arith}
+use Rattle.numbering.specs.Slots.{slotCount}
+use Rattle.numbering.proofs.Seeking.{Seeking, seeking-start, seeking-vain, seeking-empty, seeking-met, seeking-on}
+use borrow.Author.Needs.{needs}
+use Rattle.numbering.proofs.seek.Statement.{statement}
+use Rattle.numbering.proofs.seek.Tie as tie
+
+abbrev Inv-loop : tie.InvT-loop
+Inv-loop places slots i place at₀ tries₀ at tries = Seeking places slots place at tries
+
+abbrev μ-loop : tie.MeasureT-loop
+μ-loop places slots i place at₀ tries₀ at tries = slotCount - tries
+
+slot-of-requires : tie.Need-slot-of-requires Inv-loop μ-loop
+slot-of-requires c κs = search needs
+
+loop-holds : tie.Need-loop-holds Inv-loop μ-loop
+loop-holds c = seeking-start _ _ _ _ (c .slot-of .ensures .0) (c .slot-of .ensures .1)
+
+shared-slice-read-wide : tie.Need-shared-slice-read-wide Inv-loop μ-loop
+shared-slice-read-wide c = search needs
+
+wide-requires : tie.Need-wide-requires Inv-loop μ-loop
+wide-requires c κs = search needs
+
+returns : tie.Need-returns Inv-loop μ-loop
+returns c = seeking-empty _ _ _ _ _ (c .before .before .before .before .loop .inv) (c .before .before .before .loop-test .taken) _ (c .before .wide .ensures .0) (c .if1 .taken)
+
+sub-if2 : tie.Need-sub-if2 Inv-loop μ-loop
+sub-if2 c = search needs
+
+mul-if2 : tie.Need-mul-if2 Inv-loop μ-loop
+mul-if2 c = search needs
+
+shared-slice-read-if2 : tie.Need-shared-slice-read-if2 Inv-loop μ-loop
+shared-slice-read-if2 c = omega (arith, c .before .before .wide .ensures .0, c .before .before .before .before .before .before .before .before .before .pre .0 .low (c .before .before .before .before .before .loop .at), c .before .before .before .before .before .before .before .before .before .pre .1, c .before .if1 .left)
+
+returns-2 : tie.Need-returns-2 Inv-loop μ-loop
+returns-2 c = seeking-met _ _ _ _ _ (c .before .before .before .before .before .before .loop .inv) (c .before .before .before .before .before .loop-test .taken) _ (c .before .before .before .wide .ensures .0) (c .if2 .taken)
+
+add-at : tie.Need-add-at Inv-loop μ-loop
+add-at c = search needs
+
+add-tries : tie.Need-add-tries Inv-loop μ-loop
+add-tries c = search needs
+
+loop-less : tie.Need-loop-less Inv-loop μ-loop
+loop-less c = search needs
+
+loop-again : tie.Need-loop-again Inv-loop μ-loop
+loop-again c = seeking-on _ _ _ _ _ (c .before .before .before .before .before .before .loop .inv) (c .before .before .before .before .before .loop-test .taken) _ (c .before .before .before .wide .ensures .0) (c .before .before .if1 .left) (c .if2 .left)
+
+returns-3 : tie.Need-returns-3 Inv-loop μ-loop
+returns-3 c = absurd (seeking-vain _ _ _ _ _ (c .before .loop .inv) _ (c .before .before .before .before .before .pre .0) (c .before .before .before .before .before .pre .2) (c .loop-test .left))
+
+pub seek-spec : {M : Type 1} → statement M
+seek-spec =
+    tie.close
+    (tie.spec
+    Inv-loop
+    μ-loop
+    slot-of-requires
+    loop-holds
+    shared-slice-read-wide
+    wide-requires
+    returns
+    sub-if2
+    mul-if2
+    shared-slice-read-if2
+    returns-2
+    add-at
+    add-tries
+    loop-less
+    loop-again
+    returns-3)
