@@ -142,19 +142,19 @@ module _ (places slots : List ℕ) (i : ℕ) (laid : Laid places slots i) where
               ∙ other (seekEnd places slots (getD places k 0)) (λ q. absurd (omega (arith, ap (λ (x : ℕ). getD slots x 0) q, old, is, z)))
               ∙ old
 
--- the first i places are laid and have their numbers
-pub record Numbering (places numbers₀ : List ℕ) (i : ℕ) (slots numbers : List ℕ) : Type 0 where
-  pub within : i ≤ length places
+-- of the m places the first i are laid and have their numbers
+pub record Numbering (places numbers₀ : List ℕ) (m i : ℕ) (slots numbers : List ℕ) : Type 0 where
+  pub within : i ≤ m
   pub laid : Laid places slots i
   pub long : length numbers ≡ length numbers₀
   pub done : (x : ℕ) → x < i → FirstAt places x (getD numbers x 0)
 
-pub numbering-start : (places numbers : List ℕ) → Numbering places numbers 0 (replicate slotCount 0) numbers
-numbering-start places numbers = record { within = omega arith; laid = laid-start places; long = refl; done = λ x l. absurd (omega arith) }
+pub numbering-start : (places numbers : List ℕ) (m : ℕ) → Numbering places numbers m 0 (replicate slotCount 0) numbers
+numbering-start places numbers m = record { within = omega arith; laid = laid-start places; long = refl; done = λ x l. absurd (omega arith) }
 
-pub numbering-more : (places numbers₀ : List ℕ) (i : ℕ) (slots numbers : List ℕ) → Numbering places numbers₀ i slots numbers → i < length places → i < length numbers
-    → (r : ℕ) (slots′ : List ℕ) → FirstAt places i r → Laid places slots′ (i + 1) → Numbering places numbers₀ (i + 1) slots′ (set numbers i r)
-numbering-more places numbers₀ i slots numbers inv l il r slots′ f laid = record {
+pub numbering-more : (places numbers₀ : List ℕ) (m i : ℕ) (slots numbers : List ℕ) → Numbering places numbers₀ m i slots numbers → i < m → i < length numbers
+    → (r : ℕ) (slots′ : List ℕ) → FirstAt places i r → Laid places slots′ (i + 1) → Numbering places numbers₀ m (i + 1) slots′ (set numbers i r)
+numbering-more places numbers₀ m i slots numbers inv l il r slots′ f laid = record {
   within = omega arith;
   laid = laid;
   long = length-set numbers i r ∙ inv .long;
@@ -163,6 +163,6 @@ numbering-more places numbers₀ i slots numbers inv l il r slots′ f laid = re
       (rw (getD-set-same numbers i r 0 il) f);
 }
 
-pub numbering-end : (places numbers₀ : List ℕ) (i : ℕ) (slots numbers : List ℕ) → Numbering places numbers₀ i slots numbers → length places ≤ i → Numbered places numbers
+pub numbering-end : (places numbers₀ : List ℕ) (m i : ℕ) (slots numbers : List ℕ) → Numbering places numbers₀ m i slots numbers → length places ≤ m → m ≤ i → Numbered places numbers
 unfolding Numbered
-numbering-end places numbers₀ i slots numbers inv h x l = inv .done x (omega arith)
+numbering-end places numbers₀ m i slots numbers inv e h x l = inv .done x (omega arith)

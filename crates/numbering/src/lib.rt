@@ -1,17 +1,15 @@
-// Numbers for the places of a column: a place's number is the index where it stands first, so equal places have equal numbers and
-// different ones different. Each is looked for from a slot of its own on, in a table of slots, so a column takes one pass.
+// Numbers for the places of a table of routes: in the column of the places where routes lead to, and then of those where they
+// start, a place's number is the index where it stands first. Places are looked for in a table of slots, so one pass numbers all.
 ghost use mathlib.Core.Path.{_≡_};
 ghost use mathlib.Core.Bool.{true};
 ghost use Prim.Native.Nat.{_+_, _<_, _≤_};
 ghost use lib.ListN.{length, getD};
+ghost use mathlib.Core.List.{_++_};
 ghost use Rattle.numbering.specs.Numbers.{FirstAt, Numbered};
 ghost use Rattle.numbering.specs.Slots.{slotCount, slotOf, seekEnd, stopsAt, Laid};
 
 // How many slots places are spread over.
 const SLOTS: usize = 256;
-
-// How many places a column may have.
-pub const MOST: usize = 128;
 
 pub fn wide(x: u8) -> usize
     ensures { λ r. ⌜ (r ≡ x) × (r < slotCount) ⌝ }
@@ -26,10 +24,22 @@ fn slot_of(place: u32) -> usize
     ((place as u64 * 2654435761) / 16777216 % 256) as usize
 }
 
+// Place x of the column that the two make, one after the other.
+fn place_at(tos: &[u32], froms: &[u32], x: usize) -> u32
+    requires { ⌜ x < length (now tos) + length (now froms) ⌝ }
+    ensures { λ r. ⌜ r ≡ getD (now (tos .entry) ++ now (froms .entry)) x 0 ⌝ }
+{
+    let n = tos.len();
+    if x < n {
+        return tos[x];
+    }
+    froms[x - n]
+}
+
 // The slot of a place: from where its search begins the first that holds the place or is empty. `i` places are laid.
-fn seek(places: &[u32], slots: &[u8], i: usize, place: u32) -> usize
-    requires { ⌜ Laid (now places) (now slots) i × (i ≤ length (now places)) × (i < slotCount) ⌝ }
-    ensures { λ r. ⌜ (r ≡ seekEnd (now (places .entry)) (now (slots .entry)) place) × (r < slotCount) × (stopsAt (now (places .entry)) (now (slots .entry)) place r ≡ true) ⌝ }
+fn seek(tos: &[u32], froms: &[u32], slots: &[u8], i: usize, place: u32) -> usize
+    requires { ⌜ Laid (now tos ++ now froms) (now slots) i × (i ≤ length (now tos) + length (now froms)) × (i < slotCount) ⌝ }
+    ensures { λ r. ⌜ (r ≡ seekEnd (now (tos .entry) ++ now (froms .entry)) (now (slots .entry)) place) × (r < slotCount) × (stopsAt (now (tos .entry) ++ now (froms .entry)) (now (slots .entry)) place r ≡ true) ⌝ }
 {
     let mut at = slot_of(place);
     let mut tries: usize = 0;
@@ -38,7 +48,7 @@ fn seek(places: &[u32], slots: &[u8], i: usize, place: u32) -> usize
         if key == 0 {
             return at;
         }
-        if places[key - 1] == place {
+        if place_at(tos, froms, key - 1) == place {
             return at;
         }
         at = (at + 1) % SLOTS;
@@ -47,12 +57,12 @@ fn seek(places: &[u32], slots: &[u8], i: usize, place: u32) -> usize
     at
 }
 
-// The number of place i; it is laid where it is new.
-fn enter(places: &[u32], slots: &mut [u8], i: usize) -> usize
-    requires { ⌜ Laid (now places) (now slots) i × (i < length (now places)) × (length (now places) < slotCount) ⌝ }
-    ensures { λ r. ⌜ FirstAt (now (places .entry)) i r × Laid (now (places .entry)) (now (slots .exit)) (i + 1) ⌝ }
+// The number of place i; the place is laid where it is new.
+fn enter(tos: &[u32], froms: &[u32], slots: &mut [u8], i: usize) -> usize
+    requires { ⌜ Laid (now tos ++ now froms) (now slots) i × (i < length (now tos) + length (now froms)) × (length (now tos) + length (now froms) < slotCount) ⌝ }
+    ensures { λ r. ⌜ FirstAt (now (tos .entry) ++ now (froms .entry)) i r × Laid (now (tos .entry) ++ now (froms .entry)) (now (slots .exit)) (i + 1) ⌝ }
 {
-    let at = seek(places, &*slots, i, places[i]);
+    let at = seek(tos, froms, &*slots, i, place_at(tos, froms, i));
     let key = wide(slots[at]);
     if key == 0 {
         slots[at] = (i + 1) as u8;
@@ -61,15 +71,16 @@ fn enter(places: &[u32], slots: &mut [u8], i: usize) -> usize
     key - 1
 }
 
-// The numbers of all places.
-pub fn number_all(places: &[u32], numbers: &mut [u8])
-    requires { ⌜ (length (now places) < slotCount) × (length (now places) ≤ length (now numbers)) ⌝ }
-    ensures { λ _. ⌜ Numbered (now (places .entry)) (now (numbers .exit)) ⌝ }
+// The numbers of the places where routes lead to, and then of those where they start.
+pub fn number_all(tos: &[u32], froms: &[u32], numbers: &mut [u8])
+    requires { ⌜ (length (now tos) + length (now froms) < slotCount) × (length (now tos) + length (now froms) ≤ length (now numbers)) ⌝ }
+    ensures { λ _. ⌜ Numbered (now (tos .entry) ++ now (froms .entry)) (now (numbers .exit)) ⌝ }
 {
     let mut slots = [0u8; SLOTS];
+    let count = tos.len() + froms.len();
     let mut i: usize = 0;
-    while i < places.len() {
-        numbers[i] = enter(places, &mut slots, i) as u8;
+    while i < count {
+        numbers[i] = enter(tos, froms, &mut slots, i) as u8;
         i += 1;
     }
 }

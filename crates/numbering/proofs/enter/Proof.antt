@@ -5,11 +5,8 @@ use borrow.Author.Needs.{needs}
 use Rattle.numbering.proofs.enter.Statement.{statement}
 use Rattle.numbering.proofs.enter.Tie as tie
 
-mul-seek : tie.Need-mul-seek
-mul-seek c = search needs
-
-shared-slice-read-seek : tie.Need-shared-slice-read-seek
-shared-slice-read-seek c = search needs
+place-at-requires : tie.Need-place-at-requires
+place-at-requires c κs = search needs
 
 seek-requires : tie.Need-seek-requires
 seek-requires c κs = search needs
@@ -33,7 +30,7 @@ same-length : tie.Need-same-length
 same-length c = search needs
 
 returns : tie.Need-returns
-returns c = laid-new _ _ _ (c .before .before .before .before .before .before .before .before .pre .0) _ _ (c .before .before .before .seek .ensures .0) (c .before .wide .ensures .0) (c .if1 .taken) (c .before .before .before .seek .ensures .1)
+returns c = laid-new _ _ _ (c .before .before .before .before .before .before .before .before .before .pre .0) _ _ (rw (c .before .before .before .before .place-at .ensures) at (c .before .before .before .seek .ensures .0)) (c .before .wide .ensures .0) (c .if1 .taken) (c .before .before .before .seek .ensures .1)
 
 sub-result : tie.Need-sub-result
 sub-result c = search needs
@@ -42,14 +39,13 @@ same-length-2 : tie.Need-same-length-2
 same-length-2 c = search needs
 
 returns-2 : tie.Need-returns-2
-returns-2 c = laid-met _ _ _ (c .before .before .before .before .before .before .before .before .pre .0) _ _ (c .before .before .before .seek .ensures .0) (c .before .wide .ensures .0) (c .if1 .left) (c .before .before .before .seek .ensures .2)
+returns-2 c = laid-met _ _ _ (c .before .before .before .before .before .before .before .before .before .pre .0) _ _ (rw (c .before .before .before .before .place-at .ensures) at (c .before .before .before .seek .ensures .0)) (c .before .wide .ensures .0) (c .if1 .left) (rw (c .before .before .before .before .place-at .ensures) at (c .before .before .before .seek .ensures .2))
 
 pub enter-spec : {M : Type 1} → statement M
 enter-spec =
     tie.close
     (tie.spec
-    mul-seek
-    shared-slice-read-seek
+    place-at-requires
     seek-requires
     slice-read-wide
     wide-requires

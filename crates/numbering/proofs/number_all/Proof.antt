@@ -1,20 +1,24 @@
 -- `numbering::number_all` meets its contract: the first i places are laid and have their numbers. Assumes nothing.
+use mathlib.Core.List.{_++_}
 use Prim.Native.Nat.{_-_}
 use native.Mathlib.Omega.{arith}
-use lib.ListN.{length}
+use lib.ListN.{length-append}
 use Rattle.numbering.proofs.Laying.{Numbering, numbering-start, numbering-more, numbering-end}
 use borrow.Author.Needs.{needs}
 use Rattle.numbering.proofs.number_all.Statement.{statement}
 use Rattle.numbering.proofs.number_all.Tie as tie
 
 abbrev Inv-loop : tie.InvT-loop
-Inv-loop places numbers₀ slots₀ i₀ numbers slots i = Numbering places numbers₀ i slots numbers
+Inv-loop tos froms numbers₀ slots₀ count i₀ numbers slots i = Numbering (tos ++ froms) numbers₀ count i slots numbers
 
 abbrev μ-loop : tie.MeasureT-loop
-μ-loop places numbers₀ slots₀ i₀ numbers slots i = length places - i
+μ-loop tos froms numbers₀ slots₀ count i₀ numbers slots i = count - i
+
+add-count : tie.Need-add-count Inv-loop μ-loop
+add-count c = search needs
 
 loop-holds : tie.Need-loop-holds Inv-loop μ-loop
-loop-holds c = numbering-start _ _
+loop-holds c = numbering-start _ _ _
 
 slice-aggregate-enter : tie.Need-slice-aggregate-enter Inv-loop μ-loop
 slice-aggregate-enter c = search needs
@@ -35,13 +39,13 @@ loop-less : tie.Need-loop-less Inv-loop μ-loop
 loop-less c = search needs
 
 loop-again : tie.Need-loop-again Inv-loop μ-loop
-loop-again c = numbering-more _ _ _ _ _ (c .before .before .before .before .loop .inv) (c .before .before .before .loop-test .taken) (omega (arith, c .before .before .before .before .loop .inv .long, c .before .before .before .before .before .before .before .pre, c .before .before .before .loop-test .taken)) _ _ (c .before .enter .ensures .0) (c .before .enter .ensures .1)
+loop-again c = numbering-more _ _ _ _ _ _ (c .before .before .before .before .loop .inv) (c .before .before .before .loop-test .taken) (omega (arith, c .before .before .before .before .loop .inv .long, c .before .before .before .before .before .before .before .before .pre, c .before .before .before .loop-test .taken)) _ _ (c .before .enter .ensures .0) (c .before .enter .ensures .1)
 
 same-length : tie.Need-same-length Inv-loop μ-loop
 same-length c = search needs
 
 returns : tie.Need-returns Inv-loop μ-loop
-returns c = numbering-end _ _ _ _ _ (c .before .loop .inv) (c .loop-test .left)
+returns c = numbering-end _ _ _ _ _ _ (c .before .loop .inv) (omega (arith, length-append (c .before .before .before .before .before .args .tos .now) (c .before .before .before .before .before .args .froms .now))) (c .loop-test .left)
 
 pub number-all-spec : {M : Type 1} → statement M
 number-all-spec =
@@ -49,6 +53,7 @@ number-all-spec =
     (tie.spec
     Inv-loop
     μ-loop
+    add-count
     loop-holds
     slice-aggregate-enter
     enter-requires

@@ -1,4 +1,6 @@
 -- `numbering::seek` meets its contract: the slots passed hold other places, and with an empty slot left the search stops. Assumes nothing.
+use mathlib.Core.Path.{sym, _∙_}
+use mathlib.Core.List.{_++_}
 use Prim.Native.Nat.{_-_}
 use native.Mathlib.Omega.{arith}
 use Rattle.numbering.specs.Slots.{slotCount}
@@ -8,10 +10,10 @@ use Rattle.numbering.proofs.seek.Statement.{statement}
 use Rattle.numbering.proofs.seek.Tie as tie
 
 abbrev Inv-loop : tie.InvT-loop
-Inv-loop places slots i place at₀ tries₀ at tries = Seeking places slots place at tries
+Inv-loop tos froms slots i place at₀ tries₀ at tries = Seeking (tos ++ froms) slots place at tries
 
 abbrev μ-loop : tie.MeasureT-loop
-μ-loop places slots i place at₀ tries₀ at tries = slotCount - tries
+μ-loop tos froms slots i place at₀ tries₀ at tries = slotCount - tries
 
 slot-of-requires : tie.Need-slot-of-requires Inv-loop μ-loop
 slot-of-requires c κs = search needs
@@ -28,17 +30,14 @@ wide-requires c κs = search needs
 returns : tie.Need-returns Inv-loop μ-loop
 returns c = seeking-empty _ _ _ _ _ (c .before .before .before .before .loop .inv) (c .before .before .before .loop-test .taken) _ (c .before .wide .ensures .0) (c .if1 .taken)
 
-sub-if2 : tie.Need-sub-if2 Inv-loop μ-loop
-sub-if2 c = search needs
+sub-place-at : tie.Need-sub-place-at Inv-loop μ-loop
+sub-place-at c = search needs
 
-mul-if2 : tie.Need-mul-if2 Inv-loop μ-loop
-mul-if2 c = search needs
-
-shared-slice-read-if2 : tie.Need-shared-slice-read-if2 Inv-loop μ-loop
-shared-slice-read-if2 c = omega (arith, c .before .before .wide .ensures .0, c .before .before .before .before .before .before .before .before .before .pre .0 .low (c .before .before .before .before .before .loop .at), c .before .before .before .before .before .before .before .before .before .pre .1, c .before .if1 .left)
+place-at-requires : tie.Need-place-at-requires Inv-loop μ-loop
+place-at-requires c κs = omega (arith, c .before .wide .ensures .0, c .before .before .before .before .before .before .before .before .before .pre .0 .low (c .before .before .before .before .loop .at), c .before .before .before .before .before .before .before .before .before .pre .1, c .if1 .left)
 
 returns-2 : tie.Need-returns-2 Inv-loop μ-loop
-returns-2 c = seeking-met _ _ _ _ _ (c .before .before .before .before .before .before .loop .inv) (c .before .before .before .before .before .loop-test .taken) _ (c .before .before .before .wide .ensures .0) (c .if2 .taken)
+returns-2 c = seeking-met _ _ _ _ _ (c .before .before .before .before .before .before .loop .inv) (c .before .before .before .before .before .loop-test .taken) _ (c .before .before .before .wide .ensures .0) (sym (c .before .place-at .ensures) ∙ c .if2 .taken)
 
 add-at : tie.Need-add-at Inv-loop μ-loop
 add-at c = search needs
@@ -50,10 +49,10 @@ loop-less : tie.Need-loop-less Inv-loop μ-loop
 loop-less c = search needs
 
 loop-again : tie.Need-loop-again Inv-loop μ-loop
-loop-again c = seeking-on _ _ _ _ _ (c .before .before .before .before .before .before .loop .inv) (c .before .before .before .before .before .loop-test .taken) _ (c .before .before .before .wide .ensures .0) (c .before .before .if1 .left) (c .if2 .left)
+loop-again c = seeking-on _ _ _ _ _ (c .before .before .before .before .before .before .loop .inv) (c .before .before .before .before .before .loop-test .taken) _ (c .before .before .before .wide .ensures .0) (c .before .before .if1 .left) (λ e. c .if2 .left (c .before .place-at .ensures ∙ e))
 
 returns-3 : tie.Need-returns-3 Inv-loop μ-loop
-returns-3 c = absurd (seeking-vain _ _ _ _ _ (c .before .loop .inv) _ (c .before .before .before .before .before .pre .0) (c .before .before .before .before .before .pre .2) (c .loop-test .left))
+returns-3 c = absurd (seeking-vain _ _ _ _ _ (c .before .loop .inv) _ (c .before .before .before .before .before .before .pre .0) (c .before .before .before .before .before .before .pre .2) (c .loop-test .left))
 
 pub seek-spec : {M : Type 1} → statement M
 seek-spec =
@@ -66,9 +65,8 @@ seek-spec =
     shared-slice-read-wide
     wide-requires
     returns
-    sub-if2
-    mul-if2
-    shared-slice-read-if2
+    sub-place-at
+    place-at-requires
     returns-2
     add-at
     add-tries
