@@ -6,17 +6,19 @@ use native.Mathlib.Omega.{arith}
 use native.Mathlib.Nat.{eq-or-lt-of-le}
 use native.Mathlib.Decide.{decLe, ℕ-discrete}
 use mathlib.Core.List.{List}
-use lib.ListN.{getD}
+use lib.ListN.{length, getD}
 use borrow.Author.Count.{below-more}
 use Rattle.numbering.specs.Numbers.{FirstAt}
 
 -- of the first m places none is p, or there is a first that is
-search-first : (places : List ℕ) (p m : ℕ) → ((r : ℕ) × (r < m) × (getD places r 0 ≡ p) × ((j : ℕ) → j < r → getD places j 0 ≡ p → ⊥)) ⊎ ((j : ℕ) → j < m → getD places j 0 ≡ p → ⊥)
+abbrev pub Searched : List ℕ → ℕ → ℕ → Type 0
+Searched places p m = ((r : ℕ) × (r < m) × (getD places r 0 ≡ p) × ((j : ℕ) → j < r → getD places j 0 ≡ p → ⊥)) ⊎ ((j : ℕ) → j < m → getD places j 0 ≡ p → ⊥)
+
+pub search-first : (places : List ℕ) (p m : ℕ) → Searched places p m
 search-first places p zero = inr (λ j l. absurd (omega arith))
 search-first places p (suc m) = go (search-first places p m) (ℕ-discrete (getD places m 0) p)
   where
-    go : ((r : ℕ) × (r < m) × (getD places r 0 ≡ p) × ((j : ℕ) → j < r → getD places j 0 ≡ p → ⊥)) ⊎ ((j : ℕ) → j < m → getD places j 0 ≡ p → ⊥) → Dec (getD places m 0 ≡ p)
-        → ((r : ℕ) × (r < suc m) × (getD places r 0 ≡ p) × ((j : ℕ) → j < r → getD places j 0 ≡ p → ⊥)) ⊎ ((j : ℕ) → j < suc m → getD places j 0 ≡ p → ⊥)
+    go : Searched places p m → Dec (getD places m 0 ≡ p) → Searched places p (suc m)
     go (inl (r, l, e, n)) d = inl (r, omega arith, e, n)
     go (inr n) (yes e) = inl (m, omega arith, e, n)
     go (inr n) (no f) = inr (λ j l. below-more (λ (x : ℕ). getD places x 0 ≡ p → ⊥) m n f j (omega arith))
@@ -24,8 +26,7 @@ search-first places p (suc m) = go (search-first places p m) (ℕ-discrete (getD
 pub first-at : (places : List ℕ) (i : ℕ) → (r : ℕ) × FirstAt places i r
 first-at places i = go (search-first places (getD places i 0) (suc i))
   where
-    go : ((r : ℕ) × (r < suc i) × (getD places r 0 ≡ getD places i 0) × ((j : ℕ) → j < r → getD places j 0 ≡ getD places i 0 → ⊥)) ⊎ ((j : ℕ) → j < suc i → getD places j 0 ≡ getD places i 0 → ⊥)
-        → (r : ℕ) × FirstAt places i r
+    go : Searched places (getD places i 0) (suc i) → (r : ℕ) × FirstAt places i r
     go (inl (r, l, e, n)) = (r, record { within = omega arith; same = e; none-before = n })
     go (inr n) = absurd (n i (omega arith) refl)
 
@@ -44,3 +45,19 @@ first-once places i r s f g = go (decLe r s)
     go : Dec (r ≤ s) → r ≡ s
     go (yes l) = ⊎-elim (λ e. e) (λ b. absurd (g .none-before r b (f .same))) (eq-or-lt-of-le l)
     go (no n) = absurd (f .none-before s (omega arith) (g .same))
+
+-- the number of a place
+abbrev pub picked : (places : List ℕ) (p m : ℕ) → Searched places p m → ℕ
+picked places p m (inl found) = found .0
+picked places p m (inr none) = m
+
+unfoldable pub numberOf : List ℕ → ℕ → ℕ
+numberOf places p = picked places p (length places) (search-first places p (length places))
+
+pub number-first : (places : List ℕ) (i r : ℕ) → i < length places → FirstAt places i r → r ≡ numberOf places (getD places i 0)
+unfolding numberOf
+number-first places i r l f = go (search-first places (getD places i 0) (length places))
+  where
+    go : (s : Searched places (getD places i 0) (length places)) → r ≡ picked places (getD places i 0) (length places) s
+    go (inl (x, b, e, n)) = first-once places i r x f (first-moved places x i x (record { within = omega arith; same = refl; none-before = λ k c q. n k c (q ∙ e) }) (sym e))
+    go (inr n) = absurd (n i l refl)
