@@ -13,7 +13,7 @@ use lib.Dec.{eqb}
 use borrow.Author.Count.{below-more}
 use borrow.Author.Tests.{eqb-true, eq-eqb, ne-eqb}
 use Rattle.numbering.specs.Numbers.{FirstAt, Numbered}
-use Rattle.numbering.specs.Slots.{slotCount, slotOf, stopsAt, seekFrom, seekEnd, empties, Laid}
+use Rattle.numbering.specs.Slots.{slotCount, slotOf, stopsAt, seekFrom, seekEnd, Laid}
 use Rattle.numbering.proofs.Empties.{empties-set, empties-all}
 use Rattle.numbering.proofs.Firsts.{first-at, first-moved}
 

@@ -11,7 +11,7 @@ ghost use Rattle.numbering.specs.Slots.{slotCount, slotOf, seekEnd, stop
 // How many slots places are spread over.
 const SLOTS: usize = 256;
 
-pub fn wide(x: u8) -> usize
+fn wide(x: u8) -> usize
     ensures { λ r. ⌜ (r ≡ x) × (r < slotCount) ⌝ }
 {
     x as usize

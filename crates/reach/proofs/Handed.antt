@@ -1,15 +1,15 @@
 -- What one route hands on, and what several do. Assumes nothing.
 use mathlib.Core.Path.{_≡_, refl, sym, ap, _∙_, subst}
-use mathlib.Core.Logic.{_⊎_, inl, inr, ⊎-elim}
+use mathlib.Core.Logic.{_⊎_, ⊎-elim}
 use mathlib.Core.Bool.{Bool, true, false, not, _||_}
-use Prim.Native.Nat.{ℕ, _+_, _<_, _≤_}
+use Prim.Native.Nat.{ℕ, _<_}
 use native.Mathlib.Omega.{arith}
 use native.Mathlib.Decide.{ℕ-discrete}
 use mathlib.Core.List.{List, [], _∷_}
 use lib.ListN.{length, getD, set, length-set}
 use lib.Seq.{getD-set-same, getD-set-other}
 use lib.Dec.{eqb}
-use borrow.Author.Tests.{eqb-true, eqb-false, eq-eqb, not-true, not-false}
+use borrow.Author.Tests.{eqb-true, eqb-false, not-true, not-false}
 use Rattle.masks.specs.Bit.{bit}
 use Rattle.chains.specs.Chain.{Walk, Chain}
 use Rattle.chains.proofs.Bools.{true-false, or-cases, or-left, or-right}
@@ -17,8 +17,9 @@ use Rattle.reach.specs.Handing.{total, Real, HandedOn, Handing}
 use Rattle.reach.proofs.Growing.{more-bits, total-set, set-same}
 
 module _ (starts ends : List ℕ) where
-  pub chain-walk : (p : ℕ) (c : List ℕ) (q : ℕ) → Chain starts ends p c q → Walk starts ends p c q
-  chain-walk p (i ∷ c) q w = w
+  -- a chain is a walk
+  pub as-walk : (p : ℕ) (c : List ℕ) (q : ℕ) → Chain starts ends p c q → Walk starts ends p c q
+  as-walk p (i ∷ c) q w = w
 
   -- route j hands on: w is what it leads to, and v what its start has then
   module _ (m : List ℕ) (j s e w v : ℕ) (is-start : s ≡ getD starts j 0) (is-end : e ≡ getD ends j 0) (l : j < length starts) (low : s < length m)
@@ -31,7 +32,7 @@ module _ (starts ends : List ℕ) where
     got r y h =
         ⊎-elim (λ a. r s y a)
         (λ b. ⊎-elim
-        (λ d. let t = r e y d in (j ∷ t .0, begun y (t .0) (subst (λ (p : ℕ). Walk starts ends p (t .0) y) is-end (chain-walk e (t .0) y (t .1)))))
+        (λ d. let t = r e y d in (j ∷ t .0, begun y (t .0) (subst (λ (p : ℕ). Walk starts ends p (t .0) y) is-end (as-walk e (t .0) y (t .1)))))
         (λ d. (j ∷ [], begun y [] (sym is-end ∙ sym (eqb-true y e d))))
         (or-cases (bit (getD m e 0) y) (eqb y e) (sym (leads y) ∙ b)))
         (or-cases (bit (getD m s 0) y) (bit w y) (sym (gets y) ∙ h))

@@ -1,7 +1,7 @@
 -- Masks that are real, and to which all routes have handed on, say what each route leads on to. Assumes nothing.
 use mathlib.Core.Path.{_≡_, refl, sym, ap, _∙_, subst}
 use mathlib.Core.Logic.{⊎-elim}
-use mathlib.Core.Bool.{Bool, true, _||_}
+use mathlib.Core.Bool.{true, false, _||_}
 use Prim.Native.Nat.{ℕ, zero, suc, _+_, _<_, _≤_}
 use native.Mathlib.Omega.{arith}
 use mathlib.Core.List.{List, [], _∷_}
@@ -17,18 +17,21 @@ use Rattle.chains.specs.Tests.{Tells}
 use Rattle.chains.proofs.Bools.{true-false, or-cases, or-left, or-right, test-tells}
 use Rattle.reach.specs.Led.{Led}
 use Rattle.reach.specs.Handing.{Real, HandedOn}
-use Rattle.reach.proofs.Handed.{chain-walk}
+use Rattle.reach.proofs.Handed.{as-walk}
+
+-- empty masks have no bit
+pub bit-empty : (n x k : ℕ) → bit (getD (replicate n 0) x 0) k ≡ false
+bit-empty n x k = ap (λ (m : ℕ). bit m k) (empty n x) ∙ bit-zero k
+  where
+    empty : (n x : ℕ) → getD {A = ℕ} (replicate n 0) x 0 ≡ 0
+    empty zero x = refl
+    empty (suc n) zero = refl
+    empty (suc n) (suc x) = empty n x
 
 module _ (starts ends : List ℕ) where
-  -- masks without a bit
   pub real-start : (n : ℕ) → Real starts ends (replicate n 0)
   unfolding Real
-  real-start n x y h = absurd (true-false h (ap (λ (m : ℕ). bit m y) (empty n x) ∙ bit-zero y))
-    where
-      empty : (n x : ℕ) → getD {A = ℕ} (replicate n 0) x 0 ≡ 0
-      empty zero x = refl
-      empty (suc n) zero = refl
-      empty (suc n) (suc x) = empty n x
+  real-start n x y h = absurd (true-false h (bit-empty n x y))
 
   module _ (m : List ℕ) (real : Real starts ends m) (all : (j : ℕ) → j < length starts → HandedOn starts ends m j) where
     -- where a walk goes from the end of route i is among what the route hands on
@@ -41,7 +44,7 @@ module _ (starts ends : List ℕ) where
     leads : (i x : ℕ) → bit (getD m (getD ends i 0) 0) x || eqb x (getD ends i 0) ≡ true → LeadsOn starts ends i x
     unfolding Real
     leads i x h =
-        ⊎-elim (λ b. let r = real (getD ends i 0) x b in (r .0, chain-walk starts ends (getD ends i 0) (r .0) x (r .1))) (λ b. ([], sym (eqb-true _ _ b)))
+        ⊎-elim (λ b. let r = real (getD ends i 0) x b in (r .0, as-walk starts ends (getD ends i 0) (r .0) x (r .1))) (λ b. ([], sym (eqb-true _ _ b)))
         (or-cases (bit (getD m (getD ends i 0) 0) x) (eqb x (getD ends i 0)) h)
 
     pub tells-one : (i e w : ℕ) → e ≡ getD ends i 0 → ((k : ℕ) → bit w k ≡ bit (getD m e 0) k || eqb k e) → (x : ℕ) → Tells (LeadsOn starts ends i x) (bit w x)

@@ -1,5 +1,5 @@
 -- The search for routes that fork. Assumes nothing.
-use mathlib.Core.Path.{_≡_, refl, sym, ap, _∙_, subst}
+use mathlib.Core.Path.{_≡_, sym, ap, _∙_, subst}
 use mathlib.Core.Logic.{_⊎_, inl, inr, ⊎-elim}
 use mathlib.Core.Bool.{Bool, true, false, _||_}
 use Prim.Native.Nat.{ℕ, _+_, _*_, _<_, _≤_}
@@ -17,7 +17,8 @@ use Rattle.chains.specs.Tests.{Tells}
 use Rattle.chains.proofs.Bools.{true-false, or-cases, or-left, or-right, test-tells}
 use Rattle.reach.specs.Led.{turn}
 use Rattle.verdict.specs.Searches.{ForksEarlier}
-use Rattle.verdict.proofs.Meeting.{bit-empty, meets-at}
+use Rattle.reach.proofs.Leading.{bit-empty}
+use Rattle.verdict.proofs.Meeting.{meets-at}
 
 module _ (starts onward : List ℕ) (down : Bool) where
   abbrev route : ℕ → ℕ

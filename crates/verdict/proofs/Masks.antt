@@ -4,7 +4,6 @@ use mathlib.Core.Logic.{_⊎_, ⊎-elim}
 use mathlib.Core.Bool.{Bool, true, false, not, _||_, _&&_}
 use Prim.Native.Nat.{ℕ, _-_, _<_, _≤_}
 use native.Mathlib.Omega.{arith}
-use native.Mathlib.Nat.{eq-or-lt-of-le}
 use native.Mathlib.Decide.{decLe}
 use mathlib.Core.List.{List}
 use lib.ListN.{length, getD}
@@ -14,22 +13,17 @@ use Rattle.masks.specs.Bit.{width, bit, meeting}
 use Rattle.masks.proofs.Bits.{meeting-some}
 use Rattle.chains.specs.Chain.{LeadsOn}
 use Rattle.chains.specs.Tests.{Tells, any, First}
-use Rattle.chains.proofs.Bools.{or-cases, and-parts, or-left, or-right, and-both, same-test, told-yes, told-same, true-false}
+use Rattle.chains.proofs.Bools.{or-cases, and-parts, or-left, or-right, and-both, same-test, told-yes, told-of, told-same}
 use Rattle.chains.proofs.Reach.{reach, reach-leads, leads-reach, reach-tells}
 use Rattle.chains.proofs.Walks.{walk-last}
 use Rattle.chains.proofs.Loops.{comesBack}
 use Rattle.chains.proofs.Tests.{any-some, some-any, comesTo, meetAgain, fork, begins}
-use Rattle.reach.specs.Led.{Numbers, Led, turn}
+use Rattle.reach.specs.Led.{Numbers, Led}
 use Rattle.verdict.specs.Searches.{leadsBack, ForksEarlier, StartsAt, beginsBy}
 use Rattle.verdict.proofs.Meeting.{meets-at, meets-back}
 
 pub first-same : (P Q : ℕ → Bool) (n r : ℕ) → ((i : ℕ) → i < n → P i ≡ Q i) → First P n r → First Q n r
 first-same P Q n r e f = record { within = f .within; before = λ k l. sym (e k (omega (arith, f .within))) ∙ f .before k l; found = λ l. sym (e r l) ∙ f .found l }
-
--- what holds is told
-holds-told : {P : Type 0} (b : Bool) → Tells P b → P → b ≡ true
-holds-told true t p = refl
-holds-told false t p = absurd (t p)
 
 module _ (ss es onward : List ℕ) (led : Led ss es onward) where
   leads : (i x : ℕ) → i < length ss → bit (getD onward i 0) x ≡ true → LeadsOn ss es i x
@@ -38,7 +32,7 @@ module _ (ss es onward : List ℕ) (led : Led ss es onward) where
 
   has : (i x : ℕ) → i < length ss → LeadsOn ss es i x → bit (getD onward i 0) x ≡ true
   unfolding Led
-  has i x l w = holds-told (bit (getD onward i 0) x) (led i x l) w
+  has i x l w = told-of (bit (getD onward i 0) x) (led i x l) w
 
   pub back-same : (i : ℕ) → i < length ss → leadsBack ss onward i ≡ comesBack ss es i
   unfolding Led
@@ -99,9 +93,9 @@ module _ (ss es onward : List ℕ) (led : Led ss es onward) where
         at b (yes l) lb n e m =
             let back : length ss - 1 - (length ss - 1 - b) ≡ b = omega arith in
             or-right (bit up a) (bit below a)
-            (holds-told (bit below a) (told-down a)
+            (told-of (bit below a) (told-down a)
             (length ss - 1 - a, length ss - 1 - b, omega arith, omega arith, omega arith, ap (λ (x : ℕ). getD ss x 0) back ∙ e, ap (λ (x : ℕ). meeting (getD onward x 0) (getD onward a 0)) back ∙ m))
-        at b (no g) lb n e m = or-left (bit up a) (bit below a) (holds-told (bit up a) (told-up a) (a, b, la, omega arith, refl, e, m))
+        at b (no g) lb n e m = or-left (bit up a) (bit below a) (told-of (bit up a) (told-up a) (a, b, la, omega arith, refl, e, m))
 
     -- and with where those start, the routes that begin a doubling
     module _ (low : Numbers ss es) (places : ℕ) (told-places : (x : ℕ) → Tells (StartsAt ss forks (length ss) x) (bit places x)) where
@@ -135,6 +129,6 @@ module _ (ss es onward : List ℕ) (led : Led ss es onward) where
               let small : getD ss a 0 < width = omega (arith, v .2, low .low-end (v .0) (v .1)) in
               or-right (bit forks i) (meeting (getD onward i 0) places)
               (meets-at (getD onward i 0) places (getD ss a 0) (has i (getD ss a 0) l w)
-              (holds-told (bit places (getD ss a 0)) (told-places (getD ss a 0)) (a, r .1, f, refl, small))))
+              (told-of (bit places (getD ss a 0)) (told-places (getD ss a 0)) (a, r .1, f, refl, small))))
               (λ z. or-left (bit forks i) (meeting (getD onward i 0) places) (subst (λ (k : ℕ). bit forks k ≡ true) (eqb-true a i z) f))
               (or-cases (reach ss es (length ss) i (getD ss a 0)) (eqb a i) (g .0))

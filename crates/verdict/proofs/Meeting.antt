@@ -1,28 +1,17 @@
 -- Bits beyond a mask, and masks that meet. Assumes nothing.
-use mathlib.Core.Path.{_≡_, refl, ap, _∙_}
+use mathlib.Core.Path.{_≡_, refl, ap}
 use mathlib.Core.Bool.{Bool, true, false}
-use Prim.Native.Nat.{ℕ, zero, suc, _/_, _%_, _^_, _<_, _≤_}
+use Prim.Native.Nat.{ℕ, _%_, _^_, _<_, _≤_}
 use native.Mathlib.Nat.{div-eq-of-lt}
 use native.Mathlib.Omega.{arith}
-use mathlib.Core.List.{List}
-use lib.ListN.{getD, replicate}
 use lib.Dec.{eqb}
 use lib.Pow.{pow-mono}
 use Rattle.masks.specs.Bit.{width, bit, meeting}
-use Rattle.masks.proofs.Bits.{bit-zero, meeting-some, meeting-none}
+use Rattle.masks.proofs.Bits.{meeting-some, meeting-none}
 
 pub bit-beyond : (m k : ℕ) → m < 2 ^ width → width ≤ k → bit m k ≡ false
 unfolding bit
 bit-beyond m k h l = ap (λ (x : ℕ). eqb (x % 2) 1) (div-eq-of-lt {m = 2 ^ k} (omega (arith, h, pow-mono {i = width} {j = k} l)))
-
--- masks without a bit
-pub bit-empty : (n x k : ℕ) → bit (getD (replicate n 0) x 0) k ≡ false
-bit-empty n x k = ap (λ (m : ℕ). bit m k) (empty n x) ∙ bit-zero k
-  where
-    empty : (n x : ℕ) → getD {A = ℕ} (replicate n 0) x 0 ≡ 0
-    empty zero x = refl
-    empty (suc n) zero = refl
-    empty (suc n) (suc x) = empty n x
 
 pub meets-at : (a b k : ℕ) → bit a k ≡ true → bit b k ≡ true → meeting a b ≡ true
 meets-at a b k x y = go (meeting a b) refl

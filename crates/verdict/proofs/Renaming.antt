@@ -1,5 +1,5 @@
 -- A verdict is the same whether routes join places or their numbers. Assumes nothing.
-use mathlib.Core.Path.{_≡_, refl, sym, ap, _∙_, subst}
+use mathlib.Core.Path.{_≡_, sym, ap, _∙_, subst}
 use Prim.Native.Nat.{ℕ, _+_, _-_, _<_, _≤_}
 use native.Mathlib.Omega.{arith}
 use mathlib.Core.List.{List, [], _∷_, _++_}
@@ -9,7 +9,7 @@ use Rattle.masks.specs.Bit.{width}
 use Rattle.numbering.specs.Numbers.{FirstAt, Numbered}
 use Rattle.numbering.proofs.Firsts.{numberOf, number-first}
 use Rattle.reach.specs.Led.{Numbers}
-use Rattle.chains.specs.Chain.{Walk, Chain, OnClosed, Doubling, BeginsDoubling, LoopFree, Single, IsSound}
+use Rattle.chains.specs.Chain.{Walk, Chain, OnClosed, Doubling, BeginsDoubling, LoopFree, Single}
 use Rattle.verdict.specs.Verdicts.{Judged}
 use Rattle.verdict.specs.declared.Verdict.{Verdict}
 use Rattle.verdict.specs.declared.Verdict.the-variants as verdict
