@@ -67,13 +67,15 @@ module _ (places slots : List ℕ) (i : ℕ) (laid : Laid places slots i) where
 
         go : (r : ℕ) × FirstAt places i r → FirstAt places i (key - 1) × Laid places slots (i + 1)
         go (r, f) =
-            let q : r ≡ key - 1 = omega (arith, key-is, again (key - 1) r before e f) in
-            (rw q at f, record {
-              long = laid .long;
-              low = λ x. omega (arith, laid .low x);
-              room = omega (arith, laid .room);
-              found = λ k r l. one k r (eq-or-lt-of-le (omega arith));
-            })
+            let q : r ≡ key - 1 = omega (arith, key-is, again (key - 1) r before e f) in (
+              rw q at f,
+              record {
+                long = laid .long;
+                low = λ x. omega (arith, laid .low x);
+                room = omega (arith, laid .room);
+                found = λ k r l. one k r (eq-or-lt-of-le (omega arith));
+              },
+            )
 
     module _ (z : key ≡ 0) where
       new : (m : ℕ) → m < i → getD places m 0 ≡ getD places i 0 → ⊥
@@ -115,12 +117,15 @@ module _ (places slots : List ℕ) (i : ℕ) (laid : Laid places slots i) where
 
       -- it is laid in the empty slot where its search stopped
       pub laid-new : at < slotCount → FirstAt places i i × Laid places more (i + 1)
-      laid-new b = (record { within = omega arith; same = refl; none-before = new }, record {
-        long = length-set slots at (i + 1) ∙ laid .long;
-        low = λ x. low x (ℕ-discrete x at);
-        room = omega (arith, laid .room, empties-set slots at (i + 1));
-        found = λ k r l. found k r (eq-or-lt-of-le (omega arith));
-      })
+      laid-new b = (
+        record { within = omega arith; same = refl; none-before = new },
+        record {
+          long = length-set slots at (i + 1) ∙ laid .long;
+          low = λ x. low x (ℕ-discrete x at);
+          room = omega (arith, laid .room, empties-set slots at (i + 1));
+          found = λ k r l. found k r (eq-or-lt-of-le (omega arith));
+        },
+      )
         where
           l : at < length slots
           l = omega (arith, laid .long)

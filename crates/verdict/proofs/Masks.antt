@@ -10,15 +10,16 @@ use lib.ListN.{length, getD}
 use lib.Dec.{eqb}
 use borrow.Author.Tests.{eqb-true, eqb-false, eq-eqb, ne-eqb, not-true}
 use Rattle.masks.specs.Bit.{width, bit, meeting}
-use Rattle.masks.proofs.Bits.{meeting-some}
+use Rattle.masks.proofs.Bits.{bit-zero, meeting-some}
 use Rattle.chains.specs.Chain.{LeadsOn}
 use Rattle.chains.specs.Tests.{Tells, any, First}
-use Rattle.chains.proofs.Bools.{or-cases, and-parts, or-left, or-right, and-both, same-test, told-yes, told-of, told-same}
+use Rattle.chains.proofs.Bools.{or-cases, and-parts, or-left, or-right, and-both, same-test, told-yes, told-of, told-same, true-false}
 use Rattle.chains.proofs.Reach.{reach, reach-leads, leads-reach, reach-tells}
 use Rattle.chains.proofs.Walks.{walk-last}
 use Rattle.chains.proofs.Loops.{comesBack}
 use Rattle.chains.proofs.Tests.{any-some, some-any, comesTo, meetAgain, fork, begins}
 use Rattle.reach.specs.Led.{Numbers, Led}
+use Rattle.reach.proofs.Growing.{more-bits}
 use Rattle.verdict.specs.Searches.{leadsBack, ForksEarlier, StartsAt, beginsBy}
 use Rattle.verdict.proofs.Meeting.{meets-at, meets-back}
 
@@ -57,6 +58,35 @@ module _ (ss es onward : List ℕ) (led : Led ss es onward) where
       let r = any-some (length ss) (both a b) e in
       let g = and-parts (reach ss es (length ss) a (getD es (r .0) 0)) (reach ss es (length ss) b (getD es (r .0) 0)) (r .2) in
       meets-at (getD onward a 0) (getD onward b 0) (getD es (r .0) 0) (has a _ la (reach-leads ss es a _ (g .0))) (has b _ lb (reach-leads ss es b _ (g .1)))
+
+  -- of two routes that fork the higher does so with one of an earlier turn upwards
+  module _ (up : ℕ) (told-up : (a : ℕ) → Tells (ForksEarlier ss onward false (length ss) a) (bit up a)) where
+    none-forks : up ≡ 0 → (a b : ℕ) → a < length ss → b < length ss → fork ss es a b ≡ true → ⊥
+    unfolding fork
+    none-forks z a b la lb h =
+        let g = and-parts (not (eqb a b) && eqb (getD ss a 0) (getD ss b 0)) (meetAgain ss es a b) h in
+        let k = and-parts (not (eqb a b)) (eqb (getD ss a 0) (getD ss b 0)) (g .0) in
+        let e = eqb-true _ _ (k .1) in
+        let m = same-meets a b la lb (g .1) in
+        go (decLe a b) (eqb-false a b (not-true (eqb a b) (k .0))) e m
+      where
+        no-bit : (x : ℕ) → ForksEarlier ss onward false (length ss) x → ⊥
+        no-bit x f = true-false (told-of (bit up x) (told-up x) f) (ap (λ (y : ℕ). bit y x) z ∙ bit-zero x)
+
+        go : Dec (a ≤ b) → (a ≡ b → ⊥) → getD ss a 0 ≡ getD ss b 0 → meeting (getD onward a 0) (getD onward b 0) ≡ true → ⊥
+        go (yes l) n e m = no-bit b (b, a, lb, omega arith, refl, e, m)
+        go (no g) n e m = no-bit a (a, b, la, omega arith, refl, sym e, meets-back (getD onward a 0) (getD onward b 0) m)
+
+    pub none-begins : up ≡ 0 → First (begins ss es) (length ss) (length ss)
+    unfolding begins
+    none-begins z = record { within = omega arith; before = λ i l. never i (begins ss es i) refl; found = λ l. absurd (omega arith) }
+      where
+        never : (i : ℕ) (b : Bool) → begins ss es i ≡ b → begins ss es i ≡ false
+        never i false e = e
+        never i true e =
+            let r = any-some (length ss) (λ a. comesTo ss es i a && any (length ss) (λ b. fork ss es a b)) e in
+            let s = any-some (length ss) (λ b. fork ss es (r .0) b) (and-parts (comesTo ss es i (r .0)) (any (length ss) (λ b. fork ss es (r .0) b)) (r .2) .1) in
+            absurd (none-forks z (r .0) (s .0) (r .1) (s .1) (s .2))
 
   -- the routes that fork with one of an earlier turn, upwards and downwards, are those that fork
   module _ (up below forks : ℕ) (told-up : (a : ℕ) → Tells (ForksEarlier ss onward false (length ss) a) (bit up a))
@@ -132,3 +162,16 @@ module _ (ss es onward : List ℕ) (led : Led ss es onward) where
               (told-of (bit places (getD ss a 0)) (told-places (getD ss a 0)) (a, r .1, f, refl, small))))
               (λ z. or-left (bit forks i) (meeting (getD onward i 0) places) (subst (λ (k : ℕ). bit forks k ≡ true) (eqb-true a i z) f))
               (or-cases (reach ss es (length ss) i (getD ss a 0)) (eqb a i) (g .0))
+
+      -- there is one where some route forks
+      pub some-begins : (r : ℕ) → (up ≡ 0 → ⊥) → First (beginsBy onward forks places) (length ss) r → r < length ss
+      some-begins r nz f = go (decLe (length ss) r)
+        where
+          no-bit : length ss ≤ r → (a : ℕ) → bit up a ≡ true → bit 0 a ≡ true
+          no-bit l a h =
+              let x : bit forks a ≡ true = either a ∙ or-left (bit up a) (bit below a) h in
+              absurd (true-false (or-left (bit forks a) (meeting (getD onward a 0) places) x) (f .before a (omega (arith, forks-is a x .0))))
+
+          go : Dec (length ss ≤ r) → r < length ss
+          go (yes l) = absurd (nz (omega (arith, more-bits up 0 (no-bit l))))
+          go (no n) = omega arith

@@ -113,12 +113,13 @@ fn judge_numbered(starts: &[u8], ends: &[u8]) -> Verdict
     if i < n {
         return Verdict::Loop(i);
     }
-    let forks = masks::both(forking(starts, &onward, false), forking(starts, &onward, true));
-    let j = first_doubling(&onward, forks, starts_of(starts, forks), n);
-    if j < n {
-        return Verdict::Doubling(j);
+    let up = forking(starts, &onward, false);
+    if up == 0 {
+        return Verdict::Sound;
     }
-    Verdict::Sound
+    let forks = masks::both(up, forking(starts, &onward, true));
+    let j = first_doubling(&onward, forks, starts_of(starts, forks), n);
+    Verdict::Doubling(j)
 }
 
 fn part(numbers: &[u8], first: usize, end: usize) -> &[u8]

@@ -1,7 +1,8 @@
 -- `verdict::judge_numbered` meets its contract: what the searches found over the masks is what there is to find over chains. Assumes nothing.
+use native.Mathlib.Omega.{arith}
 use Rattle.chains.proofs.Loops.{comesBack}
 use Rattle.chains.proofs.Tests.{begins}
-use Rattle.verdict.proofs.Masks.{first-same, back-same, begins-same}
+use Rattle.verdict.proofs.Masks.{first-same, back-same, none-begins, begins-same, some-begins}
 use Rattle.verdict.proofs.Once.{loop-found, no-loop, doubling-found, no-doubling}
 use borrow.Author.Needs.{needs}
 use borrow.Author.Needs.{needs}
@@ -32,6 +33,14 @@ slice-aggregate-forking c = search needs
 forking-requires : tie.Need-forking-requires
 forking-requires c κs = search needs
 
+returns-2 : tie.Need-returns-2
+returns-2 c =
+    let ss = c .before .before .before .before .before .before .before .before .before .before .before .args .starts .now in
+    let es = c .before .before .before .before .before .before .before .before .before .before .before .args .ends .now in
+    let led = c .before .before .before .before .before .before .before .fill .ensures in
+    let free = no-loop ss es _ (first-same _ (comesBack ss es) _ _ (back-same ss es _ led) (c .before .before .before .before .first-loop .ensures)) (c .before .before .before .if1 .left) in
+    no-doubling ss es free _ (none-begins ss es _ led _ (c .before .forking .ensures) (c .if2 .taken)) (omega arith)
+
 slice-aggregate-forking-2 : tie.Need-slice-aggregate-forking-2
 slice-aggregate-forking-2 c = search needs
 
@@ -50,23 +59,15 @@ starts-of-requires c κs = search needs
 first-doubling-requires : tie.Need-first-doubling-requires
 first-doubling-requires c κs = search needs
 
-returns-2 : tie.Need-returns-2
-returns-2 c =
-    let ss = c .before .before .before .before .before .before .before .before .before .before .before .before .before .before .before .before .before .args .starts .now in
-    let es = c .before .before .before .before .before .before .before .before .before .before .before .before .before .before .before .before .before .args .ends .now in
-    let led = c .before .before .before .before .before .before .before .before .before .before .before .before .before .fill .ensures in
-    let free = no-loop ss es _ (first-same _ (comesBack ss es) _ _ (back-same ss es _ led) (c .before .before .before .before .before .before .before .before .before .before .first-loop .ensures)) (c .before .before .before .before .before .before .before .before .before .if1 .left) in
-    let same = begins-same ss es _ led _ _ _ (c .before .before .before .before .before .before .before .forking .ensures) (c .before .before .before .before .before .forking2 .ensures) (c .before .before .before .before .both .ensures) (c .before .before .before .before .before .before .before .before .before .before .before .before .before .before .before .before .before .pre) _ (c .before .before .starts-of .ensures) in
-    doubling-found ss es free _ (first-same _ (begins ss es) _ _ same (c .before .first-doubling .ensures)) (c .if2 .taken)
-
 returns-3 : tie.Need-returns-3
 returns-3 c =
     let ss = c .before .before .before .before .before .before .before .before .before .before .before .before .before .before .before .before .before .args .starts .now in
     let es = c .before .before .before .before .before .before .before .before .before .before .before .before .before .before .before .before .before .args .ends .now in
     let led = c .before .before .before .before .before .before .before .before .before .before .before .before .before .fill .ensures in
     let free = no-loop ss es _ (first-same _ (comesBack ss es) _ _ (back-same ss es _ led) (c .before .before .before .before .before .before .before .before .before .before .first-loop .ensures)) (c .before .before .before .before .before .before .before .before .before .if1 .left) in
-    let same = begins-same ss es _ led _ _ _ (c .before .before .before .before .before .before .before .forking .ensures) (c .before .before .before .before .before .forking2 .ensures) (c .before .before .before .before .both .ensures) (c .before .before .before .before .before .before .before .before .before .before .before .before .before .before .before .before .before .pre) _ (c .before .before .starts-of .ensures) in
-    no-doubling ss es free _ (first-same _ (begins ss es) _ _ same (c .before .first-doubling .ensures)) (c .if2 .left)
+    let same = begins-same ss es _ led _ _ _ (c .before .before .before .before .before .before .before .forking .ensures) (c .before .before .before .before .forking2 .ensures) (c .before .before .before .both .ensures) (c .before .before .before .before .before .before .before .before .before .before .before .before .before .before .before .before .before .pre) _ (c .before .starts-of .ensures) in
+    let found = some-begins ss es _ led _ _ _ (c .before .before .before .before .before .before .before .forking .ensures) (c .before .before .before .before .forking2 .ensures) (c .before .before .before .both .ensures) (c .before .before .before .before .before .before .before .before .before .before .before .before .before .before .before .before .before .pre) _ (c .before .starts-of .ensures) _ (c .before .before .before .before .before .before .if2 .left) (c .first-doubling .ensures) in
+    doubling-found ss es free _ (first-same _ (begins ss es) _ _ same (c .first-doubling .ensures)) found
 
 pub judge-numbered-spec : {M : Type 1} → statement M
 judge-numbered-spec =
@@ -79,11 +80,11 @@ judge-numbered-spec =
     returns
     slice-aggregate-forking
     forking-requires
+    returns-2
     slice-aggregate-forking-2
     forking-requires-2
     both-requires
     slice-aggregate-first-doubling
     starts-of-requires
     first-doubling-requires
-    returns-2
     returns-3)
