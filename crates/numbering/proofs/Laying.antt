@@ -13,7 +13,7 @@ use lib.Dec.{eqb}
 use borrow.Author.Count.{below-more}
 use borrow.Author.Tests.{eqb-true, eq-eqb, ne-eqb}
 use Rattle.numbering.specs.Numbers.{FirstAt, Numbered}
-use Rattle.numbering.specs.Slots.{slotCount, slotOf, stopsAt, seekFrom, seekEnd, Laid}
+use Rattle.numbering.specs.Slots.{slotCount, slotOf, stopsAt, seekFrom, seekEnd, Stops, Laid}
 use Rattle.numbering.proofs.Empties.{empties-set, empties-all}
 use Rattle.numbering.proofs.Firsts.{first-at, first-moved}
 
@@ -47,16 +47,19 @@ module _ (places slots : List ℕ) (i : ℕ) (laid : Laid places slots i) where
   again : (m r : ℕ) → m < i → getD places m 0 ≡ getD places i 0 → FirstAt places i r → getD slots (seekEnd places slots (getD places i 0)) 0 ≡ r + 1
   again m r l e f = ap (λ (p : ℕ). getD slots (seekEnd places slots p) 0) (sym e) ∙ laid .found m r l (first-moved places i m r f e)
 
-  module _ (at key : ℕ) (ends : at ≡ seekEnd places slots (getD places i 0)) (is : key ≡ getD slots at 0) where
+  module _ (at key place : ℕ) (here : place ≡ getD places i 0) (stop : Stops places slots place at) (is : key ≡ getD slots at 0) where
+    ends : at ≡ seekEnd places slots (getD places i 0)
+    ends = stop .end ∙ ap (seekEnd places slots) here
+
     key-is : key ≡ getD slots (seekEnd places slots (getD places i 0)) 0
     key-is = is ∙ ap (λ (x : ℕ). getD slots x 0) ends
 
     -- its slot holds where it stands first
-    pub laid-met : (key ≡ 0 → ⊥) → stopsAt places slots (getD places i 0) at ≡ true → FirstAt places i (key - 1) × Laid places slots (i + 1)
-    laid-met nz stops = go (first-at places i)
+    pub laid-met : (key ≡ 0 → ⊥) → FirstAt places i (key - 1) × Laid places slots (i + 1)
+    laid-met nz = go (first-at places i)
       where
         e : getD places (key - 1) 0 ≡ getD places i 0
-        e = ap (λ (k : ℕ). getD places (k - 1) 0) is ∙ eqb-true _ _ (sym (rw (ne-eqb (getD slots at 0) 0 (λ z. nz (is ∙ z)))) ∙ stops)
+        e = ap (λ (k : ℕ). getD places (k - 1) 0) is ∙ eqb-true _ _ (sym (rw (ne-eqb (getD slots at 0) 0 (λ z. nz (is ∙ z)))) ∙ stop .stops) ∙ here
 
         before : key - 1 < i
         before = omega (arith, laid .low at, is, nz)
@@ -116,8 +119,8 @@ module _ (places slots : List ℕ) (i : ℕ) (laid : Laid places slots i) where
       end-same place h l = same-end place slotCount (slotOf place) h l
 
       -- it is laid in the empty slot where its search stopped
-      pub laid-new : at < slotCount → FirstAt places i i × Laid places more (i + 1)
-      laid-new b = (
+      pub laid-new : FirstAt places i i × Laid places more (i + 1)
+      laid-new = (
         record { within = omega arith; same = refl; none-before = new },
         record {
           long = length-set slots at (i + 1) ∙ laid .long;
@@ -128,7 +131,7 @@ module _ (places slots : List ℕ) (i : ℕ) (laid : Laid places slots i) where
       )
         where
           l : at < length slots
-          l = omega (arith, laid .long)
+          l = omega (arith, laid .long, stop .low)
 
           low : (x : ℕ) → Dec (x ≡ at) → getD more x 0 ≤ i + 1
           low x (yes q) = omega (arith, ap (λ (y : ℕ). getD more y 0) q, getD-set-same slots at (i + 1) 0 l)

@@ -8,7 +8,7 @@ use lib.ListN.{getD}
 use lib.Dec.{eqb}
 use borrow.Author.Count.{below-more}
 use borrow.Author.Tests.{eq-eqb, ne-eqb}
-use Rattle.numbering.specs.Slots.{slotCount, slotOf, stopsAt, seekFrom, seekEnd, Laid}
+use Rattle.numbering.specs.Slots.{slotCount, slotOf, stopsAt, seekFrom, seekEnd, Stops, Laid}
 use Rattle.numbering.proofs.Empties.{empties-none}
 
 module _ (places slots : List ℕ) (place : ℕ) where
@@ -46,14 +46,14 @@ module _ (places slots : List ℕ) (place : ℕ) where
       one : seekFrom places slots place (suc (slotCount - (tries + 1))) at ≡ seekEnd places slots place
       one = let e : slotCount - tries ≡ suc (slotCount - (tries + 1)) = omega arith in ap (λ (t : ℕ). seekFrom places slots place t at) (sym e) ∙ inv .rest
 
-      stop : stopsAt places slots place at ≡ true → (at ≡ seekEnd places slots place) × (at < slotCount) × (stopsAt places slots place at ≡ true)
+      stop : stopsAt places slots place at ≡ true → Stops places slots place at
       unfolding seekFrom
-      stop s = ((rw s at one), inv .low, s)
+      stop s = record { end = rw s at one; low = inv .low; stops = s }
 
-      pub seeking-empty : (key : ℕ) → key ≡ getD slots at 0 → key ≡ 0 → (at ≡ seekEnd places slots place) × (at < slotCount) × (stopsAt places slots place at ≡ true)
+      pub seeking-empty : (key : ℕ) → key ≡ getD slots at 0 → key ≡ 0 → Stops places slots place at
       seeking-empty key is z = stop (rw (eq-eqb (getD slots at 0) 0 (sym is ∙ z)) refl)
 
-      pub seeking-met : (key : ℕ) → key ≡ getD slots at 0 → getD places (key - 1) 0 ≡ place → (at ≡ seekEnd places slots place) × (at < slotCount) × (stopsAt places slots place at ≡ true)
+      pub seeking-met : (key : ℕ) → key ≡ getD slots at 0 → getD places (key - 1) 0 ≡ place → Stops places slots place at
       seeking-met key is e =
           stop
           (ap (λ (b : Bool). eqb (getD slots at 0) 0 || b) (eq-eqb (getD places (getD slots at 0 - 1) 0) place (ap (λ (k : ℕ). getD places (k - 1) 0) (sym is) ∙ e))

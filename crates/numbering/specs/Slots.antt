@@ -2,7 +2,7 @@
 -- Assumes nothing: these are definitions.
 use mathlib.Core.Path.{_≡_}
 use Prim.Native.Nat.{ℕ, zero, suc, _+_, _-_, _*_, _/_, _%_, _<_, _≤_}
-use mathlib.Core.Bool.{Bool, _||_, cond}
+use mathlib.Core.Bool.{Bool, true, _||_, cond}
 use mathlib.Core.List.{List, [], _∷_}
 use lib.ListN.{length, getD}
 use lib.Dec.{eqb}
@@ -28,6 +28,12 @@ module _ (places slots : List ℕ) (place : ℕ) where
 
   unfoldable pub seekEnd : ℕ
   seekEnd = seekFrom slotCount (slotOf place)
+
+  -- the search stops at slot r
+  pub record Stops (r : ℕ) : Type 0 where
+    pub end : r ≡ seekEnd
+    pub low : r < slotCount
+    pub stops : stopsAt r ≡ true
 
 -- how many slots are empty
 unfoldable pub empties : List ℕ → ℕ

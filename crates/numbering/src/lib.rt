@@ -1,12 +1,11 @@
 // Numbers for the places of a table of routes: in the column of the places where routes lead to, and then of those where they
 // start, a place's number is the index where it stands first. Places are looked for in a table of slots, so one pass numbers all.
 ghost use mathlib.Core.Path.{_≡_};
-ghost use mathlib.Core.Bool.{true};
 ghost use Prim.Native.Nat.{_+_, _<_, _≤_};
 ghost use lib.ListN.{length, getD};
 ghost use mathlib.Core.List.{_++_};
 ghost use Rattle.numbering.specs.Numbers.{FirstAt, Numbered};
-ghost use Rattle.numbering.specs.Slots.{slotCount, slotOf, seekEnd, stopsAt, Laid};
+ghost use Rattle.numbering.specs.Slots.{slotCount, slotOf, Stops, Laid};
 
 // How many slots places are spread over.
 const SLOTS: usize = 256;
@@ -39,7 +38,7 @@ fn place_at(tos: &[u32], froms: &[u32], x: usize) -> u32
 // The slot of a place: from where its search begins the first that holds the place or is empty. `i` places are laid.
 fn seek(tos: &[u32], froms: &[u32], slots: &[u8], i: usize, place: u32) -> usize
     requires { ⌜ Laid (now tos ++ now froms) (now slots) i × (i ≤ length (now tos) + length (now froms)) × (i < slotCount) ⌝ }
-    ensures { λ r. ⌜ (r ≡ seekEnd (now (tos .entry) ++ now (froms .entry)) (now (slots .entry)) place) × (r < slotCount) × (stopsAt (now (tos .entry) ++ now (froms .entry)) (now (slots .entry)) place r ≡ true) ⌝ }
+    ensures { λ r. ⌜ Stops (now (tos .entry) ++ now (froms .entry)) (now (slots .entry)) place r ⌝ }
 {
     let mut at = slot_of(place);
     let mut tries: usize = 0;

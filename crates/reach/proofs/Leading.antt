@@ -16,7 +16,7 @@ use Rattle.chains.specs.Chain.{Walk, LeadsOn}
 use Rattle.chains.specs.Tests.{Tells}
 use Rattle.chains.proofs.Bools.{true-false, or-cases, or-left, or-right, test-tells}
 use Rattle.reach.specs.Led.{Led}
-use Rattle.reach.specs.Handing.{Real, HandedOn}
+use Rattle.reach.specs.Handing.{Real, Settled}
 use Rattle.reach.proofs.Handed.{as-walk}
 
 -- empty masks have no bit
@@ -33,23 +33,23 @@ module _ (starts ends : List ℕ) where
   unfolding Real
   real-start n x y h = absurd (true-false h (bit-empty n x y))
 
-  module _ (m : List ℕ) (real : Real starts ends m) (all : (j : ℕ) → j < length starts → HandedOn starts ends m j) where
+  module _ (m : List ℕ) (is : Settled starts ends m) where
     -- where a walk goes from the end of route i is among what the route hands on
     told : (i : ℕ) (c : List ℕ) (x : ℕ) → Walk starts ends (getD ends i 0) c x → bit (getD m (getD ends i 0) 0) x || eqb x (getD ends i 0) ≡ true
     told i [] x w = or-right (bit (getD m (getD ends i 0) 0) x) (eqb x (getD ends i 0)) (eq-eqb _ _ (sym w))
     told i (j ∷ c) x (l, f, w) =
         or-left (bit (getD m (getD ends i 0) 0) x) (eqb x (getD ends i 0))
-        (subst (λ (p : ℕ). bit (getD m p 0) x ≡ true) f (all j l x (told j c x w)))
+        (subst (λ (p : ℕ). bit (getD m p 0) x ≡ true) f (is .handed j l x (told j c x w)))
 
     leads : (i x : ℕ) → bit (getD m (getD ends i 0) 0) x || eqb x (getD ends i 0) ≡ true → LeadsOn starts ends i x
     unfolding Real
     leads i x h =
-        ⊎-elim (λ b. let r = real (getD ends i 0) x b in (r .0, as-walk starts ends (getD ends i 0) (r .0) x (r .1))) (λ b. ([], sym (eqb-true _ _ b)))
+        ⊎-elim (λ b. let r = is .real (getD ends i 0) x b in (r .0, as-walk starts ends (getD ends i 0) (r .0) x (r .1))) (λ b. ([], sym (eqb-true _ _ b)))
         (or-cases (bit (getD m (getD ends i 0) 0) x) (eqb x (getD ends i 0)) h)
 
     pub tells-one : (i e w : ℕ) → e ≡ getD ends i 0 → ((k : ℕ) → bit w k ≡ bit (getD m e 0) k || eqb k e) → (x : ℕ) → Tells (LeadsOn starts ends i x) (bit w x)
-    tells-one i e w is bits x =
-        let same : bit w x ≡ (bit (getD m (getD ends i 0) 0) x || eqb x (getD ends i 0)) = bits x ∙ ap (λ (y : ℕ). bit (getD m y 0) x || eqb x y) is in
+    tells-one i e w end bits x =
+        let same : bit w x ≡ (bit (getD m (getD ends i 0) 0) x || eqb x (getD ends i 0)) = bits x ∙ ap (λ (y : ℕ). bit (getD m y 0) x || eqb x y) end in
         test-tells (bit w x) (λ h. leads i x (sym same ∙ h)) (λ l. same ∙ told i (l .0) x (l .1))
 
 -- the masks of the first i routes say it

@@ -22,6 +22,11 @@ module _ (starts ends : List ℕ) where
   abbrev pub HandedOn : List ℕ → ℕ → Type 0
   HandedOn masks j = (k : ℕ) → bit (getD masks (getD ends j 0) 0) k || eqb k (getD ends j 0) ≡ true → bit (getD masks (getD starts j 0) 0) k ≡ true
 
+  -- the masks are real, and all routes have handed on
+  pub record Settled (masks : List ℕ) : Type 0 where
+    pub real : Real masks
+    pub handed : (j : ℕ) → j < length starts → HandedOn masks j
+
   -- some routes handed on: what the masks have got is real; and where nothing was new, these routes had handed on before
   pub record Handing (Some : ℕ → Type 0) (old now : List ℕ) (new : Bool) : Type 0 where
     pub long : length now ≡ length old

@@ -8,12 +8,20 @@ use Rattle.masks.specs.Bit.{width, bit}
 use Rattle.chains.specs.Chain.{LeadsOn}
 use Rattle.chains.specs.Tests.{Tells}
 
--- a table of routes between numbered places: a number that a route leads to has a bit in a mask
+-- numbers where routes start: there are at most as many as there are places in a table
+pub record Starts (starts : List ℕ) : Type 0 where
+  pub few : length starts ≤ width
+  pub low : (j : ℕ) → j < length starts → getD starts j 0 < 2 * width
+
+-- numbers that routes lead to: a mask can have each
+pub record Ends (ends : List ℕ) : Type 0 where
+  pub low : (j : ℕ) → j < length ends → getD ends j 0 < width
+
+-- a table of routes between numbered places
 pub record Numbers (starts ends : List ℕ) : Type 0 where
   pub same : length starts ≡ length ends
-  pub few : length starts ≤ width
-  pub low-start : (j : ℕ) → j < length starts → getD starts j 0 < 2 * width
-  pub low-end : (j : ℕ) → j < length starts → getD ends j 0 < width
+  pub from : Starts starts
+  pub to : Ends ends
 
 -- mask i says of each number whether route i leads on to it
 unfoldable pub Led : List ℕ → List ℕ → List ℕ → Type 0

@@ -1,26 +1,42 @@
 // Which places each route leads on to, for a table of routes between numbered places: each number has a mask of the numbers that
 // chains lead to from it, and routes hand on what they lead to until nothing is new.
 ghost use mathlib.Core.Path.{_≡_};
-ghost use Prim.Native.Nat.{ℕ, _*_, _<_, _≤_};
+ghost use Prim.Native.Nat.{_*_, _<_, _≤_};
 ghost use lib.ListN.{length, getD};
 ghost use Rattle.masks.specs.Bit.{width};
-ghost use Rattle.reach.specs.Led.{Numbers, Led, turn};
-ghost use Rattle.reach.specs.Handing.{Real, HandedOn, Handing};
+ghost use Rattle.reach.specs.Led.{Starts, Ends, Numbers, Led, turn};
+ghost use Rattle.reach.specs.Handing.{Real, Handing, Settled};
 use masks::WIDTH;
 
 // How many numbers there are.
 pub const NUMBERS: usize = 128;
 
-pub fn wide(x: u8) -> usize
+fn wide(x: u8) -> usize
     ensures { λ r. ⌜ r ≡ x ⌝ }
 {
     x as usize
 }
 
+// The number where route j starts.
+pub fn start_of(starts: &[u8], j: usize) -> usize
+    requires { ⌜ Starts (now starts) × (j < length (now starts)) ⌝ }
+    ensures { λ r. ⌜ (r ≡ getD (now (starts .entry)) j 0) × (r < 2 * width) ⌝ }
+{
+    wide(starts[j])
+}
+
+// The number that route j leads to, which a mask can have.
+fn end_of(ends: &[u8], j: usize) -> usize
+    requires { ⌜ Ends (now ends) × (j < length (now ends)) ⌝ }
+    ensures { λ r. ⌜ (r ≡ getD (now (ends .entry)) j 0) × (r < width) ⌝ }
+{
+    wide(ends[j])
+}
+
 // The route at turn t, where all are passed upwards or downwards.
 pub fn nth(t: usize, n: usize, down: bool) -> usize
     requires { ⌜ t < n ⌝ }
-    ensures { λ r. ⌜ r ≡ turn n down t ⌝ }
+    ensures { λ r. ⌜ (r ≡ turn n down t) × (r < n) ⌝ }
 {
     if down {
         return n - 1 - t;
@@ -33,8 +49,8 @@ fn hand(starts: &[u8], ends: &[u8], j: usize, masks: &mut [u64]) -> bool
     requires { ⌜ Numbers (now starts) (now ends) × (j < length (now starts)) × (length (now masks) ≡ 2 * width) ⌝ }
     ensures { λ r. ⌜ Handing (now (starts .entry)) (now (ends .entry)) (λ i. i ≡ j) (now (masks .entry)) (now (masks .exit)) r ⌝ }
 {
-    let end = wide(ends[j]);
-    let start = wide(starts[j]);
+    let end = end_of(ends, j);
+    let start = start_of(starts, j);
     let had = masks[start];
     let has = masks::both(had, masks::with(masks[end], end as u32));
     masks[start] = has;
@@ -59,7 +75,7 @@ fn pass(starts: &[u8], ends: &[u8], down: bool, masks: &mut [u64]) -> bool
 // Passes down and up in turn until nothing is new. A table in book order takes two.
 fn settle(starts: &[u8], ends: &[u8], masks: &mut [u64])
     requires { ⌜ Numbers (now starts) (now ends) × (length (now masks) ≡ 2 * width) × Real (now starts) (now ends) (now masks) ⌝ }
-    ensures { λ _. ⌜ Real (now (starts .entry)) (now (ends .entry)) (now (masks .exit)) × ((j : ℕ) → j < length (now (starts .entry)) → HandedOn (now (starts .entry)) (now (ends .entry)) (now (masks .exit)) j) ⌝ }
+    ensures { λ _. ⌜ Settled (now (starts .entry)) (now (ends .entry)) (now (masks .exit)) ⌝ }
 {
     let mut down = true;
     let mut new = true;
@@ -78,7 +94,7 @@ pub fn fill(starts: &[u8], ends: &[u8], onward: &mut [u64])
     settle(starts, ends, &mut masks);
     let mut i: usize = 0;
     while i < starts.len() {
-        let end = wide(ends[i]);
+        let end = end_of(ends, i);
         onward[i] = masks::with(masks[end], end as u32);
         i += 1;
     }

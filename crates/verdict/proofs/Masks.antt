@@ -156,7 +156,7 @@ module _ (ss es onward : List ℕ) (led : Led ss es onward) where
               ⊎-elim
               (λ z. let w = reach-leads ss es i (getD ss a 0) z in
               let v = walk-last ss es (getD ss i 0) i (w .0) (getD ss a 0) (l, refl, w .1) in
-              let small : getD ss a 0 < width = omega (arith, v .2, low .low-end (v .0) (v .1)) in
+              let small : getD ss a 0 < width = omega (arith, v .2, low .to .low (v .0) (omega (arith, v .1, low .same))) in
               or-right (bit forks i) (meeting (getD onward i 0) places)
               (meets-at (getD onward i 0) places (getD ss a 0) (has i (getD ss a 0) l w)
               (told-of (bit places (getD ss a 0)) (told-places (getD ss a 0)) (a, r .1, f, refl, small))))

@@ -80,9 +80,8 @@ module _ (fs ts numbers starts ends : List ℕ) (same : length fs ≡ length ts)
   pub low-numbers : n ≤ width → Numbers starts ends
   low-numbers few = record {
     same = omega (arith, start-count, end-count);
-    few = omega (arith, start-count);
-    low-start = λ j l. let k : j < n = omega (arith, start-count) in omega (arith, start-at j k .within);
-    low-end = λ j l. let k : j < n = omega (arith, start-count) in omega (arith, end-at j k .within);
+    from = record { few = omega (arith, start-count); low = λ j l. let k : j < n = omega (arith, start-count) in omega (arith, start-at j k .within) };
+    to = record { low = λ j l. let k : j < n = omega (arith, end-count) in omega (arith, end-at j k .within) };
   }
 
   renames-places : Renames fs ts starts ends (numberOf (ts ++ fs))

@@ -1,16 +1,11 @@
 -- What the searches over the masks of `reach` look for. Assumes nothing: these are definitions.
 use mathlib.Core.Path.{_≡_}
 use mathlib.Core.Bool.{Bool, true, _||_}
-use Prim.Native.Nat.{ℕ, _*_, _<_, _≤_}
+use Prim.Native.Nat.{ℕ, _<_}
 use mathlib.Core.List.{List}
 use lib.ListN.{length, getD}
 use Rattle.masks.specs.Bit.{width, bit, meeting}
 use Rattle.reach.specs.Led.{turn}
-
--- so few routes and such low numbers have masks
-pub record Low (starts : List ℕ) : Type 0 where
-  pub few : length starts ≤ width
-  pub low : (j : ℕ) → j < length starts → getD starts j 0 < 2 * width
 
 -- route i leads on to where it starts
 abbrev pub leadsBack : List ℕ → List ℕ → ℕ → Bool

@@ -6,8 +6,8 @@ ghost use lib.ListN.{length, take, drop};
 ghost use Rattle.chains.specs.Chain.{IsSound};
 ghost use Rattle.chains.specs.Tests.{Tells, First};
 ghost use Rattle.masks.specs.Bit.{width, bit};
-ghost use Rattle.reach.specs.Led.{Numbers};
-ghost use Rattle.verdict.specs.Searches.{Low, leadsBack, ForksEarlier, StartsAt, beginsBy};
+ghost use Rattle.reach.specs.Led.{Starts, Numbers};
+ghost use Rattle.verdict.specs.Searches.{leadsBack, ForksEarlier, StartsAt, beginsBy};
 ghost use Rattle.verdict.specs.Verdicts.{Judged};
 use masks::WIDTH;
 use reach::NUMBERS;
@@ -34,12 +34,12 @@ fn among(mask: u64, number: usize) -> bool
 
 // The first route that leads on to where it starts, or n.
 fn first_loop(starts: &[u8], onward: &[u64]) -> usize
-    requires { ⌜ (length (now starts) ≤ width) × (length (now starts) ≤ length (now onward)) ⌝ }
+    requires { ⌜ Starts (now starts) × (length (now starts) ≤ length (now onward)) ⌝ }
     ensures { λ r. ⌜ First (leadsBack (now (starts .entry)) (now (onward .entry))) (length (now (starts .entry))) r ⌝ }
 {
     let mut i: usize = 0;
     while i < starts.len() {
-        if among(onward[i], reach::wide(starts[i])) {
+        if among(onward[i], reach::start_of(starts, i)) {
             return i;
         }
         i += 1;
@@ -49,7 +49,7 @@ fn first_loop(starts: &[u8], onward: &[u64]) -> usize
 
 // The routes that fork with one of an earlier turn: both start at one place and lead on to one place.
 fn forking(starts: &[u8], onward: &[u64], down: bool) -> u64
-    requires { ⌜ Low (now starts) × (length (now starts) ≤ length (now onward)) ⌝ }
+    requires { ⌜ Starts (now starts) × (length (now starts) ≤ length (now onward)) ⌝ }
     ensures { λ r. ⌜ ((a : ℕ) → Tells (ForksEarlier (now (starts .entry)) (now (onward .entry)) down (length (now (starts .entry))) a) (bit r a)) ⌝ }
 {
     let n = starts.len();
@@ -58,7 +58,7 @@ fn forking(starts: &[u8], onward: &[u64], down: bool) -> u64
     let mut t: usize = 0;
     while t < n {
         let a = reach::nth(t, n, down);
-        let start = reach::wide(starts[a]);
+        let start = reach::start_of(starts, a);
         let earlier = seen[start];
         if masks::meet(earlier, onward[a]) {
             forks = masks::with(forks, a as u32);
@@ -71,13 +71,13 @@ fn forking(starts: &[u8], onward: &[u64], down: bool) -> u64
 
 // The numbers at which routes of the mask start, of those that a mask can have.
 fn starts_of(starts: &[u8], routes: u64) -> u64
-    requires { ⌜ length (now starts) ≤ width ⌝ }
+    requires { ⌜ Starts (now starts) ⌝ }
     ensures { λ r. ⌜ ((x : ℕ) → Tells (StartsAt (now (starts .entry)) routes (length (now (starts .entry))) x) (bit r x)) ⌝ }
 {
     let mut at: u64 = 0;
     let mut a: usize = 0;
     while a < starts.len() {
-        let start = reach::wide(starts[a]);
+        let start = reach::start_of(starts, a);
         if masks::has(routes, a as u32) & (start < WIDTH) {
             at = masks::with(at, start as u32);
         }

@@ -30,7 +30,12 @@ same-length : tie.Need-same-length
 same-length c = search needs
 
 returns : tie.Need-returns
-returns c = laid-new _ _ _ (c .before .before .before .before .before .before .before .before .before .pre .0) _ _ (rw (c .before .before .before .before .place-at .ensures) at (c .before .before .before .seek .ensures .0)) (c .before .wide .ensures .0) (c .if1 .taken) (c .before .before .before .seek .ensures .1)
+returns c =
+    let at-wide = c .before .wide in
+    let at-seek = c .before .before .before .seek in
+    let at-place-at = c .before .before .before .before .place-at in
+    let at-pre = c .before .before .before .before .before .before .before .before .before .pre in
+    laid-new _ _ _ (at-pre .0) _ _ _ (at-place-at .ensures) (at-seek .ensures) (at-wide .ensures .0) (c .if1 .taken)
 
 sub-result : tie.Need-sub-result
 sub-result c = search needs
@@ -39,7 +44,12 @@ same-length-2 : tie.Need-same-length-2
 same-length-2 c = search needs
 
 returns-2 : tie.Need-returns-2
-returns-2 c = laid-met _ _ _ (c .before .before .before .before .before .before .before .before .before .pre .0) _ _ (rw (c .before .before .before .before .place-at .ensures) at (c .before .before .before .seek .ensures .0)) (c .before .wide .ensures .0) (c .if1 .left) (rw (c .before .before .before .before .place-at .ensures) at (c .before .before .before .seek .ensures .2))
+returns-2 c =
+    let at-wide = c .before .wide in
+    let at-seek = c .before .before .before .seek in
+    let at-place-at = c .before .before .before .before .place-at in
+    let at-pre = c .before .before .before .before .before .before .before .before .before .pre in
+    laid-met _ _ _ (at-pre .0) _ _ _ (at-place-at .ensures) (at-seek .ensures) (at-wide .ensures .0) (c .if1 .left)
 
 pub enter-spec : {M : Type 1} → statement M
 enter-spec =

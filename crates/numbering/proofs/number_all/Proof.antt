@@ -39,13 +39,21 @@ loop-less : tie.Need-loop-less Inv-loop μ-loop
 loop-less c = search needs
 
 loop-again : tie.Need-loop-again Inv-loop μ-loop
-loop-again c = numbering-more _ _ _ _ _ _ (c .before .before .before .before .loop .inv) (c .before .before .before .loop-test .taken) (omega (arith, c .before .before .before .before .loop .inv .long, c .before .before .before .before .before .before .before .before .pre, c .before .before .before .loop-test .taken)) _ _ (c .before .enter .ensures .0) (c .before .enter .ensures .1)
+loop-again c =
+    let at-enter = c .before .enter in
+    let at-loop-test = c .before .before .before .loop-test in
+    let at-loop = c .before .before .before .before .loop in
+    let at-pre = c .before .before .before .before .before .before .before .before .pre in
+    numbering-more _ _ _ _ _ _ (at-loop .inv) (at-loop-test .taken) (omega (arith, at-loop .inv .long, at-pre, at-loop-test .taken)) _ _ (at-enter .ensures .0) (at-enter .ensures .1)
 
 same-length : tie.Need-same-length Inv-loop μ-loop
 same-length c = search needs
 
 returns : tie.Need-returns Inv-loop μ-loop
-returns c = numbering-end _ _ _ _ _ _ (c .before .loop .inv) (omega (arith, length-append (c .before .before .before .before .before .args .tos .now) (c .before .before .before .before .before .args .froms .now))) (c .loop-test .left)
+returns c =
+    let at-loop = c .before .loop in
+    let at-args = c .before .before .before .before .before .args in
+    numbering-end _ _ _ _ _ _ (at-loop .inv) (omega (arith, length-append (at-args .tos .now) (at-args .froms .now))) (c .loop-test .left)
 
 pub number-all-spec : {M : Type 1} → statement M
 number-all-spec =

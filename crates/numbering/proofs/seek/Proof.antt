@@ -28,16 +28,29 @@ wide-requires : tie.Need-wide-requires Inv-loop μ-loop
 wide-requires c κs = search needs
 
 returns : tie.Need-returns Inv-loop μ-loop
-returns c = seeking-empty _ _ _ _ _ (c .before .before .before .before .loop .inv) (c .before .before .before .loop-test .taken) _ (c .before .wide .ensures .0) (c .if1 .taken)
+returns c =
+    let at-wide = c .before .wide in
+    let at-loop-test = c .before .before .before .loop-test in
+    let at-loop = c .before .before .before .before .loop in
+    seeking-empty _ _ _ _ _ (at-loop .inv) (at-loop-test .taken) _ (at-wide .ensures .0) (c .if1 .taken)
 
 sub-place-at : tie.Need-sub-place-at Inv-loop μ-loop
 sub-place-at c = search needs
 
 place-at-requires : tie.Need-place-at-requires Inv-loop μ-loop
-place-at-requires c κs = omega (arith, c .before .wide .ensures .0, c .before .before .before .before .before .before .before .before .before .pre .0 .low (c .before .before .before .before .loop .at), c .before .before .before .before .before .before .before .before .before .pre .1, c .if1 .left)
+place-at-requires c κs =
+    let at-wide = c .before .wide in
+    let at-loop = c .before .before .before .before .loop in
+    let at-pre = c .before .before .before .before .before .before .before .before .before .pre in
+    omega (arith, at-wide .ensures .0, at-pre .0 .low (at-loop .at), at-pre .1, c .if1 .left)
 
 returns-2 : tie.Need-returns-2 Inv-loop μ-loop
-returns-2 c = seeking-met _ _ _ _ _ (c .before .before .before .before .before .before .loop .inv) (c .before .before .before .before .before .loop-test .taken) _ (c .before .before .before .wide .ensures .0) (sym (c .before .place-at .ensures) ∙ c .if2 .taken)
+returns-2 c =
+    let at-place-at = c .before .place-at in
+    let at-wide = c .before .before .before .wide in
+    let at-loop-test = c .before .before .before .before .before .loop-test in
+    let at-loop = c .before .before .before .before .before .before .loop in
+    seeking-met _ _ _ _ _ (at-loop .inv) (at-loop-test .taken) _ (at-wide .ensures .0) (sym (at-place-at .ensures) ∙ c .if2 .taken)
 
 add-at : tie.Need-add-at Inv-loop μ-loop
 add-at c = search needs
@@ -49,10 +62,19 @@ loop-less : tie.Need-loop-less Inv-loop μ-loop
 loop-less c = search needs
 
 loop-again : tie.Need-loop-again Inv-loop μ-loop
-loop-again c = seeking-on _ _ _ _ _ (c .before .before .before .before .before .before .loop .inv) (c .before .before .before .before .before .loop-test .taken) _ (c .before .before .before .wide .ensures .0) (c .before .before .if1 .left) (λ e. c .if2 .left (c .before .place-at .ensures ∙ e))
+loop-again c =
+    let at-place-at = c .before .place-at in
+    let at-if1 = c .before .before .if1 in
+    let at-wide = c .before .before .before .wide in
+    let at-loop-test = c .before .before .before .before .before .loop-test in
+    let at-loop = c .before .before .before .before .before .before .loop in
+    seeking-on _ _ _ _ _ (at-loop .inv) (at-loop-test .taken) _ (at-wide .ensures .0) (at-if1 .left) (λ e. c .if2 .left (at-place-at .ensures ∙ e))
 
 returns-3 : tie.Need-returns-3 Inv-loop μ-loop
-returns-3 c = absurd (seeking-vain _ _ _ _ _ (c .before .loop .inv) _ (c .before .before .before .before .before .before .pre .0) (c .before .before .before .before .before .before .pre .2) (c .loop-test .left))
+returns-3 c =
+    let at-loop = c .before .loop in
+    let at-pre = c .before .before .before .before .before .before .pre in
+    absurd (seeking-vain _ _ _ _ _ (at-loop .inv) _ (at-pre .0) (at-pre .2) (c .loop-test .left))
 
 pub seek-spec : {M : Type 1} → statement M
 seek-spec =

@@ -1,8 +1,9 @@
 -- `reach::fill` meets its contract: the masks of the first i routes say what each leads on to. Assumes nothing.
 use mathlib.Core.Path.{refl}
-use Prim.Native.Nat.{_-_}
+use Prim.Native.Nat.{_-_, _*_, _<_}
 use native.Mathlib.Omega.{arith}
 use lib.ListN.{length}
+use Rattle.masks.specs.Bit.{width}
 use Rattle.reach.proofs.Leading.{Leading, real-start, tells-one, leading-start, leading-more, leading-end}
 use borrow.Author.Needs.{needs}
 use Rattle.reach.proofs.fill.Statement.{statement}
@@ -18,34 +19,33 @@ slice-aggregate-settle : tie.Need-slice-aggregate-settle Inv-loop μ-loop
 slice-aggregate-settle c = search needs
 
 settle-requires : tie.Need-settle-requires Inv-loop μ-loop
-settle-requires c κs = (c .before .before .before .before .pre .0, refl, real-start _ _ 128)
+settle-requires c κs = (c .before .before .before .before .pre .0, refl, real-start _ _ (2 * width))
 
 loop-holds : tie.Need-loop-holds Inv-loop μ-loop
 loop-holds c = leading-start _ _ _
 
-shared-slice-read-wide : tie.Need-shared-slice-read-wide Inv-loop μ-loop
-shared-slice-read-wide c = omega (arith, c .before .loop-test .taken, c .before .before .before .before .before .before .before .before .before .pre .0 .same)
-
-wide-requires : tie.Need-wide-requires Inv-loop μ-loop
-wide-requires c κs = search needs
+end-of-requires : tie.Need-end-of-requires Inv-loop μ-loop
+end-of-requires c κs =
+    let at-pre = c .before .before .before .before .before .before .before .before .pre in
+    (at-pre .0 .to, omega (arith, c .loop-test .taken, at-pre .0 .same))
 
 mul-with : tie.Need-mul-with Inv-loop μ-loop
-mul-with c = omega (arith, c .wide .ensures, c .before .before .before .before .before .before .before .before .before .before .pre .0 .low-end (c .before .before .before .loop .i) (c .before .before .loop-test .taken))
+mul-with c = search needs
 
 array-read-with : tie.Need-array-read-with Inv-loop μ-loop
-array-read-with c = omega (arith, c .wide .ensures, c .before .before .before .before .before .before .before .before .before .before .pre .0 .low-end (c .before .before .before .loop .i) (c .before .before .loop-test .taken))
+array-read-with c = search needs
 
 cast-with : tie.Need-cast-with Inv-loop μ-loop
-cast-with c = omega (arith, c .wide .ensures, c .before .before .before .before .before .before .before .before .before .before .pre .0 .low-end (c .before .before .before .loop .i) (c .before .before .loop-test .taken))
+cast-with c = search needs
 
 with-requires : tie.Need-with-requires Inv-loop μ-loop
-with-requires c κs = omega (arith, c .wide .ensures, c .before .before .before .before .before .before .before .before .before .before .pre .0 .low-end (c .before .before .before .loop .i) (c .before .before .loop-test .taken))
+with-requires c κs = search needs
 
 mul-onward : tie.Need-mul-onward Inv-loop μ-loop
-mul-onward c = omega (arith, c .before .before .before .loop-test .taken, c .before .before .before .before .before .before .before .before .before .before .before .pre .0 .few)
+mul-onward c = search needs
 
 slice-write-onward : tie.Need-slice-write-onward Inv-loop μ-loop
-slice-write-onward c = omega (arith, c .before .before .before .loop-test .taken, c .before .before .before .before .before .before .before .before .before .before .before .pre .1, c .before .before .before .before .loop .inv .long)
+slice-write-onward c = search needs
 
 add-i : tie.Need-add-i Inv-loop μ-loop
 add-i c = search needs
@@ -54,10 +54,17 @@ loop-less : tie.Need-loop-less Inv-loop μ-loop
 loop-less c = search needs
 
 loop-again : tie.Need-loop-again Inv-loop μ-loop
-loop-again c = leading-more _ _ _ _ _ (c .before .before .before .before .loop .inv) (c .before .before .before .loop-test .taken) (omega (arith, c .before .before .before .loop-test .taken, c .before .before .before .before .before .before .before .before .before .before .before .pre .1, c .before .before .before .before .loop .inv .long)) _ (tells-one _ _ _ (c .before .before .before .before .before .before .settle .ensures .0) (c .before .before .before .before .before .before .settle .ensures .1) _ _ _ (c .before .wide .ensures) (c .with .ensures))
+loop-again c =
+    let at-end-of = c .before .end-of in
+    let at-loop-test = c .before .before .loop-test in
+    let at-loop = c .before .before .before .loop in
+    let at-settle = c .before .before .before .before .before .settle in
+    let at-pre = c .before .before .before .before .before .before .before .before .before .before .pre in
+    let low : at-loop .i < length (at-loop .onward) = omega (arith, at-loop-test .taken, at-pre .1, at-loop .inv .long) in
+    leading-more _ _ _ _ _ (at-loop .inv) (at-loop-test .taken) low _ (tells-one _ _ _ (at-settle .ensures) _ _ _ (at-end-of .ensures .0) (c .with .ensures))
 
 same-length : tie.Need-same-length Inv-loop μ-loop
-same-length c = c .before .loop .inv .long
+same-length c = search needs
 
 returns : tie.Need-returns Inv-loop μ-loop
 returns c = leading-end _ _ _ _ _ (c .before .loop .inv) (c .loop-test .left)
@@ -71,8 +78,7 @@ fill-spec =
     slice-aggregate-settle
     settle-requires
     loop-holds
-    shared-slice-read-wide
-    wide-requires
+    end-of-requires
     mul-with
     array-read-with
     cast-with

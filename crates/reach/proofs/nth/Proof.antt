@@ -1,5 +1,6 @@
 -- `reach::nth` meets its contract. Assumes nothing.
 use mathlib.Core.Path.{refl}
+use native.Mathlib.Omega.{arith}
 use borrow.Author.Needs.{needs}
 use borrow.Author.Needs.{needs}
 use Rattle.reach.proofs.nth.Statement.{statement}
@@ -12,7 +13,7 @@ sub-result-2 : tie.Need-sub-result-2
 sub-result-2 c = search needs
 
 returns : tie.Need-returns
-returns c = rw (c .if1 .taken) refl
+returns c = ((rw (c .if1 .taken) refl), omega arith)
 
 returns-2 : tie.Need-returns-2
 returns-2 c = search needs

@@ -24,17 +24,21 @@ mul-among c = search needs
 shared-slice-read-among : tie.Need-shared-slice-read-among Inv-loop μ-loop
 shared-slice-read-among c = search needs
 
-shared-slice-read-wide : tie.Need-shared-slice-read-wide Inv-loop μ-loop
-shared-slice-read-wide c = search needs
-
-wide-requires : tie.Need-wide-requires Inv-loop μ-loop
-wide-requires c κs = search needs
+start-of-requires : tie.Need-start-of-requires Inv-loop μ-loop
+start-of-requires c κs = search needs
 
 among-requires : tie.Need-among-requires Inv-loop μ-loop
 among-requires c κs = search needs
 
 returns : tie.Need-returns Inv-loop μ-loop
-returns c = first-here (leadsBack (c .before .before .before .before .before .before .before .before .before .args .starts .now) (c .before .before .before .before .before .before .before .before .before .args .onward .now)) _ _ (c .before .before .before .before .before .before .loop .inv) (sym (c .before .among .ensures ∙ ap (λ (s : ℕ). bit (getD (c .before .before .before .before .before .before .before .before .before .args .onward .now) (c .before .before .before .before .before .before .loop .i) 0) s) (c .before .before .wide .ensures)) ∙ c .if1 .taken)
+returns c =
+    let at-among = c .before .among in
+    let at-start-of = c .before .before .start-of in
+    let at-loop = c .before .before .before .before .before .loop in
+    let at-args = c .before .before .before .before .before .before .before .before .args in
+    let onward = at-args .onward .now in
+    let is = at-among .ensures ∙ ap (λ (s : ℕ). bit (getD onward (at-loop .i) 0) s) (at-start-of .ensures .0) in
+    first-here (leadsBack (at-args .starts .now) onward) _ _ (at-loop .inv) (sym is ∙ c .if1 .taken)
 
 add-i : tie.Need-add-i Inv-loop μ-loop
 add-i c = search needs
@@ -43,7 +47,15 @@ loop-less : tie.Need-loop-less Inv-loop μ-loop
 loop-less c = search needs
 
 loop-again : tie.Need-loop-again Inv-loop μ-loop
-loop-again c = passed-more (leadsBack (c .before .before .before .before .before .before .before .before .before .args .starts .now) (c .before .before .before .before .before .before .before .before .before .args .onward .now)) _ _ (c .before .before .before .before .before .before .loop .inv) (c .before .before .before .before .before .loop-test .taken) (sym (c .before .among .ensures ∙ ap (λ (s : ℕ). bit (getD (c .before .before .before .before .before .before .before .before .before .args .onward .now) (c .before .before .before .before .before .before .loop .i) 0) s) (c .before .before .wide .ensures)) ∙ c .if1 .left)
+loop-again c =
+    let at-among = c .before .among in
+    let at-start-of = c .before .before .start-of in
+    let at-loop-test = c .before .before .before .before .loop-test in
+    let at-loop = c .before .before .before .before .before .loop in
+    let at-args = c .before .before .before .before .before .before .before .before .args in
+    let onward = at-args .onward .now in
+    let is = at-among .ensures ∙ ap (λ (s : ℕ). bit (getD onward (at-loop .i) 0) s) (at-start-of .ensures .0) in
+    passed-more (leadsBack (at-args .starts .now) onward) _ _ (at-loop .inv) (at-loop-test .taken) (sym is ∙ c .if1 .left)
 
 returns-2 : tie.Need-returns-2 Inv-loop μ-loop
 returns-2 c = first-none _ _ _ (c .before .loop .inv) (c .loop-test .left)
@@ -57,8 +69,7 @@ first-loop-spec =
     loop-holds
     mul-among
     shared-slice-read-among
-    shared-slice-read-wide
-    wide-requires
+    start-of-requires
     among-requires
     returns
     add-i

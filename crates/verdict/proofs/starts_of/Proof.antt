@@ -22,11 +22,8 @@ abbrev μ-loop : tie.MeasureT-loop
 loop-holds : tie.Need-loop-holds Inv-loop μ-loop
 loop-holds c = starting-start _ _
 
-shared-slice-read-wide : tie.Need-shared-slice-read-wide Inv-loop μ-loop
-shared-slice-read-wide c = search needs
-
-wide-requires : tie.Need-wide-requires Inv-loop μ-loop
-wide-requires c κs = search needs
+start-of-requires : tie.Need-start-of-requires Inv-loop μ-loop
+start-of-requires c κs = search needs
 
 cast-has : tie.Need-cast-has Inv-loop μ-loop
 cast-has c = search needs
@@ -35,10 +32,10 @@ has-requires : tie.Need-has-requires Inv-loop μ-loop
 has-requires c κs = search needs
 
 cast-with : tie.Need-cast-with Inv-loop μ-loop
-cast-with c = omega (arith, ltb-true (c .before .before .wide .result) width (and-parts (c .before .has .result) (ltb (c .before .before .wide .result) width) (c .if1 .taken) .1))
+cast-with c = omega (arith, c .before .before .start-of .ensures .1)
 
 with-requires : tie.Need-with-requires Inv-loop μ-loop
-with-requires c κs = ltb-true _ _ (and-parts (c .before .has .result) (ltb (c .before .before .wide .result) width) (c .if1 .taken) .1)
+with-requires c κs = ltb-true _ _ (and-parts (c .before .has .result) (ltb (c .before .before .start-of .result) width) (c .if1 .taken) .1)
 
 add-a : tie.Need-add-a Inv-loop μ-loop
 add-a c = search needs
@@ -48,14 +45,21 @@ loop-less c = search needs
 
 loop-again : tie.Need-loop-again Inv-loop μ-loop
 loop-again c =
-    let starts = c .before .before .before .before .before .before .before .args .starts .now in
-    let routes = c .before .before .before .before .before .before .before .args .routes in
-    let a = c .before .before .before .before .before .loop .a in
-    let s = c .before .before .wide .result in
+    let at-has = c .before .has in
+    let at-start-of = c .before .before .start-of in
+    let at-loop-test = c .before .before .before .loop-test in
+    let at-loop = c .before .before .before .before .loop in
+    let at-args = c .before .before .before .before .before .before .args in
+    let a = at-loop .a in
+    let s = at-start-of .result in
+    let has = at-has .result in
+    let Then = Starting (at-args .starts .now) (at-args .routes) (a + 1) in
+    let sets = starting-set (at-args .starts .now) (at-args .routes) a (at-loop .at) (at-loop .inv) (at-loop-test .taken) s in
+    let keep = starting-keep (at-args .starts .now) (at-args .routes) a (at-loop .at) (at-loop .inv) (at-loop-test .taken) s (at-start-of .ensures .0) in
     ⊎-elim
-    (λ w. let both = and-parts (c .before .has .result) (ltb s width) (w .0 .taken) in
-    subst (λ (y : ℕ). Starting starts routes (a + 1) y) (sym (w .2)) (starting-set starts routes a (c .before .before .before .before .before .loop .at) (c .before .before .before .before .before .loop .inv) (c .before .before .before .before .loop-test .taken) s (w .1 .result) (c .before .before .wide .ensures) (sym (c .before .has .ensures) ∙ both .0) (ltb-true _ _ (both .1)) (w .1 .ensures)))
-    (λ w. subst (λ (y : ℕ). Starting starts routes (a + 1) y) (sym (w .1)) (starting-keep starts routes a (c .before .before .before .before .before .loop .at) (c .before .before .before .before .before .loop .inv) (c .before .before .before .before .loop-test .taken) s (c .before .before .wide .ensures) (λ h l. true-false (and-both (c .before .has .result) (ltb s width) (c .before .has .ensures ∙ h) (lt-ltb _ _ l)) (w .0 .left))))
+    (λ w. let both = and-parts has (ltb s width) (w .0 .taken) in
+    subst Then (sym (w .2)) (sets (w .1 .result) (at-start-of .ensures .0) (sym (at-has .ensures) ∙ both .0) (ltb-true _ _ (both .1)) (w .1 .ensures)))
+    (λ w. subst Then (sym (w .1)) (keep (λ h l. true-false (and-both has (ltb s width) (at-has .ensures ∙ h) (lt-ltb _ _ l)) (w .0 .left))))
     (c .if1 .came)
 
 returns : tie.Need-returns Inv-loop μ-loop
@@ -68,8 +72,7 @@ starts-of-spec =
     Inv-loop
     μ-loop
     loop-holds
-    shared-slice-read-wide
-    wide-requires
+    start-of-requires
     cast-has
     has-requires
     cast-with
