@@ -34,7 +34,8 @@ seek-stop : (places slots : List ℕ) (place t at : ℕ) → stopsAt places slot
 unfolding seekFrom
 seek-stop places slots place t at e = rw e refl
 
-seek-on : (places slots : List ℕ) (place t at : ℕ) → stopsAt places slots place at ≡ false → seekFrom places slots place (suc t) at ≡ seekFrom places slots place t ((at + 1) % slotCount)
+seek-on : (places slots : List ℕ) (place t at : ℕ) → stopsAt places slots place at ≡ false
+    → seekFrom places slots place (suc t) at ≡ seekFrom places slots place t ((at + 1) % slotCount)
 unfolding seekFrom
 seek-on places slots place t at e = rw e refl
 
@@ -65,7 +66,9 @@ module _ (places slots : List ℕ) (i : ℕ) (laid : Laid places slots i) where
         before = omega (arith, laid .low at, is, nz)
 
         one : (k r : ℕ) → (k ≡ i) ⊎ (k < i) → FirstAt places k r → getD slots (seekEnd places slots (getD places k 0)) 0 ≡ r + 1
-        one k r (inl q) f = ap (λ (x : ℕ). getD slots (seekEnd places slots (getD places x 0)) 0) q ∙ again (key - 1) r before e (first-moved places k i r f (ap (λ (x : ℕ). getD places x 0) (sym q)))
+        one k r (inl q) f =
+            ap (λ (x : ℕ). getD slots (seekEnd places slots (getD places x 0)) 0) q
+            ∙ again (key - 1) r before e (first-moved places k i r f (ap (λ (x : ℕ). getD places x 0) (sym q)))
         one k r (inr l) f = laid .found k r l f
 
         go : (r : ℕ) × FirstAt places i r → FirstAt places i (key - 1) × Laid places slots (i + 1)
@@ -106,7 +109,8 @@ module _ (places slots : List ℕ) (i : ℕ) (laid : Laid places slots i) where
               let back : getD more a 0 - 1 ≡ i = omega (arith, here) in
               let p : getD places i 0 ≡ place = h (ap (λ (x : ℕ). getD slots x 0) (seek-stop places slots place t a stops) ∙ zero-here) in
               let met : eqb (getD places (getD more a 0 - 1) 0) place ≡ true = eq-eqb _ _ (ap (λ (x : ℕ). getD places x 0) back ∙ p) in
-              seek-stop places more place t a (ap (λ (c : Bool). eqb (getD more a 0) 0 || c) met ∙ or-true (eqb (getD more a 0) 0)) ∙ sym (seek-stop places slots place t a stops)
+              seek-stop places more place t a (ap (λ (c : Bool). eqb (getD more a 0) 0 || c) met ∙ or-true (eqb (getD more a 0) 0))
+              ∙ sym (seek-stop places slots place t a stops)
           go rest (no n) true s = seek-stop places more place t a (rw (other a n) s) ∙ sym (seek-stop places slots place t a s)
           go rest (no n) false s =
               let on = seek-on places slots place t a s in
@@ -114,7 +118,8 @@ module _ (places slots : List ℕ) (i : ℕ) (laid : Laid places slots i) where
               ∙ rest (λ y. h (ap (λ (x : ℕ). getD slots x 0) on ∙ y))
               ∙ sym on
 
-      end-same : (place : ℕ) → (getD slots (seekEnd places slots place) 0 ≡ 0 → getD places i 0 ≡ place) → at < length slots → seekEnd places more place ≡ seekEnd places slots place
+      end-same : (place : ℕ) → (getD slots (seekEnd places slots place) 0 ≡ 0 → getD places i 0 ≡ place) → at < length slots
+          → seekEnd places more place ≡ seekEnd places slots place
       unfolding seekEnd
       end-same place h l = same-end place slotCount (slotOf place) h l
 
@@ -171,6 +176,7 @@ numbering-more places numbers₀ m i slots numbers inv l il r slots′ f laid = 
       (rw (getD-set-same numbers i r 0 il) f);
 }
 
-pub numbering-end : (places numbers₀ : List ℕ) (m i : ℕ) (slots numbers : List ℕ) → Numbering places numbers₀ m i slots numbers → length places ≤ m → m ≤ i → Numbered places numbers
+pub numbering-end : (places numbers₀ : List ℕ) (m i : ℕ) (slots numbers : List ℕ) → Numbering places numbers₀ m i slots numbers
+    → length places ≤ m → m ≤ i → Numbered places numbers
 unfolding Numbered
 numbering-end places numbers₀ m i slots numbers inv e h x l = inv .done x (omega arith)

@@ -65,7 +65,10 @@ module _ (places slots : List ℕ) (place : ℕ) where
         within = omega arith;
         low = omega arith;
         turned = let t = inv .turned in omega arith;
-        rest = rw (ne-eqb (getD slots at 0) 0 (λ z. nz (is ∙ z)), ne-eqb (getD places (getD slots at 0 - 1) 0) place (λ e. ne (ap (λ (k : ℕ). getD places (k - 1) 0) is ∙ e))) at one;
+        rest = rw (
+          ne-eqb (getD slots at 0) 0 (λ z. nz (is ∙ z)),
+          ne-eqb (getD places (getD slots at 0 - 1) 0) place (λ e. ne (ap (λ (k : ℕ). getD places (k - 1) 0) is ∙ e)),
+        ) at one;
         full = below-more (λ (t : ℕ). getD slots ((slotOf place + t) % slotCount) 0 ≡ 0 → ⊥) tries (inv .full)
             (λ z. nz (is ∙ ap (λ (y : ℕ). getD slots y 0) (inv .turned) ∙ z));
       }

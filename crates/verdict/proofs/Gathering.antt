@@ -55,7 +55,8 @@ module _ (starts onward : List ℕ) (down : Bool) where
       (λ f. inv .is-fork a (subst (λ (m : ℕ). ForksEarlier starts onward down m a) (sym e) f))
 
   -- one route more, a, that starts at s
-  module _ (t : ℕ) (seen : List ℕ) (forks : ℕ) (inv : Gathering t seen forks) (l : t < length starts) (a s : ℕ) (is : a ≡ route t) (from : s ≡ getD starts a 0) (low : s < 2 * width) where
+  module _ (t : ℕ) (seen : List ℕ) (forks : ℕ) (inv : Gathering t seen forks) (l : t < length starts) (a s : ℕ)
+      (is : a ≡ route t) (from : s ≡ getD starts a 0) (low : s < 2 * width) where
     earlier : (g y : ℕ) → Leads t g y → Leads (t + 1) g y
     earlier g y (u, b, e, h) = (u, omega arith, e, h)
 
@@ -80,7 +81,8 @@ module _ (starts onward : List ℕ) (down : Bool) where
           go (yes q) =
               subst (λ (x : ℕ). Leads (t + 1) x y) (sym q)
               (⊎-elim (λ b. earlier s y (inv .seen-leads s y b)) (own y)
-              (or-cases (bit (getD seen s 0) y) (bit (getD onward a 0) y) (sym (gets y) ∙ ap (λ (x : ℕ). bit x y) (sym at-start) ∙ ap (λ (x : ℕ). bit (getD (set seen s v) x 0) y) (sym q) ∙ h)))
+              (or-cases (bit (getD seen s 0) y) (bit (getD onward a 0) y)
+              (sym (gets y) ∙ ap (λ (x : ℕ). bit x y) (sym at-start) ∙ ap (λ (x : ℕ). bit (getD (set seen s v) x 0) y) (sym q) ∙ h)))
           go (no n) = earlier g y (inv .seen-leads g y (ap (λ (x : ℕ). bit x y) (sym (getD-set-other seen s g v 0 n)) ∙ h))
 
       leads-seen : (g y : ℕ) → Leads (t + 1) g y → bit (getD (set seen s v) g 0) y ≡ true
@@ -113,7 +115,8 @@ module _ (starts onward : List ℕ) (down : Bool) where
           (ap (λ (x : ℕ). bit (getD onward x 0) (k .0)) (sym q) ∙ k .2)
 
       -- a route that forks among one turn more did so before, or is a
-      either : (b : ℕ) → ForksEarlier starts onward down (t + 1) b → ForksEarlier starts onward down t b ⊎ ((b ≡ a) × (meeting (getD seen s 0) (getD onward a 0) ≡ true))
+      either : (b : ℕ) → ForksEarlier starts onward down (t + 1) b
+          → ForksEarlier starts onward down t b ⊎ ((b ≡ a) × (meeting (getD seen s 0) (getD onward a 0) ≡ true))
       either b (i, u, li, lu, e, q, m) =
           ⊎-elim (λ z. let r : b ≡ a = e ∙ ap route z ∙ sym is in inr (r, forks-meets b u (omega arith) r q m)) (λ c. inl (i, u, c, lu, e, q, m)) (eq-or-lt-of-le (omega arith))
 

@@ -91,7 +91,8 @@ module _ (ss es onward : List ℕ) (led : Led ss es onward) where
   -- the routes that fork with one of an earlier turn, upwards and downwards, are those that fork
   module _ (up below forks : ℕ) (told-up : (a : ℕ) → Tells (ForksEarlier ss onward false (length ss) a) (bit up a))
       (told-down : (a : ℕ) → Tells (ForksEarlier ss onward true (length ss) a) (bit below a)) (either : (a : ℕ) → bit forks a ≡ bit up a || bit below a) where
-    forked : (a b : ℕ) → a < length ss → b < length ss → (a ≡ b → ⊥) → getD ss b 0 ≡ getD ss a 0 → meeting (getD onward b 0) (getD onward a 0) ≡ true → any (length ss) (λ b. fork ss es a b) ≡ true
+    forked : (a b : ℕ) → a < length ss → b < length ss → (a ≡ b → ⊥) → getD ss b 0 ≡ getD ss a 0 → meeting (getD onward b 0) (getD onward a 0) ≡ true
+        → any (length ss) (λ b. fork ss es a b) ≡ true
     unfolding fork
     forked a b la lb n e m =
         some-any (length ss) (λ b. fork ss es a b) b lb
@@ -119,12 +120,20 @@ module _ (ss es onward : List ℕ) (led : Led ss es onward) where
         let m = meets-back (getD onward a 0) (getD onward b 0) (same-meets a b la (r .1) (g .1)) in
         either a ∙ at b (decLe a b) (r .1) n e m
       where
-        at : (b : ℕ) → Dec (a ≤ b) → b < length ss → (a ≡ b → ⊥) → getD ss b 0 ≡ getD ss a 0 → meeting (getD onward b 0) (getD onward a 0) ≡ true → bit up a || bit below a ≡ true
+        at : (b : ℕ) → Dec (a ≤ b) → b < length ss → (a ≡ b → ⊥) → getD ss b 0 ≡ getD ss a 0 → meeting (getD onward b 0) (getD onward a 0) ≡ true
+            → bit up a || bit below a ≡ true
         at b (yes l) lb n e m =
             let back : length ss - 1 - (length ss - 1 - b) ≡ b = omega arith in
             or-right (bit up a) (bit below a)
-            (told-of (bit below a) (told-down a)
-            (length ss - 1 - a, length ss - 1 - b, omega arith, omega arith, omega arith, ap (λ (x : ℕ). getD ss x 0) back ∙ e, ap (λ (x : ℕ). meeting (getD onward x 0) (getD onward a 0)) back ∙ m))
+            (told-of (bit below a) (told-down a) (
+              length ss - 1 - a,
+              length ss - 1 - b,
+              omega arith,
+              omega arith,
+              omega arith,
+              ap (λ (x : ℕ). getD ss x 0) back ∙ e,
+              ap (λ (x : ℕ). meeting (getD onward x 0) (getD onward a 0)) back ∙ m,
+            ))
         at b (no g) lb n e m = or-left (bit up a) (bit below a) (told-of (bit up a) (told-up a) (a, b, la, omega arith, refl, e, m))
 
     -- and with where those start, the routes that begin a doubling
@@ -134,7 +143,9 @@ module _ (ss es onward : List ℕ) (led : Led ss es onward) where
 
       pub begins-same : (i : ℕ) → i < length ss → beginsBy onward forks places i ≡ begins ss es i
       unfolding begins comesTo
-      begins-same i l = same-test (beginsBy onward forks places i) (any (length ss) (begun i)) (λ e. ⊎-elim own onwards (or-cases (bit forks i) (meeting (getD onward i 0) places) e)) back
+      begins-same i l =
+          same-test (beginsBy onward forks places i) (any (length ss) (begun i))
+          (λ e. ⊎-elim own onwards (or-cases (bit forks i) (meeting (getD onward i 0) places) e)) back
         where
           own : bit forks i ≡ true → any (length ss) (begun i) ≡ true
           own x = some-any (length ss) (begun i) i l (and-both _ _ (or-right (reach ss es (length ss) i (getD ss i 0)) (eqb i i) (eq-eqb i i refl)) (forks-is i x .1))

@@ -28,7 +28,8 @@ module _ (starts : List ℕ) (routes : ℕ) where
   pub starting-end : (i at : ℕ) → Starting i at → length starts ≤ i → (x : ℕ) → Tells (StartsAt starts routes (length starts) x) (bit at x)
   starting-end i at inv h x =
       let e : i ≡ length starts = omega (arith, inv .within) in
-      test-tells (bit at x) (λ b. subst (λ (m : ℕ). StartsAt starts routes m x) e (inv .start-is x b)) (λ s. inv .is-start x (subst (λ (m : ℕ). StartsAt starts routes m x) (sym e) s))
+      test-tells (bit at x) (λ b. subst (λ (m : ℕ). StartsAt starts routes m x) e (inv .start-is x b))
+      (λ s. inv .is-start x (subst (λ (m : ℕ). StartsAt starts routes m x) (sym e) s))
 
   module _ (i at : ℕ) (inv : Starting i at) (l : i < length starts) where
     before : (x : ℕ) → StartsAt starts routes i x → StartsAt starts routes (i + 1) x
@@ -44,7 +45,8 @@ module _ (starts : List ℕ) (routes : ℕ) where
       start-is = λ x h.
           ⊎-elim (λ b. before x (inv .start-is x b)) (λ b. let q = eqb-true x s b in (i, omega arith, has, sym is ∙ sym q, omega arith))
           (or-cases (bit at x) (eqb x s) (sym (bits x) ∙ h));
-      is-start = λ x h. bits x ∙ ⊎-elim (λ b. or-left (bit at x) (eqb x s) (inv .is-start x b)) (λ b. or-right (bit at x) (eqb x s) (eq-eqb x s (sym (is ∙ b .1)))) (either x h);
+      is-start = λ x h. bits x ∙ ⊎-elim (λ b. or-left (bit at x) (eqb x s) (inv .is-start x b))
+          (λ b. or-right (bit at x) (eqb x s) (eq-eqb x s (sym (is ∙ b .1)))) (either x h);
     }
 
     pub starting-keep : (s : ℕ) → s ≡ getD starts i 0 → ((bit routes i ≡ true) → s < width → ⊥) → Starting (i + 1) at

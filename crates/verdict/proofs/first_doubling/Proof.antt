@@ -33,7 +33,13 @@ meet-requires : tie.Need-meet-requires Inv-loop μ-loop
 meet-requires c κs = search needs
 
 returns : tie.Need-returns Inv-loop μ-loop
-returns c = first-here (beginsBy (c .before .before .before .before .before .before .before .args .onward .now) (c .before .before .before .before .before .before .before .args .forks) (c .before .before .before .before .before .before .before .args .places)) _ _ (c .before .before .before .before .before .loop .inv) (sym (ap₂ (λ (a b : Bool). a || b) (c .before .before .before .has .ensures) (c .before .meet .ensures)) ∙ c .if1 .taken)
+returns c =
+    let at-meet = c .before .meet in
+    let at-has = c .before .before .before .has in
+    let at-loop = c .before .before .before .before .before .loop in
+    let at-args = c .before .before .before .before .before .before .before .args in
+    let is = ap₂ (λ (a b : Bool). a || b) (at-has .ensures) (at-meet .ensures) in
+    first-here (beginsBy (at-args .onward .now) (at-args .forks) (at-args .places)) _ _ (at-loop .inv) (sym is ∙ c .if1 .taken)
 
 add-i : tie.Need-add-i Inv-loop μ-loop
 add-i c = search needs
@@ -42,7 +48,14 @@ loop-less : tie.Need-loop-less Inv-loop μ-loop
 loop-less c = search needs
 
 loop-again : tie.Need-loop-again Inv-loop μ-loop
-loop-again c = passed-more (beginsBy (c .before .before .before .before .before .before .before .args .onward .now) (c .before .before .before .before .before .before .before .args .forks) (c .before .before .before .before .before .before .before .args .places)) _ _ (c .before .before .before .before .before .loop .inv) (c .before .before .before .before .loop-test .taken) (sym (ap₂ (λ (a b : Bool). a || b) (c .before .before .before .has .ensures) (c .before .meet .ensures)) ∙ c .if1 .left)
+loop-again c =
+    let at-meet = c .before .meet in
+    let at-has = c .before .before .before .has in
+    let at-loop-test = c .before .before .before .before .loop-test in
+    let at-loop = c .before .before .before .before .before .loop in
+    let at-args = c .before .before .before .before .before .before .before .args in
+    let is = ap₂ (λ (a b : Bool). a || b) (at-has .ensures) (at-meet .ensures) in
+    passed-more (beginsBy (at-args .onward .now) (at-args .forks) (at-args .places)) _ _ (at-loop .inv) (at-loop-test .taken) (sym is ∙ c .if1 .left)
 
 returns-2 : tie.Need-returns-2 Inv-loop μ-loop
 returns-2 c = first-none _ _ _ (c .before .loop .inv) (c .loop-test .left)

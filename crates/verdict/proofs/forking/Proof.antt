@@ -1,7 +1,7 @@
 -- `verdict::forking` meets its contract: what was seen is what the routes passed lead on to, by where they start. Assumes nothing.
 use mathlib.Core.Path.{sym, _∙_, subst}
 use mathlib.Core.Logic.{⊎-elim}
-use Prim.Native.Nat.{ℕ, _-_, _+_}
+use Prim.Native.Nat.{_-_, _+_}
 use lib.ListN.{set}
 use Rattle.verdict.proofs.Gathering.{Gathering, gathering-start, gathering-fork, gathering-keep, gathering-end}
 use borrow.Author.Needs.{needs}

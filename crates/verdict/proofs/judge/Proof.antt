@@ -27,10 +27,26 @@ part-requires-2 : tie.Need-part-requires-2
 part-requires-2 c κs = search needs
 
 judge-numbered-requires : tie.Need-judge-numbered-requires
-judge-numbered-requires c κs = low-numbers (c .before .before .before .before .before .before .before .before .before .args .froms .now) (c .before .before .before .before .before .before .before .before .before .args .tos .now) _ _ _ (c .before .before .before .before .before .before .before .before .before .pre .1) (c .before .before .before .before .before .number-all .ensures) (c .before .before .part .ensures .0) (c .part2 .ensures .0) (c .before .before .part .ensures .1) (c .part2 .ensures .1) (c .before .before .before .before .before .before .before .before .before .pre .0)
+judge-numbered-requires c κs =
+    let at-part = c .before .before .part in
+    let at-number-all = c .before .before .before .before .before .number-all in
+    let at-pre = c .before .before .before .before .before .before .before .before .before .pre in
+    let at-args = c .before .before .before .before .before .before .before .before .before .args in
+    let starts = at-part .ensures in
+    let ends = c .part2 .ensures in
+    low-numbers (at-args .froms .now) (at-args .tos .now) _ _ _ (at-pre .1) (at-number-all .ensures) (starts .0) (ends .0) (starts .1) (ends .1) (at-pre .0)
 
 returns : tie.Need-returns
-returns c = judged-places (c .before .before .before .before .before .before .before .before .before .before .args .froms .now) (c .before .before .before .before .before .before .before .before .before .before .args .tos .now) _ _ _ (c .before .before .before .before .before .before .before .before .before .before .pre .1) (c .before .before .before .before .before .before .number-all .ensures) (c .before .before .before .part .ensures .0) (c .before .part2 .ensures .0) (c .before .before .before .part .ensures .1) (c .before .part2 .ensures .1) (c .judge-numbered .result) (c .judge-numbered .ensures)
+returns c =
+    let at-part2 = c .before .part2 in
+    let at-part = c .before .before .before .part in
+    let at-number-all = c .before .before .before .before .before .before .number-all in
+    let at-pre = c .before .before .before .before .before .before .before .before .before .before .pre in
+    let at-args = c .before .before .before .before .before .before .before .before .before .before .args in
+    let starts = at-part .ensures in
+    let ends = at-part2 .ensures in
+    let judged = judged-places (at-args .froms .now) (at-args .tos .now) _ _ _ (at-pre .1) (at-number-all .ensures) (starts .0) (ends .0) (starts .1) (ends .1) in
+    judged (c .judge-numbered .result) (c .judge-numbered .ensures)
 
 pub judge-spec : {M : Type 1} → statement M
 judge-spec =

@@ -23,9 +23,12 @@ first-loop-requires c κs = search needs
 
 returns : tie.Need-returns
 returns c =
-    let ss = c .before .before .before .before .before .before .before .before .args .starts .now in
-    let es = c .before .before .before .before .before .before .before .before .args .ends .now in
-    loop-found ss es _ (first-same _ (comesBack ss es) _ _ (back-same ss es _ (c .before .before .before .before .fill .ensures)) (c .before .first-loop .ensures)) (c .if1 .taken)
+    let at-first-loop = c .before .first-loop in
+    let at-fill = c .before .before .before .before .fill in
+    let at-args = c .before .before .before .before .before .before .before .before .args in
+    let ss = at-args .starts .now in
+    let es = at-args .ends .now in
+    loop-found ss es _ (first-same _ (comesBack ss es) _ _ (back-same ss es _ (at-fill .ensures)) (at-first-loop .ensures)) (c .if1 .taken)
 
 slice-aggregate-forking : tie.Need-slice-aggregate-forking
 slice-aggregate-forking c = search needs
@@ -35,11 +38,16 @@ forking-requires c κs = search needs
 
 returns-2 : tie.Need-returns-2
 returns-2 c =
-    let ss = c .before .before .before .before .before .before .before .before .before .before .before .args .starts .now in
-    let es = c .before .before .before .before .before .before .before .before .before .before .before .args .ends .now in
-    let led = c .before .before .before .before .before .before .before .fill .ensures in
-    let free = no-loop ss es _ (first-same _ (comesBack ss es) _ _ (back-same ss es _ led) (c .before .before .before .before .first-loop .ensures)) (c .before .before .before .if1 .left) in
-    no-doubling ss es free _ (none-begins ss es _ led _ (c .before .forking .ensures) (c .if2 .taken)) (omega arith)
+    let at-forking = c .before .forking in
+    let at-if1 = c .before .before .before .if1 in
+    let at-first-loop = c .before .before .before .before .first-loop in
+    let at-fill = c .before .before .before .before .before .before .before .fill in
+    let at-args = c .before .before .before .before .before .before .before .before .before .before .before .args in
+    let ss = at-args .starts .now in
+    let es = at-args .ends .now in
+    let led = at-fill .ensures in
+    let free = no-loop ss es _ (first-same _ (comesBack ss es) _ _ (back-same ss es _ led) (at-first-loop .ensures)) (at-if1 .left) in
+    no-doubling ss es free _ (none-begins ss es _ led _ (at-forking .ensures) (c .if2 .taken)) (omega arith)
 
 slice-aggregate-forking-2 : tie.Need-slice-aggregate-forking-2
 slice-aggregate-forking-2 c = search needs
@@ -61,12 +69,23 @@ first-doubling-requires c κs = search needs
 
 returns-3 : tie.Need-returns-3
 returns-3 c =
-    let ss = c .before .before .before .before .before .before .before .before .before .before .before .before .before .before .before .before .before .args .starts .now in
-    let es = c .before .before .before .before .before .before .before .before .before .before .before .before .before .before .before .before .before .args .ends .now in
-    let led = c .before .before .before .before .before .before .before .before .before .before .before .before .before .fill .ensures in
-    let free = no-loop ss es _ (first-same _ (comesBack ss es) _ _ (back-same ss es _ led) (c .before .before .before .before .before .before .before .before .before .before .first-loop .ensures)) (c .before .before .before .before .before .before .before .before .before .if1 .left) in
-    let same = begins-same ss es _ led _ _ _ (c .before .before .before .before .before .before .before .forking .ensures) (c .before .before .before .before .forking2 .ensures) (c .before .before .before .both .ensures) (c .before .before .before .before .before .before .before .before .before .before .before .before .before .before .before .before .before .pre) _ (c .before .starts-of .ensures) in
-    let found = some-begins ss es _ led _ _ _ (c .before .before .before .before .before .before .before .forking .ensures) (c .before .before .before .before .forking2 .ensures) (c .before .before .before .both .ensures) (c .before .before .before .before .before .before .before .before .before .before .before .before .before .before .before .before .before .pre) _ (c .before .starts-of .ensures) _ (c .before .before .before .before .before .before .if2 .left) (c .first-doubling .ensures) in
+    let at-starts-of = c .before .starts-of in
+    let at-both = c .before .before .before .both in
+    let at-forking2 = c .before .before .before .before .forking2 in
+    let at-if2 = c .before .before .before .before .before .before .if2 in
+    let at-forking = c .before .before .before .before .before .before .before .forking in
+    let at-if1 = c .before .before .before .before .before .before .before .before .before .if1 in
+    let at-first-loop = c .before .before .before .before .before .before .before .before .before .before .first-loop in
+    let at-fill = c .before .before .before .before .before .before .before .before .before .before .before .before .before .fill in
+    let at-pre = c .before .before .before .before .before .before .before .before .before .before .before .before .before .before .before .before .before .pre in
+    let at-args = c .before .before .before .before .before .before .before .before .before .before .before .before .before .before .before .before .before .args in
+    let ss = at-args .starts .now in
+    let es = at-args .ends .now in
+    let led = at-fill .ensures in
+    let free = no-loop ss es _ (first-same _ (comesBack ss es) _ _ (back-same ss es _ led) (at-first-loop .ensures)) (at-if1 .left) in
+    let same = begins-same ss es _ led _ _ _ (at-forking .ensures) (at-forking2 .ensures) (at-both .ensures) (at-pre) _ (at-starts-of .ensures) in
+    let some = some-begins ss es _ led _ _ _ (at-forking .ensures) (at-forking2 .ensures) (at-both .ensures) (at-pre) _ (at-starts-of .ensures) in
+    let found = some _ (at-if2 .left) (c .first-doubling .ensures) in
     doubling-found ss es free _ (first-same _ (begins ss es) _ _ same (c .first-doubling .ensures)) found
 
 pub judge-numbered-spec : {M : Type 1} → statement M
