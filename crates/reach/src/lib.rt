@@ -6,9 +6,8 @@ ghost use lib.ListN.{length, getD};
 ghost use Rattle.masks.specs.Bit.{width};
 ghost use Rattle.reach.specs.Led.{Starts, Ends, Numbers, Led, turn};
 ghost use Rattle.reach.specs.Handing.{Real, Handing, Settled};
-use masks::WIDTH;
 
-// How many numbers there are.
+// How many numbers there can be: each route has two places.
 pub const NUMBERS: usize = 128;
 
 fn wide(x: u8) -> usize

@@ -113,6 +113,7 @@ fn judge_numbered(starts: &[u8], ends: &[u8]) -> Verdict
     if i < n {
         return Verdict::Loop(i);
     }
+    // of two routes that fork the higher is met upwards
     let up = forking(starts, &onward, false);
     if up == 0 {
         return Verdict::Sound;
@@ -122,6 +123,7 @@ fn judge_numbered(starts: &[u8], ends: &[u8]) -> Verdict
     Verdict::Doubling(j)
 }
 
+// The numbers from `first` on, up to `end`.
 fn part(numbers: &[u8], first: usize, end: usize) -> &[u8]
     requires { ⌜ (first ≤ end) × (end ≤ length (now numbers)) ⌝ }
     ensures { λ r. ⌜ (now r ≡ take (end - first) (drop first (now (numbers .entry)))) × (length (now r) ≡ end - first) ⌝ }
