@@ -38,6 +38,10 @@ pub told-yes : {P : Type 0} (r : Bool) → Tells P r → r ≡ true → P
 told-yes true t e = t
 told-yes false t e = absurd (true-false {b = false} e refl)
 
+pub told-of : {P : Type 0} (r : Bool) → Tells P r → P → r ≡ true
+told-of true t p = refl
+told-of false t p = absurd (t p)
+
 pub told-no : {P : Type 0} (r : Bool) → Tells P r → r ≡ false → P → ⊥
 told-no true t e = absurd (true-false refl e)
 told-no false t e = t

@@ -7,4 +7,3 @@ pub mod Forks
 pub mod Tests
 pub mod Longest
 pub mod Spreads
-pub mod Marks

@@ -25,10 +25,6 @@ some-any zero P k l e = absurd (omega arith)
 some-any (suc n) P k l e =
     ⊎-elim (λ h. or-right (any n P) (P n) (let x : k ≡ n = omega arith in ap P (sym x) ∙ e)) (λ h. or-left (any n P) (P n) (some-any n P k (le-of-suc-le-suc h) e)) (eq-or-lt-of-le l)
 
-pub any-same : (n : ℕ) (P Q : ℕ → Bool) → ((k : ℕ) → k < n → P k ≡ Q k) → any n P ≡ any n Q
-any-same zero P Q h = refl
-any-same (suc n) P Q h = rw (any-same n P Q (λ k l. h k (omega arith)), h n (omega arith))
-
 -- there is a first number below n that passes, or none
 pub first : (P : ℕ → Bool) (n : ℕ) → (r : ℕ) × First P n r
 first P zero = (0, record { within = omega arith; before = λ k l. absurd (omega arith); found = λ l. absurd (omega arith) })

@@ -1,2 +1,4 @@
-pub mod Laying
-pub mod Rounding
+pub mod Growing
+pub mod Handed
+pub mod Passing
+pub mod Leading

@@ -1,11 +1,10 @@
 -- The loops of the searches. Assumes nothing.
-use mathlib.Core.Path.{_≡_, sym, ap, _∙_}
-use mathlib.Core.Bool.{Bool, true, false, or-false, or-true}
+use mathlib.Core.Path.{_≡_}
+use mathlib.Core.Bool.{Bool, true, false}
 use Prim.Native.Nat.{ℕ, _+_, _<_, _≤_}
 use native.Mathlib.Omega.{arith}
-use native.Mathlib.Numerals.{add-one}
 use borrow.Author.Count.{below-more}
-use Rattle.chains.specs.Tests.{any, First}
+use Rattle.chains.specs.Tests.{First}
 
 -- none of those below i passes
 pub record Passed (P : ℕ → Bool) (n i : ℕ) : Type 0 where
@@ -23,17 +22,3 @@ first-here P n i h e = record { within = h .within; before = h .none; found = λ
 
 pub first-none : (P : ℕ → Bool) (n i : ℕ) → Passed P n i → n ≤ i → First P n i
 first-none P n i h l = record { within = h .within; before = h .none; found = λ l′. absurd (omega arith) }
-
--- the bool r says whether one of those below i passes
-pub record Sought (P : ℕ → Bool) (n i : ℕ) (r : Bool) : Type 0 where
-  pub within : i ≤ n
-  pub is : r ≡ any i P
-
-pub sought-hit : (P : ℕ → Bool) (n i : ℕ) (r : Bool) → Sought P n i r → i < n → P i ≡ true → Sought P n (i + 1) true
-sought-hit P n i r h l e = record { within = omega arith; is = rw (add-one, e) (sym (or-true (any i P))) }
-
-pub sought-miss : (P : ℕ → Bool) (n i : ℕ) (r : Bool) → Sought P n i r → i < n → P i ≡ false → Sought P n (i + 1) r
-sought-miss P n i r h l e = record { within = omega arith; is = h .is ∙ (rw (add-one, e) (sym (or-false (any i P)))) }
-
-pub sought-end : (P : ℕ → Bool) (n i : ℕ) (r : Bool) → Sought P n i r → n ≤ i → r ≡ any n P
-sought-end P n i r h l = let e : i ≡ n = omega (arith, h .within) in h .is ∙ ap (λ (k : ℕ). any k P) e

@@ -2,101 +2,187 @@
 use mathlib.Core.Path.{_≡_, refl, sym, ap, _∙_, subst}
 use mathlib.Core.Logic.{_⊎_, ⊎-elim}
 use mathlib.Core.Bool.{Bool, true, false, not, _||_, _&&_}
-use Prim.Native.Nat.{ℕ, _<_, _≤_}
+use Prim.Native.Nat.{ℕ, _-_, _<_, _≤_}
 use native.Mathlib.Omega.{arith}
 use native.Mathlib.Decide.{decLe}
 use mathlib.Core.List.{List}
 use lib.ListN.{length, getD}
 use lib.Dec.{eqb}
-use borrow.Author.Tests.{eqb-true, eq-eqb}
-use Rattle.masks.specs.Bit.{bit, meeting}
-use Rattle.masks.proofs.Bits.{meeting-some, meeting-none}
-use Rattle.chains.specs.Tests.{any, First}
-use Rattle.chains.proofs.Bools.{true-false, or-cases, and-parts, or-left, or-right, and-both, same-test}
-use Rattle.chains.proofs.Reach.{reach}
+use borrow.Author.Tests.{eqb-true, eqb-false, eq-eqb, ne-eqb, not-true}
+use Rattle.masks.specs.Bit.{width, bit, meeting}
+use Rattle.masks.proofs.Bits.{bit-zero, meeting-some}
+use Rattle.chains.specs.Chain.{LeadsOn}
+use Rattle.chains.specs.Tests.{Tells, any, First}
+use Rattle.chains.proofs.Bools.{or-cases, and-parts, or-left, or-right, and-both, same-test, told-yes, told-of, told-same, true-false}
+use Rattle.chains.proofs.Reach.{reach, reach-leads, leads-reach, reach-tells}
+use Rattle.chains.proofs.Walks.{walk-last}
 use Rattle.chains.proofs.Loops.{comesBack}
-use Rattle.chains.proofs.Tests.{any-some, some-any, any-same, comesTo, meetAgain, fork, begins}
-use Rattle.reach.specs.Table.{Holds, Table}
-use Rattle.reach.proofs.Rounding.{Between, table-between}
-use Rattle.verdict.specs.Searches.{ownBit, forkBy, forksBy, beginsBy}
-
-meets-at : (a b k : ℕ) → bit a k ≡ true → bit b k ≡ true → meeting a b ≡ true
-meets-at a b k x y = go (meeting a b) refl
-  where
-    go : (m : Bool) → meeting a b ≡ m → meeting a b ≡ true
-    go true e = e
-    go false e = absurd (meeting-none a b e k x y)
-
--- a bit of the mask lies inside
-inside : {n : ℕ} {P : ℕ → Bool} {mask : ℕ} → Holds n P mask → (k : ℕ) → bit mask k ≡ true → (k < n) × (P k ≡ true)
-inside {n} {P} {mask} h k e = go (decLe n k)
-  where
-    go : Dec (n ≤ k) → (k < n) × (P k ≡ true)
-    go (yes l) = absurd (true-false e (h .beyond k l))
-    go (no f) = let l : k < n = omega arith in (l, sym (h .inside k l) ∙ e)
+use Rattle.chains.proofs.Tests.{any-some, some-any, comesTo, meetAgain, fork, begins}
+use Rattle.reach.specs.Led.{Numbers, Led}
+use Rattle.reach.proofs.Growing.{more-bits}
+use Rattle.verdict.specs.Searches.{leadsBack, ForksEarlier, StartsAt, beginsBy}
+use Rattle.verdict.proofs.Meeting.{meets-at, meets-back}
 
 pub first-same : (P Q : ℕ → Bool) (n r : ℕ) → ((i : ℕ) → i < n → P i ≡ Q i) → First P n r → First Q n r
 first-same P Q n r e f = record { within = f .within; before = λ k l. sym (e k (omega (arith, f .within))) ∙ f .before k l; found = λ l. sym (e r l) ∙ f .found l }
 
-module _ (fs ts starts ends : List ℕ) (of-starts : Table fs ts fs starts) (of-ends : Table fs ts ts ends) where
-  abbrev s : Between fs ts fs (length fs) starts
-  s = table-between fs ts fs starts of-starts
+module _ (ss es onward : List ℕ) (led : Led ss es onward) where
+  leads : (i x : ℕ) → i < length ss → bit (getD onward i 0) x ≡ true → LeadsOn ss es i x
+  unfolding Led
+  leads i x l e = told-yes (bit (getD onward i 0) x) (led i x l) e
 
-  abbrev t : Between fs ts ts (length fs) ends
-  t = table-between fs ts ts ends of-ends
+  has : (i x : ℕ) → i < length ss → LeadsOn ss es i x → bit (getD onward i 0) x ≡ true
+  unfolding Led
+  has i x l w = told-of (bit (getD onward i 0) x) (led i x l) w
 
-  pub own-bit : (i : ℕ) → i < length fs → ownBit starts i ≡ comesBack fs ts i
-  unfolding Between
-  own-bit i l = s i l .inside i l
+  pub back-same : (i : ℕ) → i < length ss → leadsBack ss onward i ≡ comesBack ss es i
+  unfolding Led
+  back-same i l = told-same (LeadsOn ss es i (getD ss i 0)) (leadsBack ss onward i) (comesBack ss es i) (led i (getD ss i 0) l) (reach-tells ss es i (getD ss i 0))
 
-  meets-same : (a b : ℕ) → a < length fs → b < length fs → meeting (getD ends a 0) (getD ends b 0) ≡ meetAgain fs ts a b
-  unfolding Between meetAgain
-  meets-same a b la lb =
-      same-test (meeting (getD ends a 0) (getD ends b 0)) (any (length fs) both)
-      (λ e. let r = meeting-some (getD ends a 0) (getD ends b 0) e in
-      let x = inside (t a la) (r .0) (r .1) in
-      let y = inside (t b lb) (r .0) (r .2) in
-      some-any (length fs) both (r .0) (x .0) (and-both (reach fs ts (length fs) a (getD ts (r .0) 0)) (reach fs ts (length fs) b (getD ts (r .0) 0)) (x .1) (y .1)))
-      (λ e. let r = any-some (length fs) both e in
-      let g = and-parts (reach fs ts (length fs) a (getD ts (r .0) 0)) (reach fs ts (length fs) b (getD ts (r .0) 0)) (r .2) in
-      meets-at (getD ends a 0) (getD ends b 0) (r .0) (t a la .inside (r .0) (r .1) ∙ g .0) (t b lb .inside (r .0) (r .1) ∙ g .1))
-    where
-      both : ℕ → Bool
-      both v = reach fs ts (length fs) a (getD ts v 0) && reach fs ts (length fs) b (getD ts v 0)
+  abbrev both : ℕ → ℕ → ℕ → Bool
+  both a b v = reach ss es (length ss) a (getD es v 0) && reach ss es (length ss) b (getD es v 0)
 
-  forks-same : (a : ℕ) → a < length fs → forksBy fs ends a ≡ any (length fs) (λ b. fork fs ts a b)
-  unfolding fork
-  forks-same a la =
-      any-same (length fs) (forkBy fs ends a) (λ b. fork fs ts a b)
-      (λ b lb. ap (λ (x : Bool). (not (eqb a b) && eqb (getD fs a 0) (getD fs b 0)) && x) (meets-same a b la lb))
+  meets-same : (a b : ℕ) → a < length ss → b < length ss → meeting (getD onward a 0) (getD onward b 0) ≡ true → meetAgain ss es a b ≡ true
+  unfolding meetAgain
+  meets-same a b la lb e =
+      let r = meeting-some (getD onward a 0) (getD onward b 0) e in
+      let w = leads a (r .0) la (r .1) in
+      let v = walk-last ss es (getD ss a 0) a (w .0) (r .0) (la, refl, w .1) in
+      some-any (length ss) (both a b) (v .0) (v .1)
+      (and-both _ _ (leads-reach ss es a (getD es (v .0) 0) (subst (λ (x : ℕ). LeadsOn ss es a x) (sym (v .2)) w))
+      (leads-reach ss es b (getD es (v .0) 0) (subst (λ (x : ℕ). LeadsOn ss es b x) (sym (v .2)) (leads b (r .0) lb (r .2)))))
 
-  pub begins-same : (forking : ℕ) → Holds (length fs) (forksBy fs ends) forking → (i : ℕ) → i < length fs → beginsBy starts forking i ≡ begins fs ts i
-  unfolding Between begins comesTo
-  begins-same f h i l =
-      same-test (beginsBy starts f i) (any (length fs) begun) (λ e. ⊎-elim own onward (or-cases (bit f i) (meeting (getD starts i 0) f) e)) back
-    where
-      begun : ℕ → Bool
-      begun a = (reach fs ts (length fs) i (getD fs a 0) || eqb a i) && any (length fs) (λ b. fork fs ts a b)
+  same-meets : (a b : ℕ) → a < length ss → b < length ss → meetAgain ss es a b ≡ true → meeting (getD onward a 0) (getD onward b 0) ≡ true
+  unfolding meetAgain
+  same-meets a b la lb e =
+      let r = any-some (length ss) (both a b) e in
+      let g = and-parts (reach ss es (length ss) a (getD es (r .0) 0)) (reach ss es (length ss) b (getD es (r .0) 0)) (r .2) in
+      meets-at (getD onward a 0) (getD onward b 0) (getD es (r .0) 0) (has a _ la (reach-leads ss es a _ (g .0))) (has b _ lb (reach-leads ss es b _ (g .1)))
 
-      at : (a : ℕ) → a < length fs → bit f a ≡ true → (reach fs ts (length fs) i (getD fs a 0) || eqb a i) ≡ true → any (length fs) begun ≡ true
-      at a la x y =
-          some-any (length fs) begun a la
-          (and-both (reach fs ts (length fs) i (getD fs a 0) || eqb a i) (any (length fs) (λ b. fork fs ts a b)) y (sym (h .inside a la ∙ forks-same a la) ∙ x))
+  -- of two routes that fork the higher does so with one of an earlier turn upwards
+  module _ (up : ℕ) (told-up : (a : ℕ) → Tells (ForksEarlier ss onward false (length ss) a) (bit up a)) where
+    none-forks : up ≡ 0 → (a b : ℕ) → a < length ss → b < length ss → fork ss es a b ≡ true → ⊥
+    unfolding fork
+    none-forks z a b la lb h =
+        let g = and-parts (not (eqb a b) && eqb (getD ss a 0) (getD ss b 0)) (meetAgain ss es a b) h in
+        let k = and-parts (not (eqb a b)) (eqb (getD ss a 0) (getD ss b 0)) (g .0) in
+        let e = eqb-true _ _ (k .1) in
+        let m = same-meets a b la lb (g .1) in
+        go (decLe a b) (eqb-false a b (not-true (eqb a b) (k .0))) e m
+      where
+        no-bit : (x : ℕ) → ForksEarlier ss onward false (length ss) x → ⊥
+        no-bit x f = true-false (told-of (bit up x) (told-up x) f) (ap (λ (y : ℕ). bit y x) z ∙ bit-zero x)
 
-      own : bit f i ≡ true → any (length fs) begun ≡ true
-      own x = at i l x (or-right (reach fs ts (length fs) i (getD fs i 0)) (eqb i i) (eq-eqb i i refl))
+        go : Dec (a ≤ b) → (a ≡ b → ⊥) → getD ss a 0 ≡ getD ss b 0 → meeting (getD onward a 0) (getD onward b 0) ≡ true → ⊥
+        go (yes l) n e m = no-bit b (b, a, lb, omega arith, refl, e, m)
+        go (no g) n e m = no-bit a (a, b, la, omega arith, refl, sym e, meets-back (getD onward a 0) (getD onward b 0) m)
 
-      onward : meeting (getD starts i 0) f ≡ true → any (length fs) begun ≡ true
-      onward e =
-          let r = meeting-some (getD starts i 0) f e in
-          let x = inside (s i l) (r .0) (r .1) in
-          at (r .0) (x .0) (r .2) (or-left (reach fs ts (length fs) i (getD fs (r .0) 0)) (eqb (r .0) i) (x .1))
+    pub none-begins : up ≡ 0 → First (begins ss es) (length ss) (length ss)
+    unfolding begins
+    none-begins z = record { within = omega arith; before = λ i l. never i (begins ss es i) refl; found = λ l. absurd (omega arith) }
+      where
+        never : (i : ℕ) (b : Bool) → begins ss es i ≡ b → begins ss es i ≡ false
+        never i false e = e
+        never i true e =
+            let r = any-some (length ss) (λ a. comesTo ss es i a && any (length ss) (λ b. fork ss es a b)) e in
+            let s = any-some (length ss) (λ b. fork ss es (r .0) b) (and-parts (comesTo ss es i (r .0)) (any (length ss) (λ b. fork ss es (r .0) b)) (r .2) .1) in
+            absurd (none-forks z (r .0) (s .0) (r .1) (s .1) (s .2))
 
-      back : any (length fs) begun ≡ true → beginsBy starts f i ≡ true
-      back e =
-          let r = any-some (length fs) begun e in
-          let g = and-parts (reach fs ts (length fs) i (getD fs (r .0) 0) || eqb (r .0) i) (any (length fs) (λ b. fork fs ts (r .0) b)) (r .2) in
-          let x : bit f (r .0) ≡ true = h .inside (r .0) (r .1) ∙ forks-same (r .0) (r .1) ∙ g .1 in
-          ⊎-elim (λ z. or-right (bit f i) (meeting (getD starts i 0) f) (meets-at (getD starts i 0) f (r .0) (s i l .inside (r .0) (r .1) ∙ z) x))
-          (λ z. or-left (bit f i) (meeting (getD starts i 0) f) (subst (λ (k : ℕ). bit f k ≡ true) (eqb-true (r .0) i z) x))
-          (or-cases (reach fs ts (length fs) i (getD fs (r .0) 0)) (eqb (r .0) i) (g .0))
+  -- the routes that fork with one of an earlier turn, upwards and downwards, are those that fork
+  module _ (up below forks : ℕ) (told-up : (a : ℕ) → Tells (ForksEarlier ss onward false (length ss) a) (bit up a))
+      (told-down : (a : ℕ) → Tells (ForksEarlier ss onward true (length ss) a) (bit below a)) (either : (a : ℕ) → bit forks a ≡ bit up a || bit below a) where
+    forked : (a b : ℕ) → a < length ss → b < length ss → (a ≡ b → ⊥) → getD ss b 0 ≡ getD ss a 0 → meeting (getD onward b 0) (getD onward a 0) ≡ true
+        → any (length ss) (λ b. fork ss es a b) ≡ true
+    unfolding fork
+    forked a b la lb n e m =
+        some-any (length ss) (λ b. fork ss es a b) b lb
+        (and-both _ _ (and-both _ _ (ap not (ne-eqb a b n)) (eq-eqb _ _ (sym e))) (meets-same a b la lb (meets-back (getD onward b 0) (getD onward a 0) m)))
+
+    earlier-forked : (down : Bool) (a : ℕ) → ForksEarlier ss onward down (length ss) a → (a < length ss) × (any (length ss) (λ b. fork ss es a b) ≡ true)
+    earlier-forked false a (t, u, lt, lu, q, e, m) = let l : a < length ss = omega arith in (l, forked a u l (omega arith) (λ z. absurd (omega arith)) e m)
+    earlier-forked true a (t, u, lt, lu, q, e, m) =
+        let l : a < length ss = omega arith in (l, forked a (length ss - 1 - u) l (omega arith) (λ z. absurd (omega arith)) e m)
+
+    pub forks-is : (a : ℕ) → bit forks a ≡ true → (a < length ss) × (any (length ss) (λ b. fork ss es a b) ≡ true)
+    forks-is a h =
+        ⊎-elim (λ b. earlier-forked false a (told-yes (bit up a) (told-up a) b)) (λ b. earlier-forked true a (told-yes (bit below a) (told-down a) b))
+        (or-cases (bit up a) (bit below a) (sym (either a) ∙ h))
+
+    pub is-forks : (a : ℕ) → a < length ss → any (length ss) (λ b. fork ss es a b) ≡ true → bit forks a ≡ true
+    unfolding fork
+    is-forks a la h =
+        let r = any-some (length ss) (λ b. fork ss es a b) h in
+        let b = r .0 in
+        let g = and-parts (not (eqb a b) && eqb (getD ss a 0) (getD ss b 0)) (meetAgain ss es a b) (r .2) in
+        let k = and-parts (not (eqb a b)) (eqb (getD ss a 0) (getD ss b 0)) (g .0) in
+        let n = eqb-false a b (not-true (eqb a b) (k .0)) in
+        let e = sym (eqb-true _ _ (k .1)) in
+        let m = meets-back (getD onward a 0) (getD onward b 0) (same-meets a b la (r .1) (g .1)) in
+        either a ∙ at b (decLe a b) (r .1) n e m
+      where
+        at : (b : ℕ) → Dec (a ≤ b) → b < length ss → (a ≡ b → ⊥) → getD ss b 0 ≡ getD ss a 0 → meeting (getD onward b 0) (getD onward a 0) ≡ true
+            → bit up a || bit below a ≡ true
+        at b (yes l) lb n e m =
+            let back : length ss - 1 - (length ss - 1 - b) ≡ b = omega arith in
+            or-right (bit up a) (bit below a)
+            (told-of (bit below a) (told-down a) (
+              length ss - 1 - a,
+              length ss - 1 - b,
+              omega arith,
+              omega arith,
+              omega arith,
+              ap (λ (x : ℕ). getD ss x 0) back ∙ e,
+              ap (λ (x : ℕ). meeting (getD onward x 0) (getD onward a 0)) back ∙ m,
+            ))
+        at b (no g) lb n e m = or-left (bit up a) (bit below a) (told-of (bit up a) (told-up a) (a, b, la, omega arith, refl, e, m))
+
+    -- and with where those start, the routes that begin a doubling
+    module _ (low : Numbers ss es) (places : ℕ) (told-places : (x : ℕ) → Tells (StartsAt ss forks (length ss) x) (bit places x)) where
+      abbrev begun : ℕ → ℕ → Bool
+      begun i a = comesTo ss es i a && any (length ss) (λ b. fork ss es a b)
+
+      pub begins-same : (i : ℕ) → i < length ss → beginsBy onward forks places i ≡ begins ss es i
+      unfolding begins comesTo
+      begins-same i l =
+          same-test (beginsBy onward forks places i) (any (length ss) (begun i))
+          (λ e. ⊎-elim own onwards (or-cases (bit forks i) (meeting (getD onward i 0) places) e)) back
+        where
+          own : bit forks i ≡ true → any (length ss) (begun i) ≡ true
+          own x = some-any (length ss) (begun i) i l (and-both _ _ (or-right (reach ss es (length ss) i (getD ss i 0)) (eqb i i) (eq-eqb i i refl)) (forks-is i x .1))
+
+          onwards : meeting (getD onward i 0) places ≡ true → any (length ss) (begun i) ≡ true
+          onwards e =
+              let r = meeting-some (getD onward i 0) places e in
+              let s = told-yes (bit places (r .0)) (told-places (r .0)) (r .2) in
+              some-any (length ss) (begun i) (s .0) (s .1)
+              (and-both _ _ (or-left (reach ss es (length ss) i (getD ss (s .0) 0)) (eqb (s .0) i)
+              (leads-reach ss es i (getD ss (s .0) 0) (subst (λ (x : ℕ). LeadsOn ss es i x) (sym (s .3)) (leads i (r .0) l (r .1))))) (forks-is (s .0) (s .2) .1))
+
+          back : any (length ss) (begun i) ≡ true → beginsBy onward forks places i ≡ true
+          back e =
+              let r = any-some (length ss) (begun i) e in
+              let a = r .0 in
+              let g = and-parts (reach ss es (length ss) i (getD ss a 0) || eqb a i) (any (length ss) (λ b. fork ss es a b)) (r .2) in
+              let f = is-forks a (r .1) (g .1) in
+              ⊎-elim
+              (λ z. let w = reach-leads ss es i (getD ss a 0) z in
+              let v = walk-last ss es (getD ss i 0) i (w .0) (getD ss a 0) (l, refl, w .1) in
+              let small : getD ss a 0 < width = omega (arith, v .2, low .to .low (v .0) (omega (arith, v .1, low .same))) in
+              or-right (bit forks i) (meeting (getD onward i 0) places)
+              (meets-at (getD onward i 0) places (getD ss a 0) (has i (getD ss a 0) l w)
+              (told-of (bit places (getD ss a 0)) (told-places (getD ss a 0)) (a, r .1, f, refl, small))))
+              (λ z. or-left (bit forks i) (meeting (getD onward i 0) places) (subst (λ (k : ℕ). bit forks k ≡ true) (eqb-true a i z) f))
+              (or-cases (reach ss es (length ss) i (getD ss a 0)) (eqb a i) (g .0))
+
+      -- there is one where some route forks
+      pub some-begins : (r : ℕ) → (up ≡ 0 → ⊥) → First (beginsBy onward forks places) (length ss) r → r < length ss
+      some-begins r nz f = go (decLe (length ss) r)
+        where
+          no-bit : length ss ≤ r → (a : ℕ) → bit up a ≡ true → bit 0 a ≡ true
+          no-bit l a h =
+              let x : bit forks a ≡ true = either a ∙ or-left (bit up a) (bit below a) h in
+              absurd (true-false (or-left (bit forks a) (meeting (getD onward a 0) places) x) (f .before a (omega (arith, forks-is a x .0))))
+
+          go : Dec (length ss ≤ r) → r < length ss
+          go (yes l) = absurd (nz (omega (arith, more-bits up 0 (no-bit l))))
+          go (no n) = omega arith

@@ -1,24 +1,27 @@
 -- What the searches over the masks of `reach` look for. Assumes nothing: these are definitions.
-use mathlib.Core.Bool.{Bool, not, _||_, _&&_}
-use Prim.Native.Nat.{ℕ}
+use mathlib.Core.Path.{_≡_}
+use mathlib.Core.Bool.{Bool, true, _||_}
+use Prim.Native.Nat.{ℕ, _<_}
 use mathlib.Core.List.{List}
 use lib.ListN.{length, getD}
-use lib.Dec.{eqb}
-use Rattle.masks.specs.Bit.{bit, meeting}
-use Rattle.chains.specs.Tests.{any}
+use Rattle.masks.specs.Bit.{width, bit, meeting}
+use Rattle.reach.specs.Led.{turn}
 
--- mask i has route i itself: the route leads on to the place where it starts
-abbrev pub ownBit : List ℕ → ℕ → Bool
-ownBit starts i = bit (getD starts i 0) i
+-- route i leads on to where it starts
+abbrev pub leadsBack : List ℕ → List ℕ → ℕ → Bool
+leadsBack starts onward i = bit (getD onward i 0) (getD starts i 0)
 
--- routes a and b differ, start at one place and lead on to one place
-abbrev pub forkBy : List ℕ → List ℕ → ℕ → ℕ → Bool
-forkBy froms ends a b = (not (eqb a b) && eqb (getD froms a 0) (getD froms b 0)) && meeting (getD ends a 0) (getD ends b 0)
+-- route a had its turn among the first m, and before it one that starts where a does and leads on to a place that a leads on to
+abbrev pub ForksEarlier : List ℕ → List ℕ → Bool → ℕ → ℕ → Type 0
+ForksEarlier starts onward down m a =
+    (t u : ℕ) × (t < m) × (u < t) × (a ≡ turn (length starts) down t)
+    × (getD starts (turn (length starts) down u) 0 ≡ getD starts a 0)
+    × (meeting (getD onward (turn (length starts) down u) 0) (getD onward a 0) ≡ true)
 
--- route a makes such a pair with some route
-abbrev pub forksBy : List ℕ → List ℕ → ℕ → Bool
-forksBy froms ends a = any (length froms) (forkBy froms ends a)
+-- one of the first m routes is in the mask and starts at the number x, which a mask can have
+abbrev pub StartsAt : List ℕ → ℕ → ℕ → ℕ → Type 0
+StartsAt starts routes m x = (a : ℕ) × (a < m) × (bit routes a ≡ true) × (getD starts a 0 ≡ x) × (x < width)
 
 -- route i forks, or leads on to where a route starts that does
-abbrev pub beginsBy : List ℕ → ℕ → ℕ → Bool
-beginsBy starts forking i = bit forking i || meeting (getD starts i 0) forking
+abbrev pub beginsBy : List ℕ → ℕ → ℕ → ℕ → Bool
+beginsBy onward forks places i = bit forks i || meeting (getD onward i 0) places

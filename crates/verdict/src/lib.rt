@@ -1,15 +1,16 @@
 // The verdict on a table of routes: a loop, a doubling, or sound (refusals 10 and 11 of the book reader, and part of 12).
-// What it says is stated over chains (specs/Verdicts.antt); the masks of `marking` and `reach` are only how it is found.
+// What it says is stated over chains (specs/Verdicts.antt); numbers and masks are only how it is found.
 ghost use mathlib.Core.Path.{_≡_};
-ghost use Prim.Native.Nat.{_<_, _≤_};
-ghost use lib.ListN.{length};
+ghost use Prim.Native.Nat.{ℕ, _-_, _<_, _≤_};
+ghost use lib.ListN.{length, take, drop};
 ghost use Rattle.chains.specs.Chain.{IsSound};
 ghost use Rattle.chains.specs.Tests.{Tells, First};
-ghost use Rattle.masks.specs.Bit.{width};
-ghost use Rattle.reach.specs.Table.{Holds};
-ghost use Rattle.verdict.specs.Searches.{ownBit, forkBy, forksBy, beginsBy};
+ghost use Rattle.masks.specs.Bit.{width, bit};
+ghost use Rattle.reach.specs.Led.{Starts, Numbers};
+ghost use Rattle.verdict.specs.Searches.{leadsBack, ForksEarlier, StartsAt, beginsBy};
 ghost use Rattle.verdict.specs.Verdicts.{Judged};
 use masks::WIDTH;
+use reach::NUMBERS;
 
 // Routes are named by their index in the table.
 pub enum Verdict {
@@ -21,14 +22,24 @@ pub enum Verdict {
     Sound,
 }
 
-// The first route whose own bit is set, or n.
-fn first_loop(starts: &[u64], n: usize) -> usize
-    requires { ⌜ (n ≤ width) × (n ≤ length (now starts)) ⌝ }
-    ensures { λ r. ⌜ First (ownBit (now (starts .entry))) n r ⌝ }
+// Whether the mask has a number, which may be one that no mask has.
+fn among(mask: u64, number: usize) -> bool
+    ensures { λ r. ⌜ r ≡ bit mask number ⌝ }
+{
+    if number < WIDTH {
+        return masks::has(mask, number as u32);
+    }
+    false
+}
+
+// The first route that leads on to where it starts, or n.
+fn first_loop(starts: &[u8], onward: &[u64]) -> usize
+    requires { ⌜ Starts (now starts) × (length (now starts) ≤ length (now onward)) ⌝ }
+    ensures { λ r. ⌜ First (leadsBack (now (starts .entry)) (now (onward .entry))) (length (now (starts .entry))) r ⌝ }
 {
     let mut i: usize = 0;
-    while i < n {
-        if masks::has(starts[i], i as u32) {
+    while i < starts.len() {
+        if among(onward[i], reach::start_of(starts, i)) {
             return i;
         }
         i += 1;
@@ -36,60 +47,53 @@ fn first_loop(starts: &[u64], n: usize) -> usize
     i
 }
 
-// Whether routes a and b are two that leave one place and lead on to one place.
-fn fork(froms: &[u32], ends: &[u64], a: usize, b: usize) -> bool
-    requires { ⌜ (length (now froms) ≤ length (now ends)) × (a < length (now froms)) × (b < length (now froms)) ⌝ }
-    ensures { λ r. ⌜ r ≡ forkBy (now (froms .entry)) (now (ends .entry)) a b ⌝ }
+// The routes that fork with one of an earlier turn: both start at one place and lead on to one place.
+fn forking(starts: &[u8], onward: &[u64], down: bool) -> u64
+    requires { ⌜ Starts (now starts) × (length (now starts) ≤ length (now onward)) ⌝ }
+    ensures { λ r. ⌜ ((a : ℕ) → Tells (ForksEarlier (now (starts .entry)) (now (onward .entry)) down (length (now (starts .entry))) a) (bit r a)) ⌝ }
 {
-    if a == b {
-        return false;
-    }
-    if froms[a] != froms[b] {
-        return false;
-    }
-    masks::meet(ends[a], ends[b])
-}
-
-// Whether route a forks with some route.
-fn forks(froms: &[u32], ends: &[u64], a: usize) -> bool
-    requires { ⌜ (length (now froms) ≤ length (now ends)) × (a < length (now froms)) ⌝ }
-    ensures { λ r. ⌜ r ≡ forksBy (now (froms .entry)) (now (ends .entry)) a ⌝ }
-{
-    let mut r = false;
-    let mut b: usize = 0;
-    while b < froms.len() {
-        if fork(froms, ends, a, b) {
-            r = true;
+    let n = starts.len();
+    let mut seen = [0u64; NUMBERS];
+    let mut forks: u64 = 0;
+    let mut t: usize = 0;
+    while t < n {
+        let a = reach::nth(t, n, down);
+        let start = reach::start_of(starts, a);
+        let earlier = seen[start];
+        if masks::meet(earlier, onward[a]) {
+            forks = masks::with(forks, a as u32);
         }
-        b += 1;
+        seen[start] = masks::both(earlier, onward[a]);
+        t += 1;
     }
-    r
+    forks
 }
 
-// The routes that fork.
-fn forking(froms: &[u32], ends: &[u64]) -> u64
-    requires { ⌜ (length (now froms) ≤ width) × (length (now froms) ≤ length (now ends)) ⌝ }
-    ensures { λ r. ⌜ Holds (length (now (froms .entry))) (forksBy (now (froms .entry)) (now (ends .entry))) r ⌝ }
+// The numbers at which routes of the mask start, of those that a mask can have.
+fn starts_of(starts: &[u8], routes: u64) -> u64
+    requires { ⌜ Starts (now starts) ⌝ }
+    ensures { λ r. ⌜ ((x : ℕ) → Tells (StartsAt (now (starts .entry)) routes (length (now (starts .entry))) x) (bit r x)) ⌝ }
 {
-    let mut mask: u64 = 0;
+    let mut at: u64 = 0;
     let mut a: usize = 0;
-    while a < froms.len() {
-        if forks(froms, ends, a) {
-            mask = masks::with(mask, a as u32);
+    while a < starts.len() {
+        let start = reach::start_of(starts, a);
+        if masks::has(routes, a as u32) & (start < WIDTH) {
+            at = masks::with(at, start as u32);
         }
         a += 1;
     }
-    mask
+    at
 }
 
 // The first route that forks or leads on to where one starts that does, or n.
-fn first_doubling(starts: &[u64], forking: u64, n: usize) -> usize
-    requires { ⌜ (n ≤ width) × (n ≤ length (now starts)) ⌝ }
-    ensures { λ r. ⌜ First (beginsBy (now (starts .entry)) forking) n r ⌝ }
+fn first_doubling(onward: &[u64], forks: u64, places: u64, n: usize) -> usize
+    requires { ⌜ (n ≤ width) × (n ≤ length (now onward)) ⌝ }
+    ensures { λ r. ⌜ First (beginsBy (now (onward .entry)) forks places) n r ⌝ }
 {
     let mut i: usize = 0;
     while i < n {
-        if masks::has(forking, i as u32) | masks::meet(starts[i], forking) {
+        if masks::has(forks, i as u32) | masks::meet(onward[i], places) {
             return i;
         }
         i += 1;
@@ -97,35 +101,45 @@ fn first_doubling(starts: &[u64], forking: u64, n: usize) -> usize
     i
 }
 
-// The verdict on any table, by the masks of `reach`.
-fn judge_by_reach(froms: &[u32], tos: &[u32]) -> Verdict
-    requires { ⌜ (length (now froms) ≤ width) × (length (now froms) ≡ length (now tos)) ⌝ }
-    ensures { λ r. ⌜ Judged (now (froms .entry)) (now (tos .entry)) r ⌝ }
+// The verdict on a table of routes between numbered places.
+fn judge_numbered(starts: &[u8], ends: &[u8]) -> Verdict
+    requires { ⌜ Numbers (now starts) (now ends) ⌝ }
+    ensures { λ r. ⌜ Judged (now (starts .entry)) (now (ends .entry)) r ⌝ }
 {
-    let n = froms.len();
-    let mut starts = [0u64; WIDTH];
-    let mut ends = [0u64; WIDTH];
-    reach::fill(froms, tos, &mut starts, &mut ends);
-    let i = first_loop(&starts, n);
+    let n = starts.len();
+    let mut onward = [0u64; WIDTH];
+    reach::fill(starts, ends, &mut onward);
+    let i = first_loop(starts, &onward);
     if i < n {
         return Verdict::Loop(i);
     }
-    let j = first_doubling(&starts, forking(froms, &ends), n);
-    if j < n {
-        return Verdict::Doubling(j);
+    // of two routes that fork the higher is met upwards
+    let up = forking(starts, &onward, false);
+    if up == 0 {
+        return Verdict::Sound;
     }
-    Verdict::Sound
+    let forks = masks::both(up, forking(starts, &onward, true));
+    let j = first_doubling(&onward, forks, starts_of(starts, forks), n);
+    Verdict::Doubling(j)
 }
 
-// The verdict. Most sound tables are seen to be so at once.
+// The numbers from `first` on, up to `end`.
+fn part(numbers: &[u8], first: usize, end: usize) -> &[u8]
+    requires { ⌜ (first ≤ end) × (end ≤ length (now numbers)) ⌝ }
+    ensures { λ r. ⌜ (now r ≡ take (end - first) (drop first (now (numbers .entry)))) × (length (now r) ≡ end - first) ⌝ }
+{
+    &numbers[first..end]
+}
+
+// The verdict. It is the same whether routes join places or their numbers.
 pub fn judge(froms: &[u32], tos: &[u32]) -> Verdict
     requires { ⌜ (length (now froms) ≤ width) × (length (now froms) ≡ length (now tos)) ⌝ }
     ensures { λ r. ⌜ Judged (now (froms .entry)) (now (tos .entry)) r ⌝ }
 {
-    if marking::seen_sound(froms, tos) {
-        return Verdict::Sound;
-    }
-    judge_by_reach(froms, tos)
+    let n = froms.len();
+    let mut numbers = [0u8; NUMBERS];
+    numbering::number_all(tos, froms, &mut numbers);
+    judge_numbered(part(&numbers, n, n + n), part(&numbers, 0, n))
 }
 
 // Whether the verdict is sound.

@@ -1,54 +1,73 @@
--- `reach::fill` meets its contract: the rows are the tables with no routes between, and each round lets one route more stand between. Assumes nothing.
-use borrow.Author.Needs.{needs}
-use Prim.Native.Nat.{_-_}
+-- `reach::fill` meets its contract: the masks of the first i routes say what each leads on to. Assumes nothing.
 use mathlib.Core.Path.{refl}
-use Rattle.reach.proofs.Rounding.{Rounds, between-start, rounds-more, rounds-end}
+use Prim.Native.Nat.{_-_, _*_, _<_}
+use native.Mathlib.Omega.{arith}
+use lib.ListN.{length}
+use Rattle.masks.specs.Bit.{width}
+use Rattle.reach.proofs.Leading.{Leading, real-start, tells-one, leading-start, leading-more, leading-end}
+use borrow.Author.Needs.{needs}
 use Rattle.reach.proofs.fill.Statement.{statement}
 use Rattle.reach.proofs.fill.Tie as tie
 
 abbrev Inv-loop : tie.InvT-loop
-Inv-loop froms tos starts₀ ends₀ n k₀ starts ends k = Rounds froms tos starts₀ ends₀ k starts ends
+Inv-loop starts ends onward₀ masks i₀ onward i = Leading starts ends onward₀ onward i
 
 abbrev μ-loop : tie.MeasureT-loop
-μ-loop froms tos starts₀ ends₀ n k₀ starts ends k = n - k
+μ-loop starts ends onward₀ masks i₀ onward i = length starts - i
 
-rows-requires : tie.Need-rows-requires Inv-loop μ-loop
-rows-requires c κs = search needs
+slice-aggregate-settle : tie.Need-slice-aggregate-settle Inv-loop μ-loop
+slice-aggregate-settle c = search needs
 
-rows-requires-2 : tie.Need-rows-requires-2 Inv-loop μ-loop
-rows-requires-2 c κs = search needs
+settle-requires : tie.Need-settle-requires Inv-loop μ-loop
+settle-requires c κs = (c .before .before .before .before .pre .0, refl, real-start _ _ (2 * width))
 
 loop-holds : tie.Need-loop-holds Inv-loop μ-loop
-loop-holds c =
-    let at-rows2 = c .before .before .rows2 in
-    let at-rows = c .before .before .before .before .before .before .rows in
-    let at-pre = c .before .before .before .before .before .before .before .before .before .before .before .before .pre in
-    record { within = search needs; long-starts = refl; long-ends = refl; starts = between-start _ _ _ _ (at-pre .1) (at-pre .1) (at-rows .ensures); ends = between-start _ _ _ _ (at-pre .1) refl (at-rows2 .ensures) }
+loop-holds c = leading-start _ _ _
 
-round-requires : tie.Need-round-requires Inv-loop μ-loop
-round-requires c κs = search needs
+end-of-requires : tie.Need-end-of-requires Inv-loop μ-loop
+end-of-requires c κs =
+    let at-pre = c .before .before .before .before .before .before .before .before .pre in
+    (at-pre .0 .to, omega (arith, c .loop-test .taken, at-pre .0 .same))
 
-add-k : tie.Need-add-k Inv-loop μ-loop
-add-k c = search needs
+mul-with : tie.Need-mul-with Inv-loop μ-loop
+mul-with c = search needs
+
+array-read-with : tie.Need-array-read-with Inv-loop μ-loop
+array-read-with c = search needs
+
+cast-with : tie.Need-cast-with Inv-loop μ-loop
+cast-with c = search needs
+
+with-requires : tie.Need-with-requires Inv-loop μ-loop
+with-requires c κs = search needs
+
+mul-onward : tie.Need-mul-onward Inv-loop μ-loop
+mul-onward c = search needs
+
+slice-write-onward : tie.Need-slice-write-onward Inv-loop μ-loop
+slice-write-onward c = search needs
+
+add-i : tie.Need-add-i Inv-loop μ-loop
+add-i c = search needs
 
 loop-less : tie.Need-loop-less Inv-loop μ-loop
 loop-less c = search needs
 
 loop-again : tie.Need-loop-again Inv-loop μ-loop
 loop-again c =
-    let at-round = c .before .before .before .before .round in
-    let at-loop-test = c .before .before .before .before .before .before .before .loop-test in
-    let at-loop = c .before .before .before .before .before .before .before .before .loop in
-    rounds-more _ _ _ _ _ (at-loop .starts) (at-loop .ends) _ _ (at-loop .inv) (at-loop-test .taken) (at-round .kept .0) (at-round .kept .1 .0) (at-round .ensures)
+    let at-end-of = c .before .end-of in
+    let at-loop-test = c .before .before .loop-test in
+    let at-loop = c .before .before .before .loop in
+    let at-settle = c .before .before .before .before .before .settle in
+    let at-pre = c .before .before .before .before .before .before .before .before .before .before .pre in
+    let low : at-loop .i < length (at-loop .onward) = omega (arith, at-loop-test .taken, at-pre .1, at-loop .inv .long) in
+    leading-more _ _ _ _ _ (at-loop .inv) (at-loop-test .taken) low _ (tells-one _ _ _ (at-settle .ensures) _ _ _ (at-end-of .ensures .0) (c .with .ensures))
 
 same-length : tie.Need-same-length Inv-loop μ-loop
 same-length c = search needs
 
-same-length-2 : tie.Need-same-length-2 Inv-loop μ-loop
-same-length-2 c = search needs
-
 returns : tie.Need-returns Inv-loop μ-loop
-returns c = rounds-end _ _ _ _ _ _ _ (c .before .loop .inv) (c .loop-test .left)
+returns c = leading-end _ _ _ _ _ (c .before .loop .inv) (c .loop-test .left)
 
 pub fill-spec : {M : Type 1} → statement M
 fill-spec =
@@ -56,13 +75,18 @@ fill-spec =
     (tie.spec
     Inv-loop
     μ-loop
-    rows-requires
-    rows-requires-2
+    slice-aggregate-settle
+    settle-requires
     loop-holds
-    round-requires
-    add-k
+    end-of-requires
+    mul-with
+    array-read-with
+    cast-with
+    with-requires
+    mul-onward
+    slice-write-onward
+    add-i
     loop-less
     loop-again
     same-length
-    same-length-2
     returns)

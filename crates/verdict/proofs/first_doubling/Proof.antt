@@ -1,18 +1,18 @@
 -- `verdict::first_doubling` meets its contract: of the routes passed none forks or leads on to a fork. Assumes nothing.
-use borrow.Author.Needs.{needs}
 use Prim.Native.Nat.{_-_}
 use mathlib.Core.Path.{sym, ap₂, _∙_}
 use mathlib.Core.Bool.{Bool, _||_}
 use Rattle.verdict.specs.Searches.{beginsBy}
 use Rattle.verdict.proofs.Found.{Passed, passed-start, passed-more, first-here, first-none}
+use borrow.Author.Needs.{needs}
 use Rattle.verdict.proofs.first_doubling.Statement.{statement}
 use Rattle.verdict.proofs.first_doubling.Tie as tie
 
 abbrev Inv-loop : tie.InvT-loop
-Inv-loop starts forking n i₀ i = Passed (beginsBy starts forking) n i
+Inv-loop onward forks places n i₀ i = Passed (beginsBy onward forks places) n i
 
 abbrev μ-loop : tie.MeasureT-loop
-μ-loop starts forking n i₀ i = n - i
+μ-loop onward forks places n i₀ i = n - i
 
 loop-holds : tie.Need-loop-holds Inv-loop μ-loop
 loop-holds c = passed-start _ _
@@ -38,7 +38,8 @@ returns c =
     let at-has = c .before .before .before .has in
     let at-loop = c .before .before .before .before .before .loop in
     let at-args = c .before .before .before .before .before .before .before .args in
-    first-here (beginsBy (at-args .starts .now) (at-args .forking)) _ _ (at-loop .inv) (sym (ap₂ (λ (a b : Bool). a || b) (at-has .ensures) (at-meet .ensures)) ∙ c .if1 .taken)
+    let is = ap₂ (λ (a b : Bool). a || b) (at-has .ensures) (at-meet .ensures) in
+    first-here (beginsBy (at-args .onward .now) (at-args .forks) (at-args .places)) _ _ (at-loop .inv) (sym is ∙ c .if1 .taken)
 
 add-i : tie.Need-add-i Inv-loop μ-loop
 add-i c = search needs
@@ -53,7 +54,8 @@ loop-again c =
     let at-loop-test = c .before .before .before .before .loop-test in
     let at-loop = c .before .before .before .before .before .loop in
     let at-args = c .before .before .before .before .before .before .before .args in
-    passed-more (beginsBy (at-args .starts .now) (at-args .forking)) _ _ (at-loop .inv) (at-loop-test .taken) (sym (ap₂ (λ (a b : Bool). a || b) (at-has .ensures) (at-meet .ensures)) ∙ c .if1 .left)
+    let is = ap₂ (λ (a b : Bool). a || b) (at-has .ensures) (at-meet .ensures) in
+    passed-more (beginsBy (at-args .onward .now) (at-args .forks) (at-args .places)) _ _ (at-loop .inv) (at-loop-test .taken) (sym is ∙ c .if1 .left)
 
 returns-2 : tie.Need-returns-2 Inv-loop μ-loop
 returns-2 c = first-none _ _ _ (c .before .loop .inv) (c .loop-test .left)

@@ -1,35 +1,44 @@
--- `verdict::first_loop` meets its contract: of the routes passed none has its own bit. Assumes nothing.
-use borrow.Author.Needs.{needs}
-use Prim.Native.Nat.{_-_}
-use mathlib.Core.Path.{sym, _∙_}
-use Rattle.verdict.specs.Searches.{ownBit}
+-- `verdict::first_loop` meets its contract: none of the routes passed leads on to where it starts. Assumes nothing.
+use Prim.Native.Nat.{ℕ, _-_}
+use mathlib.Core.Path.{sym, ap, _∙_}
+use lib.ListN.{length, getD}
+use Rattle.masks.specs.Bit.{bit}
+use Rattle.verdict.specs.Searches.{leadsBack}
 use Rattle.verdict.proofs.Found.{Passed, passed-start, passed-more, first-here, first-none}
+use borrow.Author.Needs.{needs}
 use Rattle.verdict.proofs.first_loop.Statement.{statement}
 use Rattle.verdict.proofs.first_loop.Tie as tie
 
 abbrev Inv-loop : tie.InvT-loop
-Inv-loop starts n i₀ i = Passed (ownBit starts) n i
+Inv-loop starts onward i₀ i = Passed (leadsBack starts onward) (length starts) i
 
 abbrev μ-loop : tie.MeasureT-loop
-μ-loop starts n i₀ i = n - i
+μ-loop starts onward i₀ i = length starts - i
 
 loop-holds : tie.Need-loop-holds Inv-loop μ-loop
 loop-holds c = passed-start _ _
 
-mul-has : tie.Need-mul-has Inv-loop μ-loop
-mul-has c = search needs
+mul-among : tie.Need-mul-among Inv-loop μ-loop
+mul-among c = search needs
 
-shared-slice-read-has : tie.Need-shared-slice-read-has Inv-loop μ-loop
-shared-slice-read-has c = search needs
+shared-slice-read-among : tie.Need-shared-slice-read-among Inv-loop μ-loop
+shared-slice-read-among c = search needs
 
-cast-has : tie.Need-cast-has Inv-loop μ-loop
-cast-has c = search needs
+start-of-requires : tie.Need-start-of-requires Inv-loop μ-loop
+start-of-requires c κs = search needs
 
-has-requires : tie.Need-has-requires Inv-loop μ-loop
-has-requires c κs = search needs
+among-requires : tie.Need-among-requires Inv-loop μ-loop
+among-requires c κs = search needs
 
 returns : tie.Need-returns Inv-loop μ-loop
-returns c = first-here _ _ _ (c .before .before .before .before .loop .inv) (sym (c .before .has .ensures) ∙ c .if1 .taken)
+returns c =
+    let at-among = c .before .among in
+    let at-start-of = c .before .before .start-of in
+    let at-loop = c .before .before .before .before .before .loop in
+    let at-args = c .before .before .before .before .before .before .before .before .args in
+    let onward = at-args .onward .now in
+    let is = at-among .ensures ∙ ap (λ (s : ℕ). bit (getD onward (at-loop .i) 0) s) (at-start-of .ensures .0) in
+    first-here (leadsBack (at-args .starts .now) onward) _ _ (at-loop .inv) (sym is ∙ c .if1 .taken)
 
 add-i : tie.Need-add-i Inv-loop μ-loop
 add-i c = search needs
@@ -38,7 +47,15 @@ loop-less : tie.Need-loop-less Inv-loop μ-loop
 loop-less c = search needs
 
 loop-again : tie.Need-loop-again Inv-loop μ-loop
-loop-again c = passed-more (ownBit (c .before .before .before .before .before .before .args .starts .now)) _ _ (c .before .before .before .before .loop .inv) (c .before .before .before .loop-test .taken) (sym (c .before .has .ensures) ∙ c .if1 .left)
+loop-again c =
+    let at-among = c .before .among in
+    let at-start-of = c .before .before .start-of in
+    let at-loop-test = c .before .before .before .before .loop-test in
+    let at-loop = c .before .before .before .before .before .loop in
+    let at-args = c .before .before .before .before .before .before .before .before .args in
+    let onward = at-args .onward .now in
+    let is = at-among .ensures ∙ ap (λ (s : ℕ). bit (getD onward (at-loop .i) 0) s) (at-start-of .ensures .0) in
+    passed-more (leadsBack (at-args .starts .now) onward) _ _ (at-loop .inv) (at-loop-test .taken) (sym is ∙ c .if1 .left)
 
 returns-2 : tie.Need-returns-2 Inv-loop μ-loop
 returns-2 c = first-none _ _ _ (c .before .loop .inv) (c .loop-test .left)
@@ -50,10 +67,10 @@ first-loop-spec =
     Inv-loop
     μ-loop
     loop-holds
-    mul-has
-    shared-slice-read-has
-    cast-has
-    has-requires
+    mul-among
+    shared-slice-read-among
+    start-of-requires
+    among-requires
     returns
     add-i
     loop-less

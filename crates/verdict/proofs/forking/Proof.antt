@@ -1,25 +1,42 @@
--- `verdict::forking` meets its contract: of the routes below a the mask has those that fork. Assumes nothing.
-use borrow.Author.Needs.{needs}
-use Prim.Native.Nat.{ℕ, _-_, _+_}
+-- `verdict::forking` meets its contract: what was seen is what the routes passed lead on to, by where they start. Assumes nothing.
 use mathlib.Core.Path.{sym, _∙_, subst}
 use mathlib.Core.Logic.{⊎-elim}
-use lib.ListN.{length}
-use Rattle.reach.proofs.Laying.{Filling, filling-start, filling-keep, filling-set, filling-end}
-use Rattle.verdict.specs.Searches.{forksBy}
+use Prim.Native.Nat.{_-_, _+_}
+use lib.ListN.{set}
+use Rattle.verdict.proofs.Gathering.{Gathering, gathering-start, gathering-fork, gathering-keep, gathering-end}
+use borrow.Author.Needs.{needs}
 use Rattle.verdict.proofs.forking.Statement.{statement}
 use Rattle.verdict.proofs.forking.Tie as tie
 
 abbrev Inv-loop : tie.InvT-loop
-Inv-loop froms ends mask₀ a₀ mask a = Filling (length froms) (forksBy froms ends) a mask
+Inv-loop starts onward down n seen₀ forks₀ t₀ seen forks t = Gathering starts onward down t seen forks
 
 abbrev μ-loop : tie.MeasureT-loop
-μ-loop froms ends mask₀ a₀ mask a = length froms - a
+μ-loop starts onward down n seen₀ forks₀ t₀ seen forks t = n - t
 
 loop-holds : tie.Need-loop-holds Inv-loop μ-loop
-loop-holds c = filling-start _ _
+loop-holds c = gathering-start _ _ _
 
-forks-requires : tie.Need-forks-requires Inv-loop μ-loop
-forks-requires c κs = search needs
+nth-requires : tie.Need-nth-requires Inv-loop μ-loop
+nth-requires c κs = search needs
+
+start-of-requires : tie.Need-start-of-requires Inv-loop μ-loop
+start-of-requires c κs = search needs
+
+mul-earlier : tie.Need-mul-earlier Inv-loop μ-loop
+mul-earlier c = search needs
+
+array-read-earlier : tie.Need-array-read-earlier Inv-loop μ-loop
+array-read-earlier c = search needs
+
+mul-meet : tie.Need-mul-meet Inv-loop μ-loop
+mul-meet c = search needs
+
+shared-slice-read-meet : tie.Need-shared-slice-read-meet Inv-loop μ-loop
+shared-slice-read-meet c = search needs
+
+meet-requires : tie.Need-meet-requires Inv-loop μ-loop
+meet-requires c κs = search needs
 
 cast-with : tie.Need-cast-with Inv-loop μ-loop
 cast-with c = search needs
@@ -27,27 +44,53 @@ cast-with c = search needs
 with-requires : tie.Need-with-requires Inv-loop μ-loop
 with-requires c κs = search needs
 
-add-a : tie.Need-add-a Inv-loop μ-loop
-add-a c = search needs
+mul-both : tie.Need-mul-both Inv-loop μ-loop
+mul-both c = search needs
+
+shared-slice-read-both : tie.Need-shared-slice-read-both Inv-loop μ-loop
+shared-slice-read-both c = search needs
+
+both-requires : tie.Need-both-requires Inv-loop μ-loop
+both-requires c κs = search needs
+
+mul-seen : tie.Need-mul-seen Inv-loop μ-loop
+mul-seen c = search needs
+
+array-write-seen : tie.Need-array-write-seen Inv-loop μ-loop
+array-write-seen c = search needs
+
+add-t : tie.Need-add-t Inv-loop μ-loop
+add-t c = search needs
 
 loop-less : tie.Need-loop-less Inv-loop μ-loop
 loop-less c = search needs
 
 loop-again : tie.Need-loop-again Inv-loop μ-loop
 loop-again c =
-    let at-forks = c .before .forks in
-    let at-loop-test = c .before .before .loop-test in
-    let at-loop = c .before .before .before .loop in
-    let at-args = c .before .before .before .before .before .before .args in
-    let n = length (at-args .froms .now) in
-    let P = forksBy (at-args .froms .now) (at-args .ends .now) in
+    let at-if1 = c .before .before .if1 in
+    let at-meet = c .before .before .before .meet in
+    let at-start-of = c .before .before .before .before .before .start-of in
+    let at-nth = c .before .before .before .before .before .before .nth in
+    let at-loop-test = c .before .before .before .before .before .before .before .loop-test in
+    let at-loop = c .before .before .before .before .before .before .before .before .loop in
+    let at-args = c .before .before .before .before .before .before .before .before .before .before .before .args in
+    let starts = at-args .starts .now in
+    let onward = at-args .onward .now in
+    let seen = at-loop .seen in
+    let t = at-loop .t in
+    let a = at-nth .result in
+    let s = at-start-of .result in
+    let v = c .both .result in
+    let Then = Gathering starts onward (at-args .down) (t + 1) (set seen s v) in
+    let fork = gathering-fork starts onward (at-args .down) t seen (at-loop .forks) (at-loop .inv) (at-loop-test .taken) a s (at-nth .ensures .0) (at-start-of .ensures .0) (at-start-of .ensures .1) v (c .both .ensures) in
+    let keep = gathering-keep starts onward (at-args .down) t seen (at-loop .forks) (at-loop .inv) (at-loop-test .taken) a s (at-nth .ensures .0) (at-start-of .ensures .0) (at-start-of .ensures .1) v (c .both .ensures) in
     ⊎-elim
-    (λ w. subst (λ (y : ℕ). Filling n P (at-loop .a + 1) y) (sym (w .2)) (filling-set n P _ _ (at-loop .inv) (at-loop-test .taken) (w .1 .result) (sym (at-forks .ensures) ∙ w .0 .taken) (w .1 .ensures)))
-    (λ w. subst (λ (y : ℕ). Filling n P (at-loop .a + 1) y) (sym (w .1)) (filling-keep n P _ _ (at-loop .inv) (at-loop-test .taken) (sym (at-forks .ensures) ∙ w .0 .left)))
-    (c .if1 .came)
+    (λ w. subst Then (sym (w .2)) (fork (w .1 .result) (sym (at-meet .ensures) ∙ w .0 .taken) (w .1 .ensures)))
+    (λ w. subst Then (sym (w .1)) (keep (sym (at-meet .ensures) ∙ w .0 .left)))
+    (at-if1 .came)
 
 returns : tie.Need-returns Inv-loop μ-loop
-returns c = filling-end _ _ _ _ (c .before .loop .inv) (c .loop-test .left)
+returns c = gathering-end _ _ _ _ _ _ (c .before .loop .inv) (c .loop-test .left)
 
 pub forking-spec : {M : Type 1} → statement M
 forking-spec =
@@ -56,10 +99,21 @@ forking-spec =
     Inv-loop
     μ-loop
     loop-holds
-    forks-requires
+    nth-requires
+    start-of-requires
+    mul-earlier
+    array-read-earlier
+    mul-meet
+    shared-slice-read-meet
+    meet-requires
     cast-with
     with-requires
-    add-a
+    mul-both
+    shared-slice-read-both
+    both-requires
+    mul-seen
+    array-write-seen
+    add-t
     loop-less
     loop-again
     returns)

@@ -1,0 +1,4 @@
+pub mod Empties
+pub mod Firsts
+pub mod Seeking
+pub mod Laying

@@ -1,0 +1,15 @@
+-- The numbers of the places of a column. Assumes nothing: these are definitions.
+use mathlib.Core.Path.{_≡_}
+use Prim.Native.Nat.{ℕ, _<_, _≤_}
+use mathlib.Core.List.{List}
+use lib.ListN.{length, getD}
+
+-- the place with index i stands first at r
+pub record FirstAt (places : List ℕ) (i r : ℕ) : Type 0 where
+  pub within : r ≤ i
+  pub same : getD places r 0 ≡ getD places i 0
+  pub none-before : (k : ℕ) → k < r → getD places k 0 ≡ getD places i 0 → ⊥
+
+-- each place has its number
+unfoldable pub Numbered : List ℕ → List ℕ → Type 0
+Numbered places numbers = (i : ℕ) → i < length places → FirstAt places i (getD numbers i 0)

@@ -1,0 +1,109 @@
+-- `verdict::judge_numbered` meets its contract: what the searches found over the masks is what there is to find over chains. Assumes nothing.
+use native.Mathlib.Omega.{arith}
+use Rattle.chains.proofs.Loops.{comesBack}
+use Rattle.chains.proofs.Tests.{begins}
+use Rattle.verdict.proofs.Masks.{first-same, back-same, none-begins, begins-same, some-begins}
+use Rattle.verdict.proofs.Once.{loop-found, no-loop, doubling-found, no-doubling}
+use borrow.Author.Needs.{needs}
+use borrow.Author.Needs.{needs}
+use Rattle.verdict.proofs.judge_numbered.Statement.{statement}
+use Rattle.verdict.proofs.judge_numbered.Tie as tie
+
+slice-aggregate-fill : tie.Need-slice-aggregate-fill
+slice-aggregate-fill c = search needs
+
+fill-requires : tie.Need-fill-requires
+fill-requires c κs = search needs
+
+slice-aggregate-first-loop : tie.Need-slice-aggregate-first-loop
+slice-aggregate-first-loop c = search needs
+
+first-loop-requires : tie.Need-first-loop-requires
+first-loop-requires c κs = search needs
+
+returns : tie.Need-returns
+returns c =
+    let at-first-loop = c .before .first-loop in
+    let at-fill = c .before .before .before .before .fill in
+    let at-args = c .before .before .before .before .before .before .before .before .args in
+    let ss = at-args .starts .now in
+    let es = at-args .ends .now in
+    loop-found ss es _ (first-same _ (comesBack ss es) _ _ (back-same ss es _ (at-fill .ensures)) (at-first-loop .ensures)) (c .if1 .taken)
+
+slice-aggregate-forking : tie.Need-slice-aggregate-forking
+slice-aggregate-forking c = search needs
+
+forking-requires : tie.Need-forking-requires
+forking-requires c κs = search needs
+
+returns-2 : tie.Need-returns-2
+returns-2 c =
+    let at-forking = c .before .forking in
+    let at-if1 = c .before .before .before .if1 in
+    let at-first-loop = c .before .before .before .before .first-loop in
+    let at-fill = c .before .before .before .before .before .before .before .fill in
+    let at-args = c .before .before .before .before .before .before .before .before .before .before .before .args in
+    let ss = at-args .starts .now in
+    let es = at-args .ends .now in
+    let led = at-fill .ensures in
+    let free = no-loop ss es _ (first-same _ (comesBack ss es) _ _ (back-same ss es _ led) (at-first-loop .ensures)) (at-if1 .left) in
+    no-doubling ss es free _ (none-begins ss es _ led _ (at-forking .ensures) (c .if2 .taken)) (omega arith)
+
+slice-aggregate-forking-2 : tie.Need-slice-aggregate-forking-2
+slice-aggregate-forking-2 c = search needs
+
+forking-requires-2 : tie.Need-forking-requires-2
+forking-requires-2 c κs = search needs
+
+both-requires : tie.Need-both-requires
+both-requires c κs = search needs
+
+slice-aggregate-first-doubling : tie.Need-slice-aggregate-first-doubling
+slice-aggregate-first-doubling c = search needs
+
+starts-of-requires : tie.Need-starts-of-requires
+starts-of-requires c κs = search needs
+
+first-doubling-requires : tie.Need-first-doubling-requires
+first-doubling-requires c κs = search needs
+
+returns-3 : tie.Need-returns-3
+returns-3 c =
+    let at-starts-of = c .before .starts-of in
+    let at-both = c .before .before .before .both in
+    let at-forking2 = c .before .before .before .before .forking2 in
+    let at-if2 = c .before .before .before .before .before .before .if2 in
+    let at-forking = c .before .before .before .before .before .before .before .forking in
+    let at-if1 = c .before .before .before .before .before .before .before .before .before .if1 in
+    let at-first-loop = c .before .before .before .before .before .before .before .before .before .before .first-loop in
+    let at-fill = c .before .before .before .before .before .before .before .before .before .before .before .before .before .fill in
+    let at-pre = c .before .before .before .before .before .before .before .before .before .before .before .before .before .before .before .before .before .pre in
+    let at-args = c .before .before .before .before .before .before .before .before .before .before .before .before .before .before .before .before .before .args in
+    let ss = at-args .starts .now in
+    let es = at-args .ends .now in
+    let led = at-fill .ensures in
+    let free = no-loop ss es _ (first-same _ (comesBack ss es) _ _ (back-same ss es _ led) (at-first-loop .ensures)) (at-if1 .left) in
+    let same = begins-same ss es _ led _ _ _ (at-forking .ensures) (at-forking2 .ensures) (at-both .ensures) (at-pre) _ (at-starts-of .ensures) in
+    let some = some-begins ss es _ led _ _ _ (at-forking .ensures) (at-forking2 .ensures) (at-both .ensures) (at-pre) _ (at-starts-of .ensures) in
+    let found = some _ (at-if2 .left) (c .first-doubling .ensures) in
+    doubling-found ss es free _ (first-same _ (begins ss es) _ _ same (c .first-doubling .ensures)) found
+
+pub judge-numbered-spec : {M : Type 1} → statement M
+judge-numbered-spec =
+    tie.close
+    (tie.spec
+    slice-aggregate-fill
+    fill-requires
+    slice-aggregate-first-loop
+    first-loop-requires
+    returns
+    slice-aggregate-forking
+    forking-requires
+    returns-2
+    slice-aggregate-forking-2
+    forking-requires-2
+    both-requires
+    slice-aggregate-first-doubling
+    starts-of-requires
+    first-doubling-requires
+    returns-3)
