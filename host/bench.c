@@ -89,6 +89,16 @@ static void make_thirty_bits(void) {
     plain_book_read(text.bytes, text.length, book, &line);
 }
 
+/* A text of 64 routes, refused: 63 in one chain, and a last one that closes it or doubles a part of it. */
+static void make_refused(uint32_t last_from, uint32_t last_to, uint32_t refusal) {
+    uint32_t line;
+    text.length = 0;
+    for (uint32_t i = 0; i < 64; i++)
+        text.length += (size_t)sprintf((char *)text.bytes + text.length, "R\t0\t%08X\t0\t%08X\n", (unsigned)(i < 63 ? i : last_from), (unsigned)(i < 63 ? i + 1 : last_to));
+    if (plain_book_read(text.bytes, text.length, book, &line) != refusal)
+        exit(3);
+}
+
 /* The last message of the book that has as many signals as any, a frame for it and values. */
 static void choose_message(void) {
     uint32_t first = 0;
@@ -122,6 +132,12 @@ static void thirty_bits(void) {
     make_thirty_bits();
     choose_message();
 }
+static void closed_chain(void) {
+    make_refused(63, 40, PC_CLOSED_CHAIN);
+}
+static void double_chain(void) {
+    make_refused(10, 12, PC_DOUBLE_CHAIN);
+}
 static void some_faults(void) {
     for (int i = 0; i < 27; i++)
         counts[i] = i % 5 == 0;
@@ -133,6 +149,13 @@ static uint32_t call_book_read(uint32_t turn) {
     uint32_t line;
     (void)turn;
     return face->book_read(text.bytes, text.length, book, &line);
+}
+
+static uint32_t call_book_refused(uint32_t turn) {
+    uint32_t line;
+    (void)turn;
+    face->book_read(text.bytes, text.length, book, &line);
+    return 0;
 }
 
 /* Each of the 199 signals in turn. */
@@ -189,6 +212,8 @@ static const struct {
     { "book-read-typical", typical_book, call_book_read },
     { "book-read-full", full_book, call_book_read },
     { "book-read-30-bits", thirty_bits, call_book_read },
+    { "book-read-loop", closed_chain, call_book_refused },
+    { "book-read-doubling", double_chain, call_book_refused },
     { "frame-read-typical", typical_book, call_frame_read },
     { "frame-read-full", full_book, call_frame_read },
     { "frame-read-30-bits", thirty_bits, call_frame_read },
