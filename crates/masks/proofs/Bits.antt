@@ -8,7 +8,7 @@ use lib.Bits.{bitOr, bitAnd, or-step, and-step, or-shr, and-shr, shifted-half, s
 use lib.Pow.{pow-lt}
 use lib.Dec.{eqb, eqb·zero-suc, eqb·suc-zero, eqb·suc-suc}
 use borrow.Author.Tests.{eqb-true, eqb-false, not-true, not-false}
-use Rattle.masks.specs.Bit.{bit, meeting, contained}
+use Rattle.masks.specs.Bit.{bit, meeting}
 
 or-low : (a b : ℕ) → bitOr a b % 2 ≡ max (a % 2) (b % 2)
 or-low a b = omega (arith, or-step a b)
@@ -101,7 +101,3 @@ unfolding meeting
 meeting-none a b e k x y =
     let z : bitAnd a b ≡ 0 = eqb-true (bitAnd a b) 0 (not-false (eqb (bitAnd a b) 0) e) in
     true-false (bit-and a b k ∙ (rw (x, y))) (ap (λ (n : ℕ). bit n k) z ∙ bit-zero k)
-
-pub contained-bit : (a b : ℕ) → contained a b ≡ true → (k : ℕ) → bit a k ≡ true → bit b k ≡ true
-unfolding contained
-contained-bit a b e k x = and-parts (bit a k) (bit b k) (sym (bit-and a b k) ∙ ap (λ (n : ℕ). bit n k) (eqb-true (bitAnd a b) a e) ∙ x) .1

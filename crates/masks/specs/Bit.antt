@@ -1,4 +1,4 @@
--- A mask's bits, and two questions about two masks. Assumes nothing: these are definitions.
+-- A mask's bits, and whether two masks meet. Assumes nothing: these are definitions.
 use mathlib.Core.Bool.{Bool, not}
 use Prim.Native.Nat.{ℕ, _/_, _%_, _^_}
 use lib.Bits.{bitAnd}
@@ -15,7 +15,3 @@ bit m k = eqb (m / 2 ^ k % 2) 1
 -- a and b have a bit in common
 unfoldable pub meeting : ℕ → ℕ → Bool
 meeting a b = not (eqb (bitAnd a b) 0)
-
--- b has each bit of a
-unfoldable pub contained : ℕ → ℕ → Bool
-contained a b = eqb (bitAnd a b) a

@@ -3,7 +3,7 @@ ghost use mathlib.Core.Path.{_≡_};
 ghost use mathlib.Core.Bool.{_||_};
 ghost use Prim.Native.Nat.{ℕ, _<_};
 ghost use lib.Dec.{eqb};
-ghost use Rattle.masks.specs.Bit.{width, bit, meeting, contained};
+ghost use Rattle.masks.specs.Bit.{width, bit, meeting};
 
 // How many numbers there are.
 pub const WIDTH: usize = 64;
@@ -36,11 +36,4 @@ pub fn meet(a: u64, b: u64) -> bool
     ensures { λ r. ⌜ r ≡ meeting a b ⌝ }
 {
     a & b != 0
-}
-
-// Whether b has all of a.
-pub fn within(a: u64, b: u64) -> bool
-    ensures { λ r. ⌜ r ≡ contained a b ⌝ }
-{
-    a & b == a
 }

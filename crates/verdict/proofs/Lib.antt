@@ -5,3 +5,4 @@ pub mod Starting
 pub mod Masks
 pub mod Renaming
 pub mod Once
+pub mod Judging

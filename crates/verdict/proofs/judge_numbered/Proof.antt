@@ -1,9 +1,5 @@
 -- `verdict::judge_numbered` meets its contract: what the searches found over the masks is what there is to find over chains. Assumes nothing.
-use native.Mathlib.Omega.{arith}
-use Rattle.chains.proofs.Loops.{comesBack}
-use Rattle.chains.proofs.Tests.{begins}
-use Rattle.verdict.proofs.Masks.{first-same, back-same, none-begins, begins-same, some-begins}
-use Rattle.verdict.proofs.Once.{loop-found, no-loop, doubling-found, no-doubling}
+use Rattle.verdict.proofs.Judging.{loop-by, sound-by, doubling-by}
 use borrow.Author.Needs.{needs}
 use borrow.Author.Needs.{needs}
 use Rattle.verdict.proofs.judge_numbered.Statement.{statement}
@@ -22,13 +18,7 @@ first-loop-requires : tie.Need-first-loop-requires
 first-loop-requires c κs = search needs
 
 returns : tie.Need-returns
-returns c =
-    let at-first-loop = c .before .first-loop in
-    let at-fill = c .before .before .before .before .fill in
-    let at-args = c .before .before .before .before .before .before .before .before .args in
-    let ss = at-args .starts .now in
-    let es = at-args .ends .now in
-    loop-found ss es _ (first-same _ (comesBack ss es) _ _ (back-same ss es _ (at-fill .ensures)) (at-first-loop .ensures)) (c .if1 .taken)
+returns c = loop-by _ _ _ (c .before .before .before .before .fill .ensures) _ (c .before .first-loop .ensures) (c .if1 .taken)
 
 slice-aggregate-forking : tie.Need-slice-aggregate-forking
 slice-aggregate-forking c = search needs
@@ -42,12 +32,7 @@ returns-2 c =
     let at-if1 = c .before .before .before .if1 in
     let at-first-loop = c .before .before .before .before .first-loop in
     let at-fill = c .before .before .before .before .before .before .before .fill in
-    let at-args = c .before .before .before .before .before .before .before .before .before .before .before .args in
-    let ss = at-args .starts .now in
-    let es = at-args .ends .now in
-    let led = at-fill .ensures in
-    let free = no-loop ss es _ (first-same _ (comesBack ss es) _ _ (back-same ss es _ led) (at-first-loop .ensures)) (at-if1 .left) in
-    no-doubling ss es free _ (none-begins ss es _ led _ (at-forking .ensures) (c .if2 .taken)) (omega arith)
+    sound-by _ _ _ (at-fill .ensures) _ (at-first-loop .ensures) (at-if1 .left) _ (at-forking .ensures) (c .if2 .taken)
 
 slice-aggregate-forking-2 : tie.Need-slice-aggregate-forking-2
 slice-aggregate-forking-2 c = search needs
@@ -78,15 +63,8 @@ returns-3 c =
     let at-first-loop = c .before .before .before .before .before .before .before .before .before .before .first-loop in
     let at-fill = c .before .before .before .before .before .before .before .before .before .before .before .before .before .fill in
     let at-pre = c .before .before .before .before .before .before .before .before .before .before .before .before .before .before .before .before .before .pre in
-    let at-args = c .before .before .before .before .before .before .before .before .before .before .before .before .before .before .before .before .before .args in
-    let ss = at-args .starts .now in
-    let es = at-args .ends .now in
-    let led = at-fill .ensures in
-    let free = no-loop ss es _ (first-same _ (comesBack ss es) _ _ (back-same ss es _ led) (at-first-loop .ensures)) (at-if1 .left) in
-    let same = begins-same ss es _ led _ _ _ (at-forking .ensures) (at-forking2 .ensures) (at-both .ensures) (at-pre) _ (at-starts-of .ensures) in
-    let some = some-begins ss es _ led _ _ _ (at-forking .ensures) (at-forking2 .ensures) (at-both .ensures) (at-pre) _ (at-starts-of .ensures) in
-    let found = some _ (at-if2 .left) (c .first-doubling .ensures) in
-    doubling-found ss es free _ (first-same _ (begins ss es) _ _ same (c .first-doubling .ensures)) found
+    let by = doubling-by _ _ _ (at-fill .ensures) _ (at-first-loop .ensures) (at-if1 .left) _ (at-forking .ensures) (at-if2 .left) at-pre in
+    by _ _ _ _ (at-forking2 .ensures) (at-both .ensures) (at-starts-of .ensures) (c .first-doubling .ensures)
 
 pub judge-numbered-spec : {M : Type 1} → statement M
 judge-numbered-spec =
