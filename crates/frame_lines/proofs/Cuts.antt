@@ -39,7 +39,7 @@ none-said (Is i) l h = rw h
 none-said Not l h = refl
 
 -- after the first tab
-pub after-tab : (i l : List ℕ) → ofFrameFields (i ∷ fields l) ≡ saidBy (identifier i) l
+after-tab : (i l : List ℕ) → ofFrameFields (i ∷ fields l) ≡ saidBy (identifier i) l
 unfolding ofFrameFields join
 after-tab i l = by (some 9 l .first) (some 9 l .others) (some 9 l .same)
   where

@@ -1,20 +1,18 @@
 -- Digits one by one, and the bytes that pairs of them write. Assumes nothing.
-use mathlib.Core.Path.{_≡_, refl, sym, ap, _∙_}
-use mathlib.Core.Bool.{Bool, true, false, cond, _&&_}
+use mathlib.Core.Path.{_≡_, refl, ap, _∙_}
+use mathlib.Core.Bool.{Bool, true, false, _&&_}
 use mathlib.Core.List.{List, [], _∷_}
 use Prim.Native.Nat.{ℕ, zero, suc, _+_, _*_, _%_, _≤_, _<_}
-use native.Mathlib.Numerals.{add-one}
 use native.Mathlib.Omega.{arith}
 use lib.Dec.{ltb}
-use lib.ListN.{length, drop, getD, drop-of-length-le}
-use lib.Seq.{drop-cons}
-use borrow.Author.Tests.{lt-ltb, le-ltb, ltb-true}
+use lib.ListN.{length, getD}
+use borrow.Author.Tests.{ltb-true}
 use Rattle.numerals.specs.Numeral.{digitValue}
 use Rattle.parts.specs.Joined.{Free, none, more}
 use Rattle.frame_lines.specs.Meaning.{allDigits, bytesIn}
 
 -- the first of two tests that both hold, and the second
-pub both : (a b : Bool) → a && b ≡ true → (a ≡ true) × (b ≡ true)
+both : (a b : Bool) → a && b ≡ true → (a ≡ true) × (b ≡ true)
 both true b e = (refl, e)
 both false b e = (e, absurd (let z : _≡_ {A = ℕ} 0 1 = cc in omega arith))
 

@@ -1,8 +1,6 @@
 -- `frame_lines::frame_of` meets its contract: at each `return` the tests that led there say which case holds. Assumes nothing.
-use mathlib.Core.Path.{_≡_, sym, _∙_}
-use Prim.Native.Nat.{_+_, _-_, _*_, _≤_}
+use Prim.Native.Nat.{_+_, _-_, _*_}
 use native.Mathlib.Omega.{arith}
-use lib.ListN.{length}
 use Rattle.frame_lines.proofs.Digits.{no-digit}
 use Rattle.frame_lines.proofs.Gathered.{Gathered, none-gathered, one-gathered, room, all-digits, gathered}
 use Rattle.frame_lines.proofs.Bytes.{too-long, odd, no-digits, fewer, eight}
