@@ -53,8 +53,8 @@ unfolding numeralFrom allDigits
 digits-in [] v e = refl
 digits-in (b ∷ t) v {n} e = go (ltb (digitValue b) 16) e (digits-in t (v * 16 + digitValue b))
   where
-    go : (q : Bool) → cond q (numeralFrom 16 (v * 16 + digitValue b) t) Not ≡ Is n → (numeralFrom 16 (v * 16 + digitValue b) t ≡ Is n → allDigits t ≡ true)
-        → q && allDigits t ≡ true
+    go : (q : Bool) → cond q (numeralFrom 16 (v * 16 + digitValue b) t) Not ≡ Is n
+        → (numeralFrom 16 (v * 16 + digitValue b) t ≡ Is n → allDigits t ≡ true) → q && allDigits t ≡ true
     go true e r = r e
     go false e r = absurd (let z : _≡_ {A = ℕ} 0 1 = cc in omega arith)
 
@@ -97,9 +97,11 @@ module _ (l : List ℕ) where
     pub no-identifier : n ≡ Not → IllFormed ≡ told (frameLineSays l)
     no-identifier z = ill-formed (λ h t. rw (← x, ← p) z)
 
-    pub one-tab : 8 < length l → getD l 8 0 ≡ 9 → {i : ℕ} {b : List ℕ} {r : FrameLine} → n ≡ Is i → b ≡ drop (8 + 1) l → r ≡ told (saidBy (Is i) b) → r ≡ told (frameLineSays l)
+    pub one-tab : 8 < length l → getD l 8 0 ≡ 9 → {i : ℕ} {b : List ℕ} {r : FrameLine}
+        → n ≡ Is i → b ≡ drop (8 + 1) l → r ≡ told (saidBy (Is i) b) → r ≡ told (frameLineSays l)
     one-tab h t {i} z y r =
         let q : identifier (take 8 l) ≡ Is i = rw (← x, ← p) z in
         let w : take 8 l ++ 9 ∷ drop 9 l ≡ l = rw (drop-cons l 8 0 h, t) at (take-append-drop 8 l) in
-        let k : 8 ≡ indexOf 9 l = sym (ap (indexOf 9) (sym w) ∙ index-after 9 (take 8 l) (drop 9 l) (identifier-free (take 8 l) q) ∙ length-take-le 8 l (omega arith)) in
+        let j : indexOf 9 (take 8 l ++ 9 ∷ drop 9 l) ≡ length (take 8 l) = index-after 9 (take 8 l) (drop 9 l) (identifier-free (take 8 l) q) in
+        let k : 8 ≡ indexOf 9 l = sym (ap (indexOf 9) (sym w) ∙ j ∙ length-take-le 8 l (omega arith)) in
         rw (says 8 k h, q, ← y) r

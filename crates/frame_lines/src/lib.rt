@@ -14,6 +14,9 @@ const IDENTIFIER_DIGITS: usize = 8;
 
 const FRAME_DIGITS: usize = 16;
 
+// The weight of a frame's last byte.
+const BYTE_7: u64 = 72057594037927936;
+
 // What a frame line says.
 pub enum FrameLine {
     // A frame of 8 bytes: its identifier, and the bytes as one number, byte 0 lowest.
@@ -23,7 +26,7 @@ pub enum FrameLine {
     IllFormed,
 }
 
-// What digits after an identifier say; the last byte is read first.
+// What digits after an identifier say. Each byte is put highest, and moves down as others follow.
 fn frame_of(identifier: u32, digits: &[u8]) -> FrameLine
     ensures { λ r. ⌜ r ≡ told (saidBy (Number.Is identifier) (now (digits .entry))) ⌝ }
 {
@@ -34,9 +37,8 @@ fn frame_of(identifier: u32, digits: &[u8]) -> FrameLine
         return FrameLine::IllFormed;
     }
     let mut word: u64 = 0;
-    let mut i: usize = digits.len() / 2;
-    while i > 0 {
-        i -= 1;
+    let mut i: usize = 0;
+    while i < digits.len() / 2 {
         let high = digit(digits[2 * i]);
         if high >= 16 {
             return FrameLine::IllFormed;
@@ -45,7 +47,8 @@ fn frame_of(identifier: u32, digits: &[u8]) -> FrameLine
         if low >= 16 {
             return FrameLine::IllFormed;
         }
-        word = 256 * word + (16 * high + low);
+        word = word / 256 + BYTE_7 * (16 * high + low);
+        i += 1;
     }
     if digits.len() < FRAME_DIGITS {
         return FrameLine::NotEightBytes(identifier);
