@@ -24,15 +24,15 @@ module _ (i : ℕ) (l : List ℕ) where
     unfolding areBytes
     odd o = rw (le-leb (length l) 16 h, ne-eqb (length l % 2) 0 o)
 
-    module _ (even : length l % 2 ≡ 0) {b : Bool} (e : b ≡ allDigits l) where
-      pub no-digits : b ≡ false → IllFormed ≡ told (saidBy (Is i) l)
+    module _ (even : length l % 2 ≡ 0) where
+      pub no-digits : allDigits l ≡ false → IllFormed ≡ told (saidBy (Is i) l)
       unfolding areBytes
-      no-digits z = rw (le-leb (length l) 16 h, eq-eqb (length l % 2) 0 even, ← e, z)
+      no-digits z = rw (le-leb (length l) 16 h, eq-eqb (length l % 2) 0 even, z)
 
-      module _ (z : b ≡ true) where
+      module _ (z : allDigits l ≡ true) where
         well : areBytes l ≡ true
         unfolding areBytes
-        well = rw (le-leb (length l) 16 h, eq-eqb (length l % 2) 0 even, ← e, z)
+        well = rw (le-leb (length l) 16 h, eq-eqb (length l % 2) 0 even, z)
 
         pub fewer : length l < 16 → NotEightBytes i ≡ told (saidBy (Is i) l)
         fewer f = rw (well, ne-eqb (length (bytesIn l)) 8 (λ x. omega (arith, length-bytes l even)))

@@ -1,37 +1,20 @@
 -- Digits one by one, and the bytes that pairs of them write. Assumes nothing.
-use mathlib.Core.Path.{_≡_, refl, sym, ap, _∙_}
-use mathlib.Core.Bool.{Bool, true, false, cond, _&&_}
+use mathlib.Core.Path.{_≡_, refl, ap, _∙_}
+use mathlib.Core.Bool.{Bool, true, false, _&&_}
 use mathlib.Core.List.{List, [], _∷_}
 use Prim.Native.Nat.{ℕ, zero, suc, _+_, _*_, _%_, _≤_, _<_}
-use native.Mathlib.Numerals.{add-one}
 use native.Mathlib.Omega.{arith}
 use lib.Dec.{ltb}
-use lib.ListN.{length, drop, getD, drop-of-length-le}
-use lib.Seq.{drop-cons}
-use borrow.Author.Tests.{lt-ltb, le-ltb, ltb-true}
+use lib.ListN.{length, getD}
+use borrow.Author.Tests.{ltb-true}
 use Rattle.numerals.specs.Numeral.{digitValue}
 use Rattle.parts.specs.Joined.{Free, none, more}
 use Rattle.frame_lines.specs.Meaning.{allDigits, bytesIn}
 
 -- the first of two tests that both hold, and the second
-pub both : (a b : Bool) → a && b ≡ true → (a ≡ true) × (b ≡ true)
+both : (a b : Bool) → a && b ≡ true → (a ≡ true) × (b ≡ true)
 both true b e = (refl, e)
 both false b e = (e, absurd (let z : _≡_ {A = ℕ} 0 1 = cc in omega arith))
-
--- i digits are passed: the answer for the rest is the answer for the whole
-module _ (l : List ℕ) (i : ℕ) (e : allDigits (drop i l) ≡ allDigits l) where
-  pub all-passed : length l ≤ i → true ≡ allDigits l
-  unfolding allDigits
-  all-passed h = rw (drop-of-length-le l h) at e
-
-  module _ (h : i < length l) {d : ℕ} (v : d ≡ digitValue (getD l i 0)) where
-    pub no-digit : 16 ≤ d → false ≡ allDigits l
-    unfolding allDigits
-    no-digit t = rw (drop-cons l i 0 h, ← v, le-ltb _ _ t) at e
-
-    pub digit-passed : d < 16 → allDigits (drop (i + 1) l) ≡ allDigits l
-    unfolding allDigits
-    digit-passed t = rw add-one (rw (drop-cons l i 0 h, ← v, lt-ltb _ _ t) at e)
 
 module _ (b : ℕ) (t : List ℕ) (e : allDigits (b ∷ t) ≡ true) where
   first-digit : digitValue b < 16
@@ -46,6 +29,14 @@ pub digit-small : (l : List ℕ) (i : ℕ) → allDigits l ≡ true → i < leng
 digit-small [] i e h = absurd (omega arith)
 digit-small (b ∷ t) zero e h = first-digit b t e
 digit-small (b ∷ t) (suc i) e h = digit-small t i (other-digits b t e) (omega arith)
+
+-- a byte that is no digit is not among them
+pub no-digit : (l : List ℕ) (i : ℕ) → i < length l → {d : ℕ} → d ≡ digitValue (getD l i 0) → 16 ≤ d → allDigits l ≡ false
+no-digit l i h v t = go (allDigits l) refl
+  where
+    go : (b : Bool) → allDigits l ≡ b → b ≡ false
+    go false e = refl
+    go true e = absurd (omega (arith, v, digit-small l i e h))
 
 -- a tab is no digit
 no-tab : (b : ℕ) → digitValue b < 16 → b ≡ 9 → ⊥

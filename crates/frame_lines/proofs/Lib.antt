@@ -1,4 +1,5 @@
 pub mod Digits
+pub mod Gathered
 pub mod Cuts
 pub mod Bytes
 pub mod Behind

@@ -15,10 +15,10 @@ pub enum Number {
 pub fn digit(b: u8) -> u64
     ensures { λ r. ⌜ r ≡ digitValue b ⌝ }
 {
-    if b < 48 {
-        return 16;
-    }
     if b < 58 {
+        if b < 48 {
+            return 16;
+        }
         return (b - 48) as u64;
     }
     if b < 65 {

@@ -10,11 +10,19 @@ pub fn find(s: &[u8], b: u8) -> usize
     ensures { λ r. ⌜ r ≡ indexOf b (now (s .entry)) ⌝ }
 {
     let mut i: usize = 0;
-    while i < s.len() {
+    while i + 1 < s.len() {
         if s[i] == b {
             return i;
         }
-        i += 1;
+        if s[i + 1] == b {
+            return i + 1;
+        }
+        i += 2;
+    }
+    if i < s.len() {
+        if s[i] != b {
+            return i + 1;
+        }
     }
     i
 }
