@@ -1,6 +1,7 @@
 // The spread of a place by the routes of a lent book, and the test that those routes are such as a taken book can have.
 // For network tools and gateways: `spread` is the call. It has no `requires`, writes nothing where it refuses, and what it
-// writes is stated over chains (specs/Answers.antt). `routes_taken` is the test behind its refusal 12.
+// writes is the place's spread (specs/Answers.antt), which specs/Listed.antt says over chains. `routes_taken` is the test
+// behind its refusal 12.
 ghost use mathlib.Core.Path.{_≡_};
 ghost use mathlib.Core.List.{_++_};
 ghost use Prim.Native.Nat.{_≤_};
