@@ -2,7 +2,7 @@
 use mathlib.Core.Path.{_≡_}
 use Prim.Native.Nat.{ℕ, _<_, _≤_}
 use mathlib.Core.List.{List}
-use lib.ListN.{length, getD}
+use lib.ListN.{length, getD, drop}
 
 -- the place with index i stands first at r
 pub record FirstAt (places : List ℕ) (i r : ℕ) : Type 0 where
@@ -13,3 +13,9 @@ pub record FirstAt (places : List ℕ) (i r : ℕ) : Type 0 where
 -- each place has its number
 unfoldable pub Numbered : List ℕ → List ℕ → Type 0
 Numbered places numbers = (i : ℕ) → i < length places → FirstAt places i (getD numbers i 0)
+
+-- each place has its number, and the entries past them stay as they were lent
+pub record NumbersOf (places lent numbers : List ℕ) : Type 0 where
+  pub numbered : Numbered places numbers
+  pub long : length numbers ≡ length lent
+  pub rest : drop (length places) numbers ≡ drop (length places) lent

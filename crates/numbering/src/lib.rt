@@ -4,7 +4,7 @@ ghost use mathlib.Core.Path.{_≡_};
 ghost use Prim.Native.Nat.{_+_, _<_, _≤_};
 ghost use lib.ListN.{length, getD};
 ghost use mathlib.Core.List.{_++_};
-ghost use Rattle.numbering.specs.Numbers.{FirstAt, Numbered};
+ghost use Rattle.numbering.specs.Numbers.{FirstAt, NumbersOf};
 ghost use Rattle.numbering.specs.Slots.{slotCount, slotOf, Stops, Laid};
 
 // How many slots places are spread over.
@@ -70,10 +70,10 @@ fn enter(tos: &[u32], froms: &[u32], slots: &mut [u8], i: usize) -> usize
     key - 1
 }
 
-// The numbers of the places where routes lead to, and then of those where they start.
+// The numbers of the places where routes lead to, and then of those where they start. What was lent past them stays as it was.
 pub fn number_all(tos: &[u32], froms: &[u32], numbers: &mut [u8])
     requires { ⌜ (length (now tos) + length (now froms) < slotCount) × (length (now tos) + length (now froms) ≤ length (now numbers)) ⌝ }
-    ensures { λ _. ⌜ Numbered (now (tos .entry) ++ now (froms .entry)) (now (numbers .exit)) ⌝ }
+    ensures { λ _. ⌜ NumbersOf (now (tos .entry) ++ now (froms .entry)) (now (numbers .entry)) (now (numbers .exit)) ⌝ }
 {
     let mut slots = [0u8; SLOTS];
     let count = tos.len() + froms.len();

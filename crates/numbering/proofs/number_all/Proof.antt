@@ -53,7 +53,7 @@ returns : tie.Need-returns Inv-loop μ-loop
 returns c =
     let at-loop = c .before .loop in
     let at-args = c .before .before .before .before .before .args in
-    numbering-end _ _ _ _ _ _ (at-loop .inv) (omega (arith, length-append (at-args .tos .now) (at-args .froms .now))) (c .loop-test .left)
+    numbering-end _ _ _ _ _ _ (at-loop .inv) (length-append (at-args .tos .now) (at-args .froms .now)) (c .loop-test .left)
 
 pub number-all-spec : {M : Type 1} → statement M
 number-all-spec =
