@@ -7,8 +7,8 @@ use native.Mathlib.Omega.{arith}
 use native.Mathlib.Nat.{eq-or-lt-of-le}
 use native.Mathlib.Decide.{ℕ-discrete}
 use mathlib.Core.List.{List}
-use lib.ListN.{length, getD, set, drop, replicate, length-set}
-use lib.Seq.{getD-set-same, getD-set-other, drop-set-lt}
+use lib.ListN.{length, getD, set, replicate, length-set}
+use lib.Seq.{getD-set-same, getD-set-other}
 use lib.Dec.{eqb}
 use borrow.Author.Count.{below-more}
 use borrow.Author.Tests.{eqb-true, eq-eqb, ne-eqb}
@@ -160,11 +160,11 @@ pub record Numbering (places numbers₀ : List ℕ) (m i : ℕ) (slots numbers :
   pub within : i ≤ m
   pub laid : Laid places slots i
   pub long : length numbers ≡ length numbers₀
-  pub rest : drop m numbers ≡ drop m numbers₀
+  pub rest : (x : ℕ) → m ≤ x → getD numbers x 0 ≡ getD numbers₀ x 0
   pub done : (x : ℕ) → x < i → FirstAt places x (getD numbers x 0)
 
 pub numbering-start : (places numbers : List ℕ) (m : ℕ) → Numbering places numbers m 0 (replicate slotCount 0) numbers
-numbering-start places numbers m = record { within = omega arith; laid = laid-start places; long = refl; rest = refl; done = λ x l. absurd (omega arith) }
+numbering-start places numbers m = record { within = omega arith; laid = laid-start places; long = refl; rest = λ x l. refl; done = λ x l. absurd (omega arith) }
 
 pub numbering-more : (places numbers₀ : List ℕ) (m i : ℕ) (slots numbers : List ℕ) → Numbering places numbers₀ m i slots numbers → i < m → i < length numbers
     → (r : ℕ) (slots′ : List ℕ) → FirstAt places i r → Laid places slots′ (i + 1) → Numbering places numbers₀ m (i + 1) slots′ (set numbers i r)
@@ -172,7 +172,7 @@ numbering-more places numbers₀ m i slots numbers inv l il r slots′ f laid = 
   within = omega arith;
   laid = laid;
   long = length-set numbers i r ∙ inv .long;
-  rest = drop-set-lt m numbers i r l ∙ inv .rest;
+  rest = λ x b. getD-set-other numbers i x r 0 (λ z. absurd (omega arith)) ∙ inv .rest x b;
   done = below-more (λ (x : ℕ). FirstAt places x (getD (set numbers i r) x 0)) i
       (λ x b. rw (getD-set-other numbers i x r 0 (λ z. absurd (omega arith))) (inv .done x b))
       (rw (getD-set-same numbers i r 0 il) f);
@@ -184,5 +184,5 @@ unfolding Numbered
 numbering-end places numbers₀ m i slots numbers inv e h = record {
   numbered = λ x l. inv .done x (omega arith);
   long = inv .long;
-  rest = rw e (inv .rest);
+  rest = λ x l. inv .rest x (omega arith);
 }

@@ -2,7 +2,7 @@
 use mathlib.Core.Path.{_≡_}
 use Prim.Native.Nat.{ℕ, _<_, _≤_}
 use mathlib.Core.List.{List}
-use lib.ListN.{length, getD, drop}
+use lib.ListN.{length, getD}
 
 -- the place with index i stands first at r
 pub record FirstAt (places : List ℕ) (i r : ℕ) : Type 0 where
@@ -18,4 +18,4 @@ Numbered places numbers = (i : ℕ) → i < length places → FirstAt places i (
 pub record NumbersOf (places lent numbers : List ℕ) : Type 0 where
   pub numbered : Numbered places numbers
   pub long : length numbers ≡ length lent
-  pub rest : drop (length places) numbers ≡ drop (length places) lent
+  pub rest : (i : ℕ) → length places ≤ i → getD numbers i 0 ≡ getD lent i 0
