@@ -15,7 +15,7 @@ use Rattle.masks.proofs.Bits.{bit-zero}
 use Rattle.chains.specs.Chain.{Walk, LeadsOn}
 use Rattle.chains.specs.Tests.{Tells}
 use Rattle.chains.proofs.Bools.{true-false, or-cases, or-left, or-right, test-tells}
-use Rattle.reach.specs.Led.{Led}
+use Rattle.reach.specs.Led.{Led, Filled}
 use Rattle.reach.specs.Handing.{Real, Settled}
 use Rattle.reach.proofs.Handed.{as-walk}
 
@@ -56,21 +56,23 @@ module _ (starts ends : List ℕ) where
 pub record Leading (starts ends onward₀ onward : List ℕ) (i : ℕ) : Type 0 where
   pub within : i ≤ length starts
   pub long : length onward ≡ length onward₀
+  pub rest : (j : ℕ) → length starts ≤ j → getD onward j 0 ≡ getD onward₀ j 0
   pub done : (j : ℕ) → j < i → (x : ℕ) → Tells (LeadsOn starts ends j x) (bit (getD onward j 0) x)
 
 pub leading-start : (starts ends onward : List ℕ) → Leading starts ends onward onward 0
-leading-start starts ends onward = record { within = omega arith; long = refl; done = λ j l. absurd (omega arith) }
+leading-start starts ends onward = record { within = omega arith; long = refl; rest = λ j l. refl; done = λ j l. absurd (omega arith) }
 
 pub leading-more : (starts ends onward₀ onward : List ℕ) (i : ℕ) → Leading starts ends onward₀ onward i → i < length starts → i < length onward
     → (w : ℕ) → ((x : ℕ) → Tells (LeadsOn starts ends i x) (bit w x)) → Leading starts ends onward₀ (set onward i w) (i + 1)
 leading-more starts ends onward₀ onward i inv l il w tells = record {
   within = omega arith;
   long = length-set onward i w ∙ inv .long;
+  rest = λ j b. getD-set-other onward i j w 0 (λ z. absurd (omega arith)) ∙ inv .rest j b;
   done = below-more (λ (j : ℕ). (x : ℕ) → Tells (LeadsOn starts ends j x) (bit (getD (set onward i w) j 0) x)) i
       (λ j b x. rw (getD-set-other onward i j w 0 (λ z. absurd (omega arith))) (inv .done j b x))
       (λ x. rw (getD-set-same onward i w 0 il) (tells x));
 }
 
-pub leading-end : (starts ends onward₀ onward : List ℕ) (i : ℕ) → Leading starts ends onward₀ onward i → length starts ≤ i → Led starts ends onward
+pub leading-end : (starts ends onward₀ onward : List ℕ) (i : ℕ) → Leading starts ends onward₀ onward i → length starts ≤ i → Filled starts ends onward₀ onward
 unfolding Led
-leading-end starts ends onward₀ onward i inv h j x l = inv .done j (omega arith) x
+leading-end starts ends onward₀ onward i inv h = record { led = λ j x l. inv .done j (omega arith) x; long = inv .long; rest = inv .rest }

@@ -27,6 +27,12 @@ pub record Numbers (starts ends : List ℕ) : Type 0 where
 unfoldable pub Led : List ℕ → List ℕ → List ℕ → Type 0
 Led starts ends onward = (i x : ℕ) → i < length starts → Tells (LeadsOn starts ends i x) (bit (getD onward i 0) x)
 
+-- each route has its mask, and the entries past them stay as they were lent
+pub record Filled (starts ends lent onward : List ℕ) : Type 0 where
+  pub led : Led starts ends onward
+  pub long : length onward ≡ length lent
+  pub rest : (i : ℕ) → length starts ≤ i → getD onward i 0 ≡ getD lent i 0
+
 -- the route at turn t of n turns
 abbrev pub turn : ℕ → Bool → ℕ → ℕ
 turn n down t = cond down (n - 1 - t) t
