@@ -34,7 +34,7 @@ judge-numbered-requires c κs =
     let at-args = c .before .before .before .before .before .before .before .before .before .args in
     let starts = at-part .ensures in
     let ends = c .part2 .ensures in
-    low-numbers (at-args .froms .now) (at-args .tos .now) _ _ _ (at-pre .1) (at-number-all .ensures) (starts .0) (ends .0) (starts .1) (ends .1) (at-pre .0)
+    low-numbers (at-args .froms .now) (at-args .tos .now) _ _ _ (at-pre .1) (at-number-all .ensures .numbered) (starts .0) (ends .0) (starts .1) (ends .1) (at-pre .0)
 
 returns : tie.Need-returns
 returns c =
@@ -45,7 +45,7 @@ returns c =
     let at-args = c .before .before .before .before .before .before .before .before .before .before .args in
     let starts = at-part .ensures in
     let ends = at-part2 .ensures in
-    let judged = judged-places (at-args .froms .now) (at-args .tos .now) _ _ _ (at-pre .1) (at-number-all .ensures) (starts .0) (ends .0) (starts .1) (ends .1) in
+    let judged = judged-places (at-args .froms .now) (at-args .tos .now) _ _ _ (at-pre .1) (at-number-all .ensures .numbered) (starts .0) (ends .0) (starts .1) (ends .1) in
     judged (c .judge-numbered .result) (c .judge-numbered .ensures)
 
 pub judge-spec : {M : Type 1} → statement M

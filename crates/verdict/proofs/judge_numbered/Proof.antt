@@ -18,7 +18,7 @@ first-loop-requires : tie.Need-first-loop-requires
 first-loop-requires c κs = search needs
 
 returns : tie.Need-returns
-returns c = loop-by _ _ _ (c .before .before .before .before .fill .ensures) _ (c .before .first-loop .ensures) (c .if1 .taken)
+returns c = loop-by _ _ _ (c .before .before .before .before .fill .ensures .led) _ (c .before .first-loop .ensures) (c .if1 .taken)
 
 slice-aggregate-forking : tie.Need-slice-aggregate-forking
 slice-aggregate-forking c = search needs
@@ -32,7 +32,7 @@ returns-2 c =
     let at-if1 = c .before .before .before .if1 in
     let at-first-loop = c .before .before .before .before .first-loop in
     let at-fill = c .before .before .before .before .before .before .before .fill in
-    sound-by _ _ _ (at-fill .ensures) _ (at-first-loop .ensures) (at-if1 .left) _ (at-forking .ensures) (c .if2 .taken)
+    sound-by _ _ _ (at-fill .ensures .led) _ (at-first-loop .ensures) (at-if1 .left) _ (at-forking .ensures) (c .if2 .taken)
 
 slice-aggregate-forking-2 : tie.Need-slice-aggregate-forking-2
 slice-aggregate-forking-2 c = search needs
@@ -63,7 +63,7 @@ returns-3 c =
     let at-first-loop = c .before .before .before .before .before .before .before .before .before .before .first-loop in
     let at-fill = c .before .before .before .before .before .before .before .before .before .before .before .before .before .fill in
     let at-pre = c .before .before .before .before .before .before .before .before .before .before .before .before .before .before .before .before .before .pre in
-    let by = doubling-by _ _ _ (at-fill .ensures) _ (at-first-loop .ensures) (at-if1 .left) _ (at-forking .ensures) (at-if2 .left) at-pre in
+    let by = doubling-by _ _ _ (at-fill .ensures .led) _ (at-first-loop .ensures) (at-if1 .left) _ (at-forking .ensures) (at-if2 .left) at-pre in
     by _ _ _ _ (at-forking2 .ensures) (at-both .ensures) (at-starts-of .ensures) (c .first-doubling .ensures)
 
 pub judge-numbered-spec : {M : Type 1} → statement M
