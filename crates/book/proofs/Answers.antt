@@ -1,5 +1,5 @@
 -- The answer to a text, by what its lines come to and by the verdict on its routes. Assumes nothing.
-use mathlib.Core.Path.{_≡_, refl, sym, ap, _∙_}
+use mathlib.Core.Path.{_≡_, sym, ap, _∙_}
 use Prim.Native.Nat.{ℕ, _≤_, _<_}
 use mathlib.Core.List.{List, []}
 use native.Mathlib.Omega.{arith}
@@ -12,8 +12,7 @@ use Rattle.verdict.specs.declared.Verdict.{Verdict}
 use Rattle.verdict.specs.declared.Verdict.the-variants as verdict
 use Rattle.answers.specs.declared.Refusal.{Refusal}
 use Rattle.answers.specs.Numbers.{Said, taken, refused, number}
-use Rattle.books.specs.Book.{Book, noBook, allPlacements}
-use Rattle.books.specs.Words.{column, endsAfter, messageColumns, routeColumns, wordsOf}
+use Rattle.books.specs.Book.{Book, noBook}
 use Rattle.reading.specs.Reading.{meanings, linesRead}
 use Rattle.reading.specs.Taken.{froms, tos, TakenWith, rLinesFrom}
 use Rattle.reading.proofs.Counts.{text-counted}
@@ -53,16 +52,10 @@ module _ {text : List ℕ} (short : length text ≤ textLimit) {w : List ℕ} (p
         rw (m ∙ messages-held w (p .book) (p .holds), s ∙ signals-held w (p .book) (p .holds), r ∙ routes-held w (p .book) (p .holds), p .holds .words)
         (taken-with (record { short = short; at = p .numbers; read = p .read; sound = record { loop-free = (rw q at j) .loop-free; single = (rw q at j) .single } }))
 
--- the empty book has the words of a book without lines
-pub empty-words : emptyBook ≡ wordsOf noBook
-unfolding emptyBook wordsOf messageColumns routeColumns column allPlacements endsAfter
-empty-words = refl
-
 -- what came of the lines
 module _ (text : List ℕ) (r : Lines) (w : List ℕ) (c : Came text r w) where
-  pub refused-line : {left : List ℕ} (why : Refusal) (n : ℕ) → r ≡ came.Refused why n → length text ≤ textLimit → left ≡ emptyBook
-      → Answered text (refused (number why) n) left
-  refused-line why n q h z = rw z (bad-line h (rw q at c))
+  pub refused-line : (why : Refusal) (n : ℕ) → r ≡ came.Refused why n → length text ≤ textLimit → Answered text (refused (number why) n) w
+  refused-line why n q h = let d = rw q at c in rw (d .1) (bad-line h (d .0))
 
   pub all-passed : r ≡ came.Passed → PassedTo text w
   all-passed q = rw q at c

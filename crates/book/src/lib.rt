@@ -69,7 +69,6 @@ fn read_text(text: &[u8], book: &mut [u32; BOOK_WORDS]) -> Answer
         return Answer::Refused(Refusal::TooLong, 0);
     }
     if let Lines::Refused(why, n) = take_lines(text, &mut *book) {
-        record::clear(book);
         return Answer::Refused(why, n);
     }
     answer_passed(text, book)

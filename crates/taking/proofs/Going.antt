@@ -6,13 +6,15 @@ use native.Mathlib.Omega.{arith}
 use mathlib.Core.List.{List, [], _∷_}
 use lib.ListN.{length, drop, length-drop}
 use lib.Seq.{drop-drop}
+use Rattle.record.specs.Columns.{emptyBook}
 use Rattle.answers.specs.declared.Refusal.{Refusal}
 use Rattle.answers.specs.Numbers.{number}
 use Rattle.line.specs.declared.Line.the-variants as line
 use Rattle.line.specs.declared.First.{First}
 use Rattle.line.specs.First.{firstLine}
 use Rattle.line.proofs.Firsts as firsts
-use Rattle.books.specs.Book.{Book, noBook, lastPlacements}
+use Rattle.books.specs.Book.{Book, noBook, lastPlacements, allPlacements}
+use Rattle.books.specs.Words.{column, endsAfter, messageColumns, routeColumns, wordsOf}
 use Rattle.reading.specs.Reading.{Outcome, refused, onward, refusalOf, withLine, numberedWith, readFrom, meanings, linesRead}
 use Rattle.placing.specs.declared.Filled.{Filled}
 use Rattle.placing.proofs.Filling.{fills-none}
@@ -51,6 +53,11 @@ pub record Going (text : List ℕ) (at n : ℕ) (filled : Filled) (w : List ℕ)
   pub within : at ≤ length text
   pub numbered : n ≤ at + 1
 
+-- the empty book has the words of a book without lines
+empty-words : emptyBook ≡ wordsOf noBook
+unfolding emptyBook wordsOf messageColumns routeColumns column allPlacements endsAfter
+empty-words = refl
+
 pub start : (text w : List ℕ) → Empty w → (f : Filled) → (f .bits ≡ 0) × (f .marks ≡ 0) → Going text 0 1 f w
 unfolding linesRead lastPlacements
 start text w e f z =
@@ -58,7 +65,7 @@ start text w e f z =
       book = noBook;
       numbers = [];
       answer = refl;
-      kept = record { holds = record { words = e; within = within-none }; fills = fills-none f (z .0) (z .1) };
+      kept = record { holds = record { words = e ∙ empty-words; within = within-none }; fills = fills-none f (z .0) (z .1) };
       within = omega arith;
       numbered = omega arith;
     }

@@ -3,10 +3,11 @@ use mathlib.Core.Path.{_≡_}
 use Prim.Native.Nat.{ℕ}
 use mathlib.Core.Bool.{Bool, true, false}
 use mathlib.Core.List.{List, [], _∷_}
+use Rattle.record.specs.Columns.{emptyBook}
 use Rattle.answers.specs.Numbers.{number}
 use Rattle.line.specs.declared.Line.{Line}
 use Rattle.line.specs.declared.Line.the-variants as line
-use Rattle.books.specs.Book.{Placement, Book, noBook, lastPlacements}
+use Rattle.books.specs.Book.{Placement, Book, lastPlacements}
 use Rattle.books.specs.Words.{wordsOf}
 use Rattle.reading.specs.Reading.{passed, refused, refusalOf, withLine, linesRead}
 use Rattle.placing.specs.declared.Filled.{Filled}
@@ -45,7 +46,7 @@ pub record Took (b : Book) (l : Line) (r : Step) (w : List ℕ) : Type 0 where
 
 -- the words of the empty book
 abbrev pub Empty : List ℕ → Type 0
-Empty w = w ≡ wordsOf noBook
+Empty w = w ≡ emptyBook
 
 -- the lines of the text pass, and the words are those of the book that they give
 pub record PassedTo (text w : List ℕ) : Type 0 where
@@ -56,7 +57,7 @@ pub record PassedTo (text w : List ℕ) : Type 0 where
 
 abbrev pub Came : List ℕ → Lines → List ℕ → Type 0
 Came text came.Passed w = PassedTo text w
-Came text (came.Refused why n) w = linesRead text ≡ refused (number why) n
+Came text (came.Refused why n) w = (linesRead text ≡ refused (number why) n) × Empty w
 
 abbrev pub isRoute : Line → Bool
 isRoute (line.Message i) = false

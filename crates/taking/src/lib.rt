@@ -67,7 +67,7 @@ fn take_line(book: &mut [u32; BOOK_WORDS], filled: Filled, line: Line) -> Step
     }
 }
 
-// The lines of a text into an empty book.
+// The lines of a text into an empty book; it is empty again where a line is refused.
 pub fn take_lines(text: &[u8], book: &mut [u32; BOOK_WORDS]) -> Lines
     requires { ⌜ (length (now text) ≤ textLimit) × Empty (now book) ⌝ }
     ensures { λ r. ⌜ Came (now (text .entry)) r (now (book .exit)) ⌝ }
@@ -81,7 +81,10 @@ pub fn take_lines(text: &[u8], book: &mut [u32; BOOK_WORDS]) -> Lines
         let line = first.line;
         match take_line(&mut *book, filled, line) {
             Step::Taken(more) => filled = more,
-            Step::Refused(why) => return Lines::Refused(why, n),
+            Step::Refused(why) => {
+                record::clear(&mut *book);
+                return Lines::Refused(why, n);
+            }
         }
         at += size;
         n += 1;

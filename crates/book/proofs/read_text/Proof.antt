@@ -1,6 +1,5 @@
 -- `book::read_text` meets its contract: too long, a line refused, or by the verdict on the routes. Assumes nothing.
-use mathlib.Core.Path.{_∙_}
-use Rattle.book.proofs.Answers.{empty-too-long, empty-words, refused-line, all-passed}
+use Rattle.book.proofs.Answers.{empty-too-long, refused-line, all-passed}
 use borrow.Author.Needs.{needs}
 use Rattle.book.proofs.read_text.Statement.{statement}
 use Rattle.book.proofs.read_text.Tie as tie
@@ -17,16 +16,13 @@ returns : tie.Need-returns
 returns c = empty-too-long (c .before .clear .ensures) (c .if1 .taken)
 
 take-lines-requires : tie.Need-take-lines-requires
-take-lines-requires c κs = (c .before .if1 .left, c .before .before .clear .ensures ∙ empty-words)
+take-lines-requires c κs = (c .before .if1 .left, c .before .before .clear .ensures)
 
 enum-known-why : tie.Need-enum-known-why
 enum-known-why c = search needs
 
-clear-requires-2 : tie.Need-clear-requires-2
-clear-requires-2 c κs = search needs
-
 returns-2 : tie.Need-returns-2
-returns-2 c = refused-line _ _ _ (c .before .before .before .before .before .take-lines .ensures) _ _ (c .before .before .before .why .given .1) (c .before .before .before .before .before .before .before .if1 .left) (c .clear2 .ensures)
+returns-2 c = refused-line _ _ _ (c .before .before .before .take-lines .ensures) _ _ (c .before .why .given .1) (c .before .before .before .before .before .if1 .left)
 
 enum-told : tie.Need-enum-told
 enum-told c = search needs
@@ -45,7 +41,6 @@ read-text-spec =
     returns
     take-lines-requires
     enum-known-why
-    clear-requires-2
     returns-2
     enum-told
     answer-passed-requires

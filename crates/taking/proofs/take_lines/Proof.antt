@@ -34,8 +34,11 @@ enum-known-more c = search needs
 enum-known-why : tie.Need-enum-known-why Inv-loop μ-loop
 enum-known-why c = search needs
 
+clear-requires : tie.Need-clear-requires Inv-loop μ-loop
+clear-requires c κs = search needs
+
 returns : tie.Need-returns Inv-loop μ-loop
-returns c = refused-here (c .before .before .before .before .before .before .before .before .loop .inv) (c .before .before .before .before .before .before .before .loop-test .taken) (c .before .before .before .before .before .before .part-from .ensures) _ (c .before .before .before .before .before .read-first .ensures) _ (c .before .before .before .take-line .ensures (c .before .before .before .before .before .before .before .before .loop .inv .book) (c .before .before .before .before .before .before .before .before .loop .inv .kept)) _ (c .before .why .given .1)
+returns c = (refused-here (c .before .before .before .before .before .before .before .before .before .before .loop .inv) (c .before .before .before .before .before .before .before .before .before .loop-test .taken) (c .before .before .before .before .before .before .before .before .part-from .ensures) _ (c .before .before .before .before .before .before .before .read-first .ensures) _ (c .before .before .before .before .before .take-line .ensures (c .before .before .before .before .before .before .before .before .before .before .loop .inv .book) (c .before .before .before .before .before .before .before .before .before .before .loop .inv .kept)) _ (c .before .before .before .why .given .1), c .clear .ensures)
 
 add-at : tie.Need-add-at Inv-loop μ-loop
 add-at c = omega (arith, inside (c .before .before .before .before .before .before .before .before .loop .inv) (c .before .before .before .before .before .before .before .loop-test .taken) (c .before .before .before .before .before .before .part-from .ensures) _ (c .before .before .before .before .before .read-first .ensures) _ (c .before .before .before .take-line .ensures (c .before .before .before .before .before .before .before .before .loop .inv .book) (c .before .before .before .before .before .before .before .before .loop .inv .kept)))
@@ -65,6 +68,7 @@ take-lines-spec =
     take-line-requires
     enum-known-more
     enum-known-why
+    clear-requires
     returns
     add-at
     add-n
