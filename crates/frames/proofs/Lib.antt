@@ -1,3 +1,4 @@
 pub mod Lookups
 pub mod Entries
+pub mod OneFound
 pub mod OneOutcome

@@ -19,7 +19,7 @@ use Rattle.framing.specs.Messages.{messageOf}
 use Rattle.framing.proofs.Sound.{Sound, sound-message}
 use Rattle.record.specs.Columns.{messageCountOf, idsOf, endsOf, numbersOf, startsOf}
 use Rattle.messages.specs.Signals.{AllFit}
-use Rattle.frames.specs.Lookup.{firstAt, part, Spans}
+use Rattle.frames.specs.Lookup.{firstAt, before, part, Spans}
 use Rattle.messages.proofs.Steps.{from}
 
 -- ---- the first place of a number
@@ -251,9 +251,25 @@ module _ (w : List ℕ) (t : messagesTaken w ≡ true) where
     both-are : placed (part From To (numbersOf w)) (part From To (startsOf w)) ≡ Ps
     both-are = ap (λ (l : List ℕ). placed l (part From To (startsOf w))) numbers-are ∙ ap (placed (numbers Ps)) starts-are ∙ placed-back Ps
 
+    -- the ends that stand in the words say where its signals are
+    begins-so : getD (0 ∷ endsOf w) at 0 ≡ From
+    begins-so =
+        ap (λ (l : List ℕ). getD (0 ∷ l) at 0) (ends-stand w Ms few roomy stand)
+        ∙ column-before 64 at (endsAfter 0 Ms) (omega (arith, length-ends 0 Ms))
+
+    ends-so : getD (endsOf w) at 0 ≡ To
+    ends-so =
+        ap (λ (l : List ℕ). getD l at 0) (ends-stand w Ms few roomy stand)
+        ∙ column-at 64 at (endsAfter 0 Ms) (omega (arith, length-ends 0 Ms))
+
+    at-is : at ≡ before w identifier
+    at-is = first ∙ sym (ap (firstAt identifier) ids-are)
+
     spans-so : Spans w identifier From To
     spans-so =
         record {
+          begins = sym begins-so ∙ ap (λ (i : ℕ). getD (0 ∷ endsOf w) i 0) at-is;
+          ends = sym ends-so ∙ ap (λ (i : ℕ). getD (endsOf w) i 0) at-is;
           order = order;
           inside = omega (arith, inside, roomy);
           found = here ∙ ap (λ (ps : List Placement). some (record { identifier = identifier; placements = ps })) (sym both-are);
@@ -262,11 +278,5 @@ module _ (w : List ℕ) (t : messagesTaken w ≡ true) where
           fit = subst⁻¹ AllFit both-are (fit-all (sound-message identifier Ms (record { identifier = identifier; placements = Ps }) is-good here));
         }
 
-    -- the ends that stand in the words say where its signals are
     pub spans : Spans w identifier (getD (0 ∷ endsOf w) at 0) (getD (endsOf w) at 0)
-    spans =
-        let many = length-ends 0 Ms in
-        let ends = ends-stand w Ms few roomy stand in
-        let b : getD (0 ∷ endsOf w) at 0 ≡ From = ap (λ (l : List ℕ). getD (0 ∷ l) at 0) ends ∙ column-before 64 at (endsAfter 0 Ms) (omega arith) in
-        let e : getD (endsOf w) at 0 ≡ To = ap (λ (l : List ℕ). getD l at 0) ends ∙ column-at 64 at (endsAfter 0 Ms) (omega arith) in
-        subst⁻¹ (λ (x : ℕ). Spans w identifier x (getD (endsOf w) at 0)) b (subst⁻¹ (λ (x : ℕ). Spans w identifier From x) e spans-so)
+    spans = subst⁻¹ (λ (x : ℕ). Spans w identifier x (getD (endsOf w) at 0)) begins-so (subst⁻¹ (λ (x : ℕ). Spans w identifier From x) ends-so spans-so)
