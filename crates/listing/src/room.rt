@@ -8,8 +8,8 @@ ghost use Rattle.listing.specs.declared.Fitted.{Fitted};
 ghost use Rattle.listing.specs.Working.{fitted};
 use crate::Fitted;
 use printing::put_bytes;
+use signal_lines::ILL_FORMED_LINE;
 use signal_lines::LINE_ROOM;
-use signal_lines::put_ill_formed;
 use signal_lines::put_refused;
 
 // A text as it stands.
@@ -38,7 +38,5 @@ pub fn list_ill_formed(out: &mut [u8], at: usize) -> Fitted
     requires { ⌜ at ≤ length (now out) ⌝ }
     ensures { λ r. ⌜ _≡_ {A = Fitted × List ℕ} (r, now (out .exit)) (fitted (now (out .entry)) at illFormedLine) ⌝ }
 {
-    let mut line = [0u8; LINE_ROOM];
-    let length = put_ill_formed(&mut line, 0);
-    fit(&mut *out, at, &line[..length])
+    fit(&mut *out, at, &ILL_FORMED_LINE)
 }

@@ -1,5 +1,6 @@
-// The lines that the lister prints, into a lent slice at a place: one signal's reading, a refused frame, an ill-formed line. Each
-// function asks for LINE_ROOM bytes, writes just its line, and answers the place after it; crate `listing` calls them.
+// The lines that the lister prints, for crate `listing` and the lister: one signal's reading, a refused frame, an ill-formed
+// line. The last is a constant; each function asks for LINE_ROOM bytes of a lent slice at a place, writes just its line, and
+// answers the place after it.
 use catalogue::Class;
 use catalogue::Thousandths;
 use printing::put_byte;
@@ -13,13 +14,14 @@ ghost use lib.ListN.{length};
 ghost use Rattle.printing.specs.Put.{PutWithin};
 ghost use Rattle.printing.specs.Decimal.{naturalText};
 ghost use Rattle.signal_lines.specs.Words.{wordOf, figureOf};
-ghost use Rattle.signal_lines.specs.Printed.{printedLine, signalLine, refusedLine, illFormedLine, lineRoom, endRoom, wordRoom};
+ghost use Rattle.signal_lines.specs.Printed.{printedLine, signalLine, refusedLine, lineRoom, endRoom, wordRoom};
 
 const TAB: u8 = b'\t';
 
 const NEWLINE: u8 = b'\n';
 
-const ILL_FORMED: u32 = 20;
+// An ill-formed line: `no`, 20.
+pub const ILL_FORMED_LINE: [u8; 6] = *b"no\t20\n";
 
 // No line is longer.
 pub const LINE_ROOM: usize = 64;
@@ -83,12 +85,4 @@ pub fn put_refused(out: &mut [u8], at: usize, identifier: u32, refusal: u32) -> 
     let after_identifier = put_identifier(&mut *out, at, identifier);
     let second = put_byte(&mut *out, after_identifier, TAB);
     put_count(&mut *out, second, b"no", refusal)
-}
-
-// An ill-formed line.
-pub fn put_ill_formed(out: &mut [u8], at: usize) -> usize
-    requires { ⌜ at + lineRoom ≤ length (now out) ⌝ }
-    ensures { λ r. ⌜ PutWithin (now (out .entry)) at lineRoom illFormedLine (now (out .exit)) r ⌝ }
-{
-    put_count(out, at, b"no", ILL_FORMED)
 }
