@@ -1,17 +1,14 @@
 -- The pieces of a printed line make the line. Assumes nothing.
-use mathlib.Core.Path.{_≡_, refl, sym, ap, _∙_}
-use mathlib.Core.Bool.{cond}
+use mathlib.Core.Path.{_≡_}
 use mathlib.Core.List.{List, [], _∷_, _++_, append-assoc}
 use Prim.Native.Nat.{ℕ, _+_, _≤_, _<_}
 use native.Mathlib.Omega.{arith}
-use lib.Dec.{ltb}
 use lib.ListN.{length}
-use lib.Seq.{sets}
 use borrow.Author.Tests.{lt-ltb, le-ltb}
 use Rattle.parts.specs.Joined.{join, textOfLines}
 use Rattle.printing.specs.Put.{Put}
 use Rattle.printing.specs.Decimal.{naturalText}
-use Rattle.printing.proofs.Puts.{and-then, put-length}
+use Rattle.printing.proofs.Puts.{and-then}
 use Rattle.printing.proofs.Counting.{count-few}
 use Rattle.printing.proofs.Spelling.{natural-long}
 use Rattle.answers.specs.declared.Refusal.{Refusal}
@@ -45,7 +42,7 @@ pub no-room : (out text : List ℕ) → length out < 80 → _≡_ {A = ℕ × Li
 unfolding printed
 no-room out text h = rw (lt-ltb _ _ h)
 
-pub with-room : {out new : List ℕ} {r : ℕ} (text : List ℕ) → 80 ≤ length out → Put out 0 text new r → _≡_ {A = ℕ × List ℕ} (r, new) (printed out text)
+with-room : {out new : List ℕ} {r : ℕ} (text : List ℕ) → 80 ≤ length out → Put out 0 text new r → _≡_ {A = ℕ × List ℕ} (r, new) (printed out text)
 unfolding printed
 with-room {out} {new} {r} text h p =
     let e : r ≡ length text = omega (arith, p .now-at) in

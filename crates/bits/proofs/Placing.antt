@@ -19,7 +19,7 @@ parts w s b = sym (ap (λ (m : ℕ). w / 2 ^ (b + s) * 2 ^ (b + s) + m) (sym (mo
 swap : (w H F L X : ℕ) → w ≡ H + (F + L) → w - F + X ≡ H + (X + L)
 swap w H F L X e = omega arith
 
-pub placed-is : (w s b v : ℕ) → placed w s b v ≡ w / 2 ^ (b + s) * 2 ^ (b + s) + (v * 2 ^ s + w % 2 ^ s)
+placed-is : (w s b v : ℕ) → placed w s b v ≡ w / 2 ^ (b + s) * 2 ^ (b + s) + (v * 2 ^ s + w % 2 ^ s)
 unfolding placed fieldOf
 placed-is w s b v = swap w (w / 2 ^ (b + s) * 2 ^ (b + s)) (w / 2 ^ s % 2 ^ b * 2 ^ s) (w % 2 ^ s) (v * 2 ^ s) (parts w s b)
 
@@ -28,7 +28,7 @@ module _ (w s b v : ℕ) (small : v < 2 ^ b) where
   rest-lt : v * 2 ^ s + w % 2 ^ s < 2 ^ (b + s)
   rest-lt = rw pow-add (digits-lt small (mod-lt w (pow-pos s)))
 
-  pub placed-high : placed w s b v / 2 ^ (b + s) ≡ w / 2 ^ (b + s)
+  placed-high : placed w s b v / 2 ^ (b + s) ≡ w / 2 ^ (b + s)
   placed-high = ap (λ (m : ℕ). m / 2 ^ (b + s)) (placed-is w s b v) ∙ high (w / 2 ^ (b + s)) (b + s) rest-lt
 
   regroup : placed w s b v ≡ (w / 2 ^ (b + s) * 2 ^ b + v) * 2 ^ s + w % 2 ^ s
@@ -39,7 +39,7 @@ module _ (w s b v : ℕ) (small : v < 2 ^ b) where
       ∙ ap (λ (m : ℕ). m + v * 2 ^ s + w % 2 ^ s) (sym (mul-assoc (w / 2 ^ (b + s)) (2 ^ b) (2 ^ s)))
       ∙ ap (λ (m : ℕ). m + w % 2 ^ s) (sym (add-mul (w / 2 ^ (b + s) * 2 ^ b) v (2 ^ s)))
 
-  pub placed-low : placed w s b v % 2 ^ s ≡ w % 2 ^ s
+  placed-low : placed w s b v % 2 ^ s ≡ w % 2 ^ s
   placed-low = ap (λ (m : ℕ). m % 2 ^ s) regroup ∙ low (w / 2 ^ (b + s) * 2 ^ b + v) s (mod-lt w (pow-pos s))
 
   -- what is placed is read back
@@ -83,10 +83,6 @@ module _ (w s b v : ℕ) (small : v < 2 ^ b) where
 
 pub one-shl : (b : ℕ) → b < 64 → (1 * 2 ^ b) % 2 ^ 64 ≡ 2 ^ b
 one-shl b h = shl-exact 1 b 64 (lit< tt) (omega arith) ∙ one-mul (2 ^ b)
-
-pub field-lt : (w s b : ℕ) → fieldOf w s b < 2 ^ b
-unfolding fieldOf
-field-lt w s b = mod-lt (w / 2 ^ s) (pow-pos b)
 
 pub field-le : (w s b : ℕ) → fieldOf w s b * 2 ^ s ≤ w
 unfolding fieldOf

@@ -5,7 +5,6 @@ use mathlib.Core.List.{List, [], _∷_, _++_, append-nil}
 use Prim.Native.Nat.{ℕ, zero, suc, _+_, _-_, _*_, _/_, _%_, _^_, _≤_, _<_}
 use native.Mathlib.Nat.{add-comm, add-zero, zero-add, not-suc-le-zero, le-of-suc-le-suc, mod-lt, pow-succ'}
 use native.Mathlib.Omega.{arith}
-use native.Mathlib.Numerals.{add-one}
 use lib.Dec.{lit<}
 use lib.Pow.{shr-shr, mod-pow-add, field, mod-mod-pow}
 use lib.Arith.{digits-lt}
@@ -29,7 +28,7 @@ low-bit x W r hx hr =
 high-part : (x W : ℕ) → x < 256 → (x + 256 * W) / 2 ^ 8 ≡ W
 high-part x W h = omega arith
 
-pub word-bit : (f : List ℕ) → ((k : ℕ) → getD f k 0 < 256) → (n i q r : ℕ) → q < n → r < 8
+word-bit : (f : List ℕ) → ((k : ℕ) → getD f k 0 < 256) → (n i q r : ℕ) → q < n → r < 8
     → wordFrom f i n / 2 ^ (q * 8 + r) % 2 ≡ getD f (i + q) 0 / 2 ^ r % 2
 unfolding wordFrom
 word-bit f by zero i q r hq hr = absurd (not-suc-le-zero hq)
@@ -73,7 +72,7 @@ unfolding wordFrom
 later x xs zero i = refl
 later x xs (suc n) i = ap (λ (m : ℕ). getD xs i 0 + 256 * m) (later x xs n (suc i))
 
-pub bytes-word : (n w : ℕ) → w < 256 ^ n → wordFrom (bytesFrom n w) 0 n ≡ w
+bytes-word : (n w : ℕ) → w < 256 ^ n → wordFrom (bytesFrom n w) 0 n ≡ w
 unfolding wordFrom bytesFrom
 bytes-word zero w h = omega arith
 bytes-word (suc n) w h =
@@ -82,12 +81,8 @@ bytes-word (suc n) w h =
     omega arith
 
 -- ---- one bit more
-pub bit-lt : (f : List ℕ) (k : ℕ) → frameBit f k < 2
+bit-lt : (f : List ℕ) (k : ℕ) → frameBit f k < 2
 bit-lt f k = mod-lt (getD f (k / 8) 0 / 2 ^ (k % 8)) (lit< tt)
-
-pub raw-more : (f : List ℕ) (s j : ℕ) → countAt f s (j + 1) ≡ countAt f s j + frameBit f (s + j) * 2 ^ j
-unfolding countAt
-raw-more f s j = rw add-one
 
 pub raw-lt : (f : List ℕ) (s b : ℕ) → countAt f s b < 2 ^ b
 unfolding countAt
@@ -97,7 +92,7 @@ raw-lt f s (suc b) =
     rw (pow-succ' 2 b) (omega arith)
 
 -- ---- what is read of the bytes of a number is a field of it
-pub bytes-small : (n w k : ℕ) → getD (bytesFrom n w) k 0 < 256
+bytes-small : (n w k : ℕ) → getD (bytesFrom n w) k 0 < 256
 unfolding bytesFrom
 bytes-small zero w k = lit< tt
 bytes-small (suc n) w zero = mod-lt w (lit< tt)

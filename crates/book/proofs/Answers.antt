@@ -6,17 +6,15 @@ use native.Mathlib.Omega.{arith}
 use lib.ListN.{length, getD, drop, drop-of-length-le}
 use Rattle.record.specs.Limits.{textLimit}
 use Rattle.record.specs.Columns.{emptyBook, messageCountOf, signalCountOf, routeCountOf}
-use Rattle.chains.specs.Chain.{OnClosed, LoopFree, BeginsDoubling, Single}
-use Rattle.verdict.specs.Verdicts.{Lowest, Judged}
+use Rattle.verdict.specs.Verdicts.{Judged}
 use Rattle.verdict.specs.declared.Verdict.{Verdict}
 use Rattle.verdict.specs.declared.Verdict.the-variants as verdict
 use Rattle.answers.specs.declared.Refusal.{Refusal}
 use Rattle.answers.specs.Numbers.{Said, taken, refused, number}
-use Rattle.books.specs.Book.{Book, noBook}
+use Rattle.books.specs.Book.{noBook}
 use Rattle.reading.specs.Reading.{meanings, linesRead}
-use Rattle.reading.specs.Taken.{froms, tos, TakenWith, rLinesFrom}
+use Rattle.reading.specs.Taken.{froms, tos, rLinesFrom}
 use Rattle.reading.proofs.Counts.{text-counted}
-use Rattle.tables.specs.Adding.{Holds}
 use Rattle.tables.proofs.Held.{messages-held, signals-held, routes-held}
 use Rattle.taking.specs.declared.Lines.{Lines}
 use Rattle.taking.specs.declared.Lines.the-variants as came

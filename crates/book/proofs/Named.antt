@@ -1,6 +1,6 @@
 -- Every refusal of a line is one of the answers, and an answer is told by what it says. Assumes nothing.
 use mathlib.Core.Path.{_≡_, refl, sym, ap, _∙_}
-use mathlib.Core.Bool.{Bool, true, false, cond, _||_, _&&_}
+use mathlib.Core.Bool.{Bool, true, false, cond, _||_}
 use mathlib.Core.List.{List, [], _∷_}
 use Prim.Native.Nat.{ℕ, zero, suc}
 use native.Mathlib.Omega.{arith}
@@ -15,7 +15,7 @@ use Rattle.line.specs.declared.Line.{Line}
 use Rattle.line.specs.declared.Line.the-variants as line
 use Rattle.books.specs.Book.{Book, Message, Placement, Route, identifiers, numbers, allPlacements, lastPlacements}
 use Rattle.books.specs.Lines.{isIn, unknownOrOver, misplaced, meetsEarlier, messageRefusal, signalRefusal, routeRefusal, identifierLimit, busLimit, messageLimit, signalLimit, routeLimit}
-use Rattle.reading.specs.Reading.{Outcome, passed, onward, refusalOf, withLine, numberedWith, readFrom, meanings, linesRead}
+use Rattle.reading.specs.Reading.{onward, refusalOf, withLine, numberedWith, readFrom, meanings, linesRead}
 use Rattle.reading.specs.Reading as lines
 
 -- a number is that of a refusal

@@ -1,5 +1,5 @@
 -- Each text has one answer and leaves one book, and no other. Assumes nothing.
-use mathlib.Core.Path.{_≡_, refl, sym, ap, _∙_, subst}
+use mathlib.Core.Path.{_≡_, refl, sym, ap, _∙_}
 use mathlib.Core.Bool.{Bool, true, false}
 use mathlib.Core.List.{List}
 use Prim.Native.Nat.{ℕ, _≤_, _<_}
@@ -21,7 +21,7 @@ use Rattle.books.specs.Book.{Book, allPlacements}
 use Rattle.books.specs.Words.{wordsOf}
 use Rattle.reading.specs.Reading.{Outcome, passed, linesRead}
 use Rattle.reading.specs.Reading as lines
-use Rattle.reading.specs.Taken.{froms, tos, TakenWith}
+use Rattle.reading.specs.Taken.{froms, tos}
 use Rattle.book.specs.Answered.{Passes, Answered, too-long, bad-line, closed-chain, two-chains, taken-with}
 use Rattle.book.proofs.Named.{Named, text-named, said-once}
 

@@ -1,8 +1,8 @@
 -- The routes of a book as they stand in its words. Assumes nothing.
-use mathlib.Core.Path.{_≡_, refl, sym, ap, _∙_}
+use mathlib.Core.Path.{_≡_, sym, ap, _∙_}
 use Prim.Native.Nat.{ℕ, _+_, _-_, _≤_}
 use native.Mathlib.Omega.{arith}
-use mathlib.Core.List.{List, [], _∷_, _++_, map}
+use mathlib.Core.List.{List, _++_, map}
 use lib.ListN.{length, take, drop, length-map}
 use lib.Seq.{drop-drop, drop-append-seam, take-append-seam, take-all}
 use Rattle.record.specs.Columns.{idsAt, fromsAt, messageWords, routeCountOf, fromsOf, tosOf}

@@ -1,12 +1,11 @@
 -- Readers that the contract throws out: one that refuses every text, one that takes every text, one that leaves something behind
 -- where it refuses, one that makes up its counts. Assumes nothing.
-use mathlib.Core.Path.{_≡_, refl, sym, ap, _∙_}
+use mathlib.Core.Path.{_≡_, refl, sym, ap}
 use mathlib.Core.List.{List, [], _∷_}
-use Prim.Native.Nat.{ℕ, _≤_, _<_}
+use Prim.Native.Nat.{ℕ}
 use native.Mathlib.Omega.{arith}
 use lib.ListN.{length}
 use Rattle.record.specs.Columns.{emptyBook}
-use Rattle.chains.specs.Chain.{Chain, LoopFree, Single}
 use Rattle.verdict.specs.declared.Verdict.{Verdict}
 use Rattle.verdict.specs.declared.Verdict.the-variants as verdict
 use Rattle.answers.specs.Numbers.{Said, taken, refused}
@@ -17,12 +16,9 @@ use Rattle.books.specs.Words.{wordsOf}
 use Rattle.reading.specs.Reading.{passed, onward, readFrom, refusalOf, meanings, linesRead}
 use Rattle.reading.specs.Taken.{Sound, mLines, sLines, rLinesFrom}
 use Rattle.reading.proofs.Counts.{text-counted}
+use Rattle.reading.proofs.Exact.{no-routes-sound}
 use Rattle.book.specs.Answered.{Answered, bad-line, taken-with}
 use Rattle.book.proofs.Once.{Way, long, bad, by, way, ofVerdict, answered-once}
-
-no-chain : (p q : ℕ) (c : List ℕ) → Chain [] [] p c q → ⊥
-no-chain p q [] h = h
-no-chain p q (i ∷ c) h = let z : i < 0 = h .0 in omega arith
 
 -- "Empty text is a taken, empty book."
 empty-taken : Answered [] (taken 0 0 0) (wordsOf noBook)
@@ -33,7 +29,7 @@ empty-taken =
       short = omega arith;
       at = [];
       read = refl;
-      sound = record { loop-free = λ p c h. no-chain p p c h; single = λ p q c d t. no-chain p q c (t .one) };
+      sound = no-routes-sound;
     })
 
 -- "An empty line is ill formed (2)", and so is a line of an M alone

@@ -1,12 +1,12 @@
 -- Messages that pass the test are those that lines build. Assumes nothing.
 use mathlib.Core.Path.{_≡_, refl, sym, ap, _∙_, subst}
-use mathlib.Core.Bool.{Bool, true, false, cond, _&&_, _||_, not}
-use Prim.Native.Nat.{ℕ, zero, suc, _+_, _≤_, _<_}
+use mathlib.Core.Bool.{Bool, true, false, _&&_, _||_, not}
+use Prim.Native.Nat.{ℕ, _+_, _≤_, _<_}
 use native.Mathlib.Omega.{arith}
-use mathlib.Core.List.{List, [], _∷_, _++_, map, append-assoc, append-nil}
-use lib.Dec.{leb, ltb, eqb}
+use mathlib.Core.List.{List, [], _∷_, _++_, append-assoc, append-nil}
+use lib.Dec.{leb, eqb}
 use lib.ListN.{length, length-append}
-use borrow.Author.Tests.{leb-true, leb-false, le-leb, lt-leb, eqb-false, ne-eqb, not-true}
+use borrow.Author.Tests.{leb-true, leb-false, le-leb, lt-leb, eqb-false, ne-eqb}
 use Rattle.books.specs.Book.{Placement, Message, identifiers, numbers, allPlacements, fresh, withPlacement, inLast, lastPlacements}
 use Rattle.books.specs.Lines.{isIn, unknownOrOver, misplaced, meetsEarlier, messageRefusal, signalRefusal, identifierLimit, messageLimit, signalLimit}
 use Rattle.books.specs.Built.{Built, none, message, signal}

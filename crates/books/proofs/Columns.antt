@@ -1,14 +1,13 @@
 -- Messages in words, and back: what stands in words is what they show, and the test behind refusal 12 says when words are those of a taken book.
 -- Assumes nothing.
-use mathlib.Core.Path.{_≡_, refl, sym, ap, _∙_, subst}
-use mathlib.Core.Bool.{Bool, true, false, _&&_}
-use Prim.Native.Nat.{ℕ, zero, suc, _+_, _-_, _≤_, _<_}
+use mathlib.Core.Path.{_≡_, refl, sym, ap, _∙_}
+use mathlib.Core.Bool.{true}
+use Prim.Native.Nat.{ℕ, zero, suc, _+_, _-_, _≤_}
 use native.Mathlib.Omega.{arith}
-use native.Mathlib.Nat.{le-of-suc-le-suc}
-use mathlib.Core.List.{List, [], _∷_, _++_, map, append-assoc}
+use mathlib.Core.List.{List, [], _∷_, _++_}
 use lib.Dec.{eqb, leb}
 use lib.ListN.{length, take, drop, replicate, length-append, length-replicate, length-map}
-use lib.Seq.{take-at, drop-at, take-take, take-nil, drop-nil, drop-drop, take-all, take-append-le, drop-append-add, length-take-le}
+use lib.Seq.{take-at, drop-at, take-take, drop-drop, take-all}
 use borrow.Author.Tests.{eqb-true, eq-eqb, leb-true}
 use Rattle.record.specs.Columns.{messageCountOf, signalCountOf, idsAt, messageWords, idsOf, endsOf, numbersOf, startsOf}
 use Rattle.books.specs.Book.{Placement, Message, Book, identifiers, numbers, allPlacements}
@@ -36,23 +35,23 @@ part-of n (suc k) (suc m) (x ∷ l) h = part-of n k m l (omega arith)
 
 -- four columns one after the other
 module _ (a b c d : List ℕ) (la : length a ≡ messageLimit) (lb : length b ≡ messageLimit) (lc : length c ≡ signalLimit) (ld : length d ≡ signalLimit) where
-  pub first-part : take messageLimit (drop 0 (a ++ (b ++ (c ++ d)))) ≡ a
+  first-part : take messageLimit (drop 0 (a ++ (b ++ (c ++ d)))) ≡ a
   first-part = take-at a (b ++ (c ++ d)) messageLimit la
 
-  pub second-part : take messageLimit (drop messageLimit (a ++ (b ++ (c ++ d)))) ≡ b
+  second-part : take messageLimit (drop messageLimit (a ++ (b ++ (c ++ d)))) ≡ b
   second-part = ap (take messageLimit) (drop-at a (b ++ (c ++ d)) messageLimit la) ∙ take-at b (c ++ d) messageLimit lb
 
-  pub third-part : take signalLimit (drop (messageLimit + messageLimit) (a ++ (b ++ (c ++ d)))) ≡ c
+  third-part : take signalLimit (drop (messageLimit + messageLimit) (a ++ (b ++ (c ++ d)))) ≡ c
   third-part = ap (take signalLimit) (sym (drop-drop messageLimit messageLimit (a ++ (b ++ (c ++ d)))) ∙ ap (drop messageLimit) (drop-at a (b ++ (c ++ d)) messageLimit la) ∙ drop-at b (c ++ d) messageLimit lb) ∙ take-at c d signalLimit lc
 
-  pub fourth-part : take signalLimit (drop (messageLimit + (messageLimit + signalLimit)) (a ++ (b ++ (c ++ d)))) ≡ d
+  fourth-part : take signalLimit (drop (messageLimit + (messageLimit + signalLimit)) (a ++ (b ++ (c ++ d)))) ≡ d
   fourth-part =
       ap (take signalLimit)
       (sym (drop-drop (messageLimit + signalLimit) messageLimit (a ++ (b ++ (c ++ d)))) ∙ ap (drop (messageLimit + signalLimit)) (drop-at a (b ++ (c ++ d)) messageLimit la) ∙
       sym (drop-drop signalLimit messageLimit (b ++ (c ++ d))) ∙ ap (drop signalLimit) (drop-at b (c ++ d) messageLimit lb) ∙ drop-at c d signalLimit lc) ∙
       take-all signalLimit d (omega arith)
 
-  pub four-long : length (a ++ (b ++ (c ++ d))) ≡ messageWords
+  four-long : length (a ++ (b ++ (c ++ d))) ≡ messageWords
   four-long = omega (arith, length-append a (b ++ (c ++ d)), length-append b (c ++ d), length-append c d)
 
 placed-back : (ps : List Placement) → placed (numbers ps) (starts ps) ≡ ps
@@ -114,7 +113,7 @@ module _ (w : List ℕ) (ms : List Message) (few : length ms ≤ messageLimit) (
   unfolding messageColumns
   starts-stand = from-columns signalLimit (messageLimit + (messageLimit + signalLimit)) _ (omega arith) (fourth-part (idColumn ms) (endColumn ms) (numberColumn ms) (startColumn ms) (ids-long ms few room) (ends-long ms few room) (numbers-long ms few room) (starts-long ms few room))
 
-  pub shows : messagesOf w ≡ ms
+  shows : messagesOf w ≡ ms
   unfolding messagesOf
   shows =
       rw (

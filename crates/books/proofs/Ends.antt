@@ -1,11 +1,9 @@
 -- One message or one placement more at the end of a book's messages. Assumes nothing.
 use mathlib.Core.Path.{_≡_, refl, sym, ap, _∙_}
-use mathlib.Core.Bool.{Bool, true, false, _&&_, _||_, not, and-assoc}
-use Prim.Native.Nat.{ℕ, zero, suc, _+_, _≤_, _<_}
-use native.Mathlib.Omega.{arith}
+use Prim.Native.Nat.{_+_}
 use mathlib.Core.List.{List, [], _∷_, _++_, map, append-assoc, append-nil}
 use lib.ListN.{length, length-append}
-use Rattle.books.specs.Book.{Placement, Message, identifiers, numbers, allPlacements, fresh, withPlacement, inLast, lastPlacements}
+use Rattle.books.specs.Book.{Placement, Message, allPlacements, withPlacement, inLast, lastPlacements}
 
 pub map-append {ℓ ℓ′} : {A : Type ℓ} {B : Type ℓ′} (f : A → B) (s t : List A) → map f (s ++ t) ≡ map f s ++ map f t
 map-append f [] t = refl

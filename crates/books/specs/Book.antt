@@ -1,7 +1,6 @@
 -- What a route book holds: its messages with their signals, and its routes, each in book order. Assumes nothing: these are definitions.
 use Prim.Native.Nat.{ℕ}
 use mathlib.Core.List.{List, [], _∷_, _++_, map}
-use lib.ListN.{length}
 
 -- an `S` line: a signal of the catalogue, and the frame bit where it starts
 pub record Placement : Type 0 where

@@ -5,7 +5,7 @@ use mathlib.Core.Option.{Option, none, some}
 use Prim.Native.Nat.{ℕ, _^_, _≤_, _<_}
 use native.Mathlib.Omega.{arith}
 use lib.Dec.{leb}
-use borrow.Author.Tests.{leb-true, leb-false, le-leb, lt-leb}
+use borrow.Author.Tests.{leb-true, le-leb, lt-leb}
 use Rattle.rows.specs.declared.Mark.{Mark}
 use Rattle.rows.specs.declared.Row.{Row}
 use Rattle.rows.specs.Rule.{Rule}
@@ -14,7 +14,7 @@ use Rattle.catalogue.specs.declared.Class.{Class}
 use Rattle.catalogue.specs.declared.Class.the-variants.{Value, Outside, NotInCatalogue, TooWide}
 use Rattle.catalogue.specs.Find.{rowOf}
 use Rattle.catalogue.specs.Class.{between, has, markClass, readingOf, classIn, classFor, classOf}
-use Rattle.catalogue.specs.Belongs.{Between, In, Free, WithinLimits, Belongs, by-mark1, by-mark2, by-mark3, as-value, as-outside}
+use Rattle.catalogue.specs.Belongs.{Between, In, Free, Belongs, by-mark1, by-mark2, by-mark3, as-value, as-outside}
 use Rattle.catalogue.proofs.Found.{RuleOf, rule-of}
 
 -- ---- the test of an interval

@@ -1,12 +1,12 @@
 -- Readings, raw x resolution + offset: how large they are, that they rise with the count, and that a value's reading lies
 -- within the printed limits, which are the readings of the lowest and the highest count. Assumes nothing.
-use mathlib.Core.Path.{_≡_, refl, sym, ap, subst}
+use mathlib.Core.Path.{_≡_, refl, sym, subst}
 use mathlib.Core.Logic.{_⊎_, ⊎-elim}
 use mathlib.Core.Bool.{Bool, true, false, cond}
 use Prim.Native.Nat.{ℕ, suc, _+_, _*_, _-_, _≤_, _<_}
 use native.Mathlib.Nat.{le-refl, le-of-lt, eq-or-lt-of-le, mul-lt-mul-of-pos-right}
 use native.Mathlib.Omega.{arith}
-use lib.Dec.{T, leb, ltb, eqb, le→leb, lt→ltb, ltb→lt}
+use lib.Dec.{T, ltb, eqb, le→leb, lt→ltb, ltb→lt}
 use lib.Signed.{mag, ltZ, leZ, _<ℤ_, _≤ℤ_, ≤ℤ-refl}
 use lib.IntN.{ℤ, pos, negsuc, natAbs, _+ℤ_}
 use borrow.Author.Tests.{ltb-true, ltb-false}
@@ -91,7 +91,7 @@ module _ (r : Row) (raw : Raw) where
   reads (as-value f h) = (h, refl)
   reads (as-outside f h) = tt
 
-  pub value-reads : (t : Thousandths) → classIn r raw ≡ Value t → WithinLimits r raw × (t ≡ readingOf r raw)
+  value-reads : (t : Thousandths) → classIn r raw ≡ Value t → WithinLimits r raw × (t ≡ readingOf r raw)
   value-reads t e = subst (Reads r raw) e (reads (belongs r raw))
 
   -- a value's reading lies within the printed limits

@@ -32,11 +32,11 @@ abbrev pub upto : ℕ → List ℕ
 upto zero = []
 upto (suc n) = n ∷ upto n
 
-pub length-upto : (n : ℕ) → length (upto n) ≡ n
+length-upto : (n : ℕ) → length (upto n) ≡ n
 length-upto zero = refl
 length-upto (suc n) = ap suc (length-upto n)
 
-pub mem-upto : (n x : ℕ) → x < n → List·Memᴰ x (upto n)
+mem-upto : (n x : ℕ) → x < n → List·Memᴰ x (upto n)
 mem-upto zero x h = absurd (omega arith)
 mem-upto (suc n) x h = ⊎-elim (λ e. List·Memᴰ·head (omega arith)) (λ l. List·Memᴰ·tail (mem-upto n x (le-of-suc-le-suc l))) (eq-or-lt-of-le h)
 

@@ -153,7 +153,7 @@ module _ (w : List ℕ) (r : Record w) (t : RoutesTaken w) where
   shown-count = sym (length-map (pairs (startPlaces w) (endPlaces w)) (λ (r : Route). r .from)) ∙ ap length (pair-froms (startPlaces w) (endPlaces w) in-step) ∙ start-count
 
   -- the route tables of a record, exactly
-  pub taken-in : RoutesIn w
+  taken-in : RoutesIn w
   unfolding shown routeColumns Small
   taken-in = record {
     routes = shown;

@@ -1,13 +1,13 @@
 -- An identifier up to a byte: 8 digits, and the byte stands right after them. Assumes nothing.
 use mathlib.Core.Path.{_≡_, refl, sym, ap, _∙_}
 use mathlib.Core.Bool.{Bool, true, false, cond}
-use mathlib.Core.List.{List, [], _∷_}
+use mathlib.Core.List.{List}
 use Prim.Native.Nat.{ℕ, _≤_, _<_}
 use native.Mathlib.Omega.{arith}
 use lib.Dec.{eqb, ltb}
 use lib.ListN.{length, take, getD}
 use lib.Seq.{length-take-le, getD-take}
-use borrow.Author.Tests.{eq-eqb, ne-eqb, eqb-true, eqb-false, lt-ltb, le-ltb, ltb-true, ltb-false}
+use borrow.Author.Tests.{ne-eqb, eqb-true, eqb-false, lt-ltb, ltb-true}
 use Rattle.numerals.specs.declared.Number.{Number}
 use Rattle.numerals.specs.declared.Number.the-variants as number
 use Rattle.numerals.specs.Numeral.{identifier}
@@ -16,8 +16,7 @@ use Rattle.parts.specs.Parts.{indexOf}
 use Rattle.parts.specs.Joined.{Free}
 use Rattle.parts.proofs.Seek.{index-at, index-le}
 use Rattle.parts.proofs.Joins.{free-at}
-use Rattle.fields.specs.declared.Front.{Front}
-use Rattle.fields.specs.declared.Front.the-variants.{Found, Nothing}
+use Rattle.fields.specs.declared.Front.the-variants.{Nothing}
 use Rattle.fields.specs.Front.{ofDigits, numberBefore}
 use Rattle.fields.proofs.Tabless.{identifier-free}
 

@@ -3,7 +3,7 @@
 use mathlib.Core.Path.{_≡_, refl, sym, ap, _∙_}
 use mathlib.Core.Bool.{Bool, true, false, cond}
 use mathlib.Core.List.{List, [], _∷_}
-use Prim.Native.Nat.{ℕ, zero, suc, _+_, _*_, _^_, _≤_, _<_}
+use Prim.Native.Nat.{ℕ, suc, _+_, _*_, _^_, _≤_, _<_}
 use native.Mathlib.Nat.{add-zero, add-suc, suc-add, zero-add, pow-zero, lt-of-lt-of-le, pow-le-pow-right}
 use native.Mathlib.Numerals.{add-one}
 use native.Mathlib.Omega.{arith}
@@ -73,7 +73,7 @@ check-digits text l k e s = by (numeralFrom 10 0 l) (ltb k 1) (ltb 5 k) (needles
     by (number.Is v) false false true p q r = rw (s, p, q, ← e, r)
     by (number.Is v) false false false p q r = rw (s, p, q, ← e, r)
 
-pub before-is : (stop : ℕ) (text : List ℕ) → numberBefore decimal stop text ≡ checked text (runFrom stop 0 0 text)
+before-is : (stop : ℕ) (text : List ℕ) → numberBefore decimal stop text ≡ checked text (runFrom stop 0 0 text)
 unfolding numberBefore checked
 before-is stop text = by (ltb (indexOf stop text) (length text)) refl
   where

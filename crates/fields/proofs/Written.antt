@@ -2,7 +2,7 @@
 use mathlib.Core.Path.{_≡_, refl, sym, ap, _∙_}
 use mathlib.Core.Bool.{Bool, true, false, cond}
 use mathlib.Core.List.{List, [], _∷_, _++_}
-use Prim.Native.Nat.{ℕ, suc, _+_, _≤_, _<_}
+use Prim.Native.Nat.{ℕ, suc, _+_, _<_}
 use native.Mathlib.Numerals.{add-one}
 use native.Mathlib.Omega.{arith}
 use lib.Dec.{ltb}
@@ -15,7 +15,6 @@ use Rattle.parts.specs.Parts.{indexOf}
 use Rattle.parts.specs.Joined.{Free}
 use Rattle.parts.proofs.Seek.{index-at}
 use Rattle.parts.proofs.Joins.{index-after}
-use Rattle.fields.specs.declared.Front.{Front}
 use Rattle.fields.specs.declared.Front.the-variants.{Found, Nothing}
 use Rattle.fields.specs.Front.{ofDigits, numberBefore}
 

@@ -13,7 +13,6 @@ use Rattle.numerals.specs.Numeral.{identifier}
 use Rattle.parts.specs.Parts.{fields}
 use Rattle.bits.specs.Frame.{frameBytes}
 use Rattle.bits.specs.Word.{wordOf}
-use Rattle.frame_lines.specs.declared.FrameLine.{FrameLine}
 use Rattle.frame_lines.specs.declared.FrameLine.the-variants.{Frame, NotEightBytes, IllFormed}
 use Rattle.frame_lines.specs.Meaning.{Said, frame, illFormed, allDigits, areBytes, bytesIn, saidBy, ofFrameFields, frameLineSays, told}
 use Rattle.frame_lines.proofs.Digits.{bytes-small}
@@ -34,7 +33,7 @@ small-by (Is i) l = go (leb (length l) 16) (eqb (length l % 2) 0) (allDigits l) 
     go true true true h = bytes-small l h
 small-by Not l = tt
 
-pub says-small : (l : List ℕ) → SmallBytes (frameLineSays l)
+says-small : (l : List ℕ) → SmallBytes (frameLineSays l)
 unfolding frameLineSays ofFrameFields
 says-small l = by (fields l)
   where

@@ -1,15 +1,13 @@
 -- What digits after an identifier say, test by test. Assumes nothing.
-use mathlib.Core.Path.{_≡_, refl, sym, ap, _∙_}
-use mathlib.Core.Bool.{Bool, true, false, cond, _&&_}
+use mathlib.Core.Path.{_≡_}
+use mathlib.Core.Bool.{true, false}
 use mathlib.Core.List.{List}
 use Prim.Native.Nat.{ℕ, _%_, _≤_, _<_}
 use native.Mathlib.Omega.{arith}
-use lib.Dec.{eqb, leb}
 use lib.ListN.{length}
 use borrow.Author.Tests.{le-leb, lt-leb, eq-eqb, ne-eqb}
 use Rattle.numerals.specs.declared.Number.the-variants.{Is}
 use Rattle.bits.specs.Word.{wordOf}
-use Rattle.frame_lines.specs.declared.FrameLine.{FrameLine}
 use Rattle.frame_lines.specs.declared.FrameLine.the-variants.{Frame, NotEightBytes, IllFormed}
 use Rattle.frame_lines.specs.Meaning.{allDigits, areBytes, bytesIn, saidBy, told}
 use Rattle.frame_lines.proofs.Digits.{length-bytes}

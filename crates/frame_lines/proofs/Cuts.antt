@@ -11,14 +11,14 @@ use borrow.Author.Tests.{ne-eqb, eqb-true, eqb-false, ltb-true, ltb-false}
 use Rattle.numerals.specs.declared.Number.{Number}
 use Rattle.numerals.specs.declared.Number.the-variants.{Is, Not}
 use Rattle.numerals.specs.Numeral.{digitValue, numeralFrom, identifier}
-use Rattle.parts.specs.Parts.{fields, split, indexOf}
+use Rattle.parts.specs.Parts.{fields, indexOf}
 use Rattle.parts.specs.Joined.{Free, join}
 use Rattle.parts.proofs.Joins.{join-split, split-free, index-after}
 use Rattle.parts.proofs.Seek.{indexOf-le, index-at}
-use Rattle.parts.proofs.Splits.{Some, some, cut-more, cut-last}
+use Rattle.parts.proofs.Splits.{some, cut-more, cut-last}
 use Rattle.frame_lines.specs.declared.FrameLine.{FrameLine}
 use Rattle.frame_lines.specs.declared.FrameLine.the-variants.{IllFormed}
-use Rattle.frame_lines.specs.Meaning.{Said, frame, illFormed, allDigits, areBytes, bytesIn, saidBy, ofFrameFields, frameLineSays, told}
+use Rattle.frame_lines.specs.Meaning.{illFormed, allDigits, areBytes, saidBy, ofFrameFields, frameLineSays, told}
 use Rattle.frame_lines.proofs.Digits.{digits-free}
 
 -- with a tab among them they are no bytes

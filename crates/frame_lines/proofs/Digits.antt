@@ -25,7 +25,7 @@ module _ (b : ℕ) (t : List ℕ) (e : allDigits (b ∷ t) ≡ true) where
   unfolding allDigits
   other-digits = both (ltb (digitValue b) 16) (allDigits t) e .1
 
-pub digit-small : (l : List ℕ) (i : ℕ) → allDigits l ≡ true → i < length l → digitValue (getD l i 0) < 16
+digit-small : (l : List ℕ) (i : ℕ) → allDigits l ≡ true → i < length l → digitValue (getD l i 0) < 16
 digit-small [] i e h = absurd (omega arith)
 digit-small (b ∷ t) zero e h = first-digit b t e
 digit-small (b ∷ t) (suc i) e h = digit-small t i (other-digits b t e) (omega arith)

@@ -1,11 +1,11 @@
 -- Bytes moved to the front, one by one: what is moved is what stood there, and the rest stands as it did. Assumes nothing.
 use mathlib.Core.Path.{_≡_, refl, sym, ap, _∙_}
 use mathlib.Core.List.{List, [], _∷_, _++_}
-use Prim.Native.Nat.{ℕ, suc, _+_, _-_, _≤_, _<_}
+use Prim.Native.Nat.{ℕ, _+_, _-_, _<_}
 use native.Mathlib.Numerals.{add-one}
 use native.Mathlib.Omega.{arith}
 use lib.ListN.{length, take, drop, getD, set, length-set, length-drop}
-use lib.Seq.{take-suc, take-suc-set, drop-set-lt, getD-drop, drop-drop, getD-append-add}
+use lib.Seq.{take-suc, take-suc-set, drop-set-lt, getD-drop, drop-drop}
 
 pub record Moved (old : List ℕ) (from : ℕ) (new : List ℕ) (i : ℕ) : Type 0 where
   pub front : take i new ≡ take i (drop from old)

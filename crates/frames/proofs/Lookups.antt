@@ -59,7 +59,7 @@ abbrev pub blank : Message
 blank = record { identifier = 0; placements = [] }
 
 -- the message with an identifier is the first that has it
-pub message-there : (identifier : ℕ) (ms : List Message) → firstAt identifier (identifiers ms) < length ms
+message-there : (identifier : ℕ) (ms : List Message) → firstAt identifier (identifiers ms) < length ms
     → messageOf identifier ms ≡ some (record { identifier = identifier; placements = getD ms (firstAt identifier (identifiers ms)) blank .placements })
 unfolding messageOf firstAt
 message-there identifier [] h = absurd (not-suc-le-zero h)
@@ -71,7 +71,7 @@ message-there identifier (m ∷ ms) h = go (eqb identifier (m .identifier)) refl
     go true e h rest = ap (λ (i : ℕ). some (record { identifier = i; placements = m .placements })) (sym (eqb-true identifier (m .identifier) e))
     go false e h rest = rest (le-of-suc-le-suc h)
 
-pub message-nowhere : (identifier : ℕ) (ms : List Message) → length ms ≤ firstAt identifier (identifiers ms) → messageOf identifier ms ≡ none
+message-nowhere : (identifier : ℕ) (ms : List Message) → length ms ≤ firstAt identifier (identifiers ms) → messageOf identifier ms ≡ none
 unfolding messageOf firstAt
 message-nowhere identifier [] h = refl
 message-nowhere identifier (m ∷ ms) h = go (eqb identifier (m .identifier)) h (message-nowhere identifier ms)
@@ -95,7 +95,7 @@ begins-after n [] i h = absurd (not-suc-le-zero h)
 begins-after n (m ∷ ms) zero h = omega arith
 begins-after n (m ∷ ms) (suc i) h = let k = begins-after (n + length (m .placements)) ms i (le-of-suc-le-suc h) in omega arith
 
-pub part-is : (n : ℕ) (ms : List Message) (i : ℕ) → i < length ms
+part-is : (n : ℕ) (ms : List Message) (i : ℕ) → i < length ms
     → take (Ends n ms i - Begins n ms i) (drop (Begins n ms i - n) (allPlacements ms)) ≡ getD ms i blank .placements
 unfolding endsAfter allPlacements
 part-is n [] i h = absurd (not-suc-le-zero h)
@@ -112,13 +112,13 @@ part-is n (m ∷ ms) (suc i) h =
     ∙ part-is n' ms i (le-of-suc-le-suc h)
 
 -- ends rise, and none is past all signals
-pub ends-rise : (n : ℕ) (ms : List Message) (i : ℕ) → i < length ms → Begins n ms i ≤ Ends n ms i
+ends-rise : (n : ℕ) (ms : List Message) (i : ℕ) → i < length ms → Begins n ms i ≤ Ends n ms i
 unfolding endsAfter
 ends-rise n [] i h = absurd (not-suc-le-zero h)
 ends-rise n (m ∷ ms) zero h = omega arith
 ends-rise n (m ∷ ms) (suc i) h = ends-rise (n + length (m .placements)) ms i (le-of-suc-le-suc h)
 
-pub ends-within : (n : ℕ) (ms : List Message) (i : ℕ) → i < length ms → Ends n ms i ≤ n + length (allPlacements ms)
+ends-within : (n : ℕ) (ms : List Message) (i : ℕ) → i < length ms → Ends n ms i ≤ n + length (allPlacements ms)
 unfolding endsAfter allPlacements
 ends-within n [] i h = absurd (not-suc-le-zero h)
 ends-within n (m ∷ ms) zero h = omega (arith, length-append (m .placements) (allPlacements ms))
@@ -184,7 +184,7 @@ module _ (w : List ℕ) (t : messagesTaken w ≡ true) where
   roomy : length (allPlacements Ms) ≤ signalLimit
   roomy = within Ms is-good .room
 
-  pub count-is : messageCountOf w ≡ length Ms
+  count-is : messageCountOf w ≡ length Ms
   count-is = stand .messages
 
   pub count-few : messageCountOf w ≤ messageLimit

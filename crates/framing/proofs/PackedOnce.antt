@@ -16,7 +16,7 @@ use Rattle.bits.proofs.Weights.{Bytes, weights, word-bytes, word-lt, count-bit}
 use Rattle.bits.proofs.Summing.{Agree, same-checksum}
 use Rattle.books.specs.Book.{Placement, Message}
 use Rattle.catalogue.specs.Find.{bitsOf}
-use Rattle.framing.specs.Messages.{checksumNumber, checksumStart, checksumBits, countOf}
+use Rattle.framing.specs.Messages.{checksumNumber, countOf}
 use Rattle.framing.specs.Packed.{Carries, Summed, Unplaced, IsPacked}
 use Rattle.framing.proofs.Sound.{Sits, Sound}
 

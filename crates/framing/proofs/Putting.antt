@@ -72,7 +72,7 @@ pub data Off (t c : ℕ) : List Placement → Type 0 where
   none : Off t c []
   more : {p : Placement} {ps : List Placement} → ((p .number ≡ checksumNumber → ⊥) → (p .start + bitsOf (p .number) ≤ t) ⊎ (t + c ≤ p .start)) → Off t c ps → Off t c (p ∷ ps)
 
-pub beside-off : {q : Placement} {ps : List Placement} → BesideAll q ps → Off (q .start) (bitsOf (q .number)) ps
+beside-off : {q : Placement} {ps : List Placement} → BesideAll q ps → Off (q .start) (bitsOf (q .number)) ps
 beside-off BesideAll.none = Off.none
 beside-off (BesideAll.more b bs) = Off.more (λ _. ⊎-elim inr inl b) (beside-off bs)
 

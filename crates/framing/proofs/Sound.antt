@@ -37,10 +37,6 @@ pub data Sound : List Placement → Type 0 where
 
 -- ---- from the tests of a book
 
-not-true : (b : Bool) → not b ≡ true → b ≡ false
-not-true true e = sym e
-not-true false e = refl
-
 apart : (p q : Placement) → meets p q ≡ false → Beside q p
 unfolding meets
 apart p q e = go (ltb (p .start) (q .start + bitsOf (q .number))) refl e
@@ -109,7 +105,7 @@ later q before (p ∷ ps) h g =
     let t = both _ (goodAfter (before ++ (p ∷ [])) ps) g in
     BesideAll.more (h p (passed before p (t .0) .beside)) (later q (before ++ (p ∷ [])) ps (λ x e. h x (earlier-split before p x e .0)) (t .1))
 
-pub sound-after : (before ps : List Placement) → goodAfter before ps ≡ true → Sound ps
+sound-after : (before ps : List Placement) → goodAfter before ps ≡ true → Sound ps
 unfolding goodAfter
 sound-after before [] g = Sound.none
 sound-after before (p ∷ ps) g =

@@ -80,14 +80,14 @@ module _ (identifier w : ℕ) where
   abbrev pub Sum : ℕ
   Sum = checksumOf identifier (bytesOf w)
 
-  pub sum-lt : Sum < 2 ^ checksumBits
+  sum-lt : Sum < 2 ^ checksumBits
   sum-lt = lt-of-lt-of-le (mod-lt _ (lit< {m = 0} {n = 8} tt)) (lit≤ tt)
 
   -- it is read back, and it is the checksum of the frame that has it
-  pub sum-back : fieldOf (placed w checksumStart checksumBits Sum) checksumStart checksumBits ≡ Sum
+  sum-back : fieldOf (placed w checksumStart checksumBits Sum) checksumStart checksumBits ≡ Sum
   sum-back = read-back w checksumStart checksumBits Sum sum-lt
 
-  pub sum-kept : checksumOf identifier (bytesOf (placed w checksumStart checksumBits Sum)) ≡ Sum
+  sum-kept : checksumOf identifier (bytesOf (placed w checksumStart checksumBits Sum)) ≡ Sum
   sum-kept = checksum-kept identifier w Sum sum-lt
 
   pub summed-lt : (ps : List Placement) → w < 2 ^ 64 → summed identifier ps w < 2 ^ 64

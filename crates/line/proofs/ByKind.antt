@@ -1,7 +1,7 @@
 -- What stands after the kind and its tab in a text that starts with a line. Assumes nothing.
 use mathlib.Core.Path.{_≡_, refl, sym, ap, _∙_}
 use mathlib.Core.Logic.{_⊎_, inl, inr}
-use mathlib.Core.List.{List, [], _∷_, _++_, append-assoc}
+use mathlib.Core.List.{List, _∷_, _++_, append-assoc}
 use Prim.Native.Nat.{ℕ, _+_, _≤_, _<_}
 use native.Mathlib.Omega.{arith}
 use lib.ListN.{length, drop, getD}
@@ -9,8 +9,7 @@ use Rattle.numerals.specs.Written.{identifierText, decimalText, hexadecimalLimi
 use Rattle.parts.specs.Joined.{join}
 use Rattle.line.specs.declared.Line.{Line}
 use Rattle.line.specs.declared.Line.the-variants.{Message, Signal, Route, IllFormed}
-use Rattle.line.specs.declared.First.{First}
-use Rattle.line.specs.Written.{fieldsOf, lineText, Writable}
+use Rattle.line.specs.Written.{fieldsOf, lineText}
 use Rattle.line.specs.First.{OfKind, illFormed, firstLine}
 use Rattle.line.proofs.Starts.{Starts, Started, first-starts}
 

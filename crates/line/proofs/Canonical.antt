@@ -2,22 +2,20 @@
 use mathlib.Core.Path.{_≡_, refl, sym, ap, _∙_}
 use mathlib.Core.Logic.{_⊎_, inl, inr}
 use mathlib.Core.Bool.{Bool, true, false, cond}
-use mathlib.Core.List.{List, [], _∷_, _++_}
-use Prim.Native.Nat.{ℕ, _<_}
-use native.Mathlib.Omega.{arith}
+use mathlib.Core.List.{List, [], _∷_}
+use Prim.Native.Nat.{ℕ}
 use lib.Dec.{eqb}
 use borrow.Author.Tests.{eqb-true}
 use Rattle.numerals.specs.declared.Number.{Number}
 use Rattle.numerals.specs.declared.Number.the-variants.{Is, Not}
 use Rattle.numerals.specs.Numeral.{identifier, decimal}
-use Rattle.numerals.specs.Written.{identifierText, decimalText}
 use Rattle.numerals.proofs.Identifiers.{IdentifierWritten, identifier-written}
 use Rattle.numerals.proofs.Decimals.{DecimalWritten, decimal-written}
 use Rattle.parts.specs.Parts.{fields}
 use Rattle.parts.specs.Joined.{join}
 use Rattle.parts.proofs.Joins.{join-split}
 use Rattle.line.specs.declared.Line.{Line}
-use Rattle.line.specs.declared.Line.the-variants.{Message, Signal, Route, IllFormed}
+use Rattle.line.specs.declared.Line.the-variants.{IllFormed}
 use Rattle.line.specs.Meaning.{messageOf, signalOf, routeOf, ofMessage, ofSignal, ofRoute, ofKind, ofFields, lineMeaning}
 use Rattle.line.specs.Written.{fieldsOf, lineText, Writable}
 

@@ -1,13 +1,13 @@
 -- What the lines of a text say, by its first line: that line, and then what the lines after it say. Assumes nothing.
-use mathlib.Core.Path.{_≡_, refl, sym, ap, _∙_}
+use mathlib.Core.Path.{_≡_, refl, ap}
 use mathlib.Core.Bool.{Bool, true, false, cond}
 use mathlib.Core.List.{List, [], _∷_, map}
-use Prim.Native.Nat.{ℕ, suc, _+_, _≤_, _<_}
+use Prim.Native.Nat.{ℕ, _+_, _≤_, _<_}
 use native.Mathlib.Omega.{arith}
 use lib.Dec.{ltb}
 use lib.ListN.{length, take, drop}
-use borrow.Author.Tests.{lt-ltb, ltb-true, ltb-false}
-use Rattle.parts.specs.Parts.{indexOf, lines, TextLine, ended, unended}
+use borrow.Author.Tests.{ltb-true, ltb-false}
+use Rattle.parts.specs.Parts.{indexOf, lines}
 use Rattle.parts.proofs.LineEnds.{lines-none, lines-more, lines-last}
 use Rattle.line.specs.declared.Line.{Line}
 use Rattle.line.specs.declared.Line.the-variants.{Message, Signal, Route, IllFormed}

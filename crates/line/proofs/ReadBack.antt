@@ -1,18 +1,16 @@
 -- The text of a line is read as that line. Assumes nothing.
-use mathlib.Core.Path.{_≡_, refl, sym, ap, _∙_}
-use mathlib.Core.List.{List, [], _∷_, _++_}
+use mathlib.Core.Path.{_≡_}
+use mathlib.Core.List.{[], _∷_}
 use Prim.Native.Nat.{ℕ, _≤_, _<_}
 use native.Mathlib.Omega.{arith}
-use Rattle.numerals.specs.Numeral.{identifier, decimal}
-use Rattle.numerals.specs.Written.{identifierText, decimalText}
 use Rattle.numerals.proofs.Identifiers.{identifier-read}
 use Rattle.numerals.proofs.Decimals.{decimal-read}
-use Rattle.parts.specs.Parts.{split, fields}
-use Rattle.parts.specs.Joined.{join, Free, none, more, Frees, no-part, part}
+use Rattle.parts.specs.Parts.{fields}
+use Rattle.parts.specs.Joined.{Free, none, more, Frees, no-part, part}
 use Rattle.parts.proofs.Joins.{split-join, free-join}
 use Rattle.line.specs.declared.Line.{Line}
 use Rattle.line.specs.declared.Line.the-variants.{Message, Signal, Route, IllFormed}
-use Rattle.line.specs.Meaning.{messageOf, signalOf, routeOf, ofMessage, ofSignal, ofRoute, ofKind, ofFields, lineMeaning}
+use Rattle.line.specs.Meaning.{ofMessage, ofSignal, ofRoute, ofKind, ofFields, lineMeaning}
 use Rattle.line.specs.Written.{fieldsOf, lineText, Writable}
 use Rattle.fields.proofs.Tabless.{identifier-free, decimal-free}
 

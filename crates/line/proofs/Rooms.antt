@@ -2,9 +2,9 @@
 use mathlib.Core.Path.{_≡_, refl, sym, ap, _∙_}
 use mathlib.Core.Logic.{_⊎_, inl, inr}
 use mathlib.Core.List.{List, [], _∷_, _++_, append-assoc}
-use Prim.Native.Nat.{ℕ, suc, _+_, _≤_, _<_}
+use Prim.Native.Nat.{ℕ, _+_, _≤_, _<_}
 use native.Mathlib.Omega.{arith}
-use lib.ListN.{length, take, drop, getD, length-append}
+use lib.ListN.{length, take, drop, length-append}
 use Rattle.numerals.specs.declared.Number.{Number}
 use Rattle.numerals.specs.declared.Number.the-variants.{Is}
 use Rattle.numerals.specs.Numeral.{identifier, decimal}
@@ -17,14 +17,14 @@ use Rattle.fields.specs.declared.Front.{Front}
 use Rattle.fields.specs.declared.Front.the-variants.{Found, Nothing}
 use Rattle.fields.specs.Front.{numberBefore}
 use Rattle.fields.proofs.Tabless.{identifier-free, decimal-free}
-use Rattle.fields.proofs.Written.{Field, found-field, field-found, not-nothing, after-field}
+use Rattle.fields.proofs.Written.{Field, found-field, not-nothing, after-field}
 use Rattle.line.specs.declared.Line.{Line}
-use Rattle.line.specs.declared.Line.the-variants.{Message, Signal, Route, IllFormed}
+use Rattle.line.specs.declared.Line.the-variants.{Message, Signal, Route}
 use Rattle.line.specs.declared.First.{First}
 use Rattle.line.specs.Written.{fieldsOf, lineText, Writable}
 use Rattle.line.specs.First.{OfKind, illFormed, sized, firstLine}
-use Rattle.line.proofs.Starts.{Starts, starts-first}
-use Rattle.line.proofs.ByKind.{MessageAt, SignalAt, RouteAt, message-or, signal-or, route-or}
+use Rattle.line.proofs.Starts.{starts-first}
+use Rattle.line.proofs.ByKind.{RouteAt, message-or, signal-or, route-or}
 
 -- what follows from a number that is found: its text, its size, what is after it
 pub record Read (textOf : ℕ → List ℕ) (limit stop : ℕ) (text : List ℕ) (n k : ℕ) (rest : List ℕ) : Type 0 where
@@ -42,13 +42,13 @@ module _ (form : List ℕ → Number) (textOf : ℕ → List ℕ) (limit : ℕ) 
         same = w .parts ∙ rw (d .1, ← y);
       }
 
-pub decimal-found : (stop : ℕ) (text : List ℕ) (n k : ℕ) (rest : List ℕ) {f : Front} → f ≡ numberBefore decimal stop text → f ≡ Found n k → rest ≡ drop (k + 1) text
+decimal-found : (stop : ℕ) (text : List ℕ) (n k : ℕ) (rest : List ℕ) {f : Front} → f ≡ numberBefore decimal stop text → f ≡ Found n k → rest ≡ drop (k + 1) text
     → Read decimalText 100000 stop text n k rest
 decimal-found stop text n k rest e g y =
     read decimal decimalText 100000 (λ l m w. (decimal-written l m w .small, decimal-written l m w .text)) stop text n k rest
     (found-field decimal stop text n k (sym g ∙ e)) y
 
-pub identifier-found : (stop : ℕ) (text : List ℕ) (n k : ℕ) (rest : List ℕ) {f : Front} → f ≡ numberBefore identifier stop text → f ≡ Found n k → rest ≡ drop (k + 1) text
+identifier-found : (stop : ℕ) (text : List ℕ) (n k : ℕ) (rest : List ℕ) {f : Front} → f ≡ numberBefore identifier stop text → f ≡ Found n k → rest ≡ drop (k + 1) text
     → Read identifierText 4294967296 stop text n k rest
 identifier-found stop text n k rest e g y =
     read identifier identifierText 4294967296 (λ l m w. (identifier-written l m w .small, identifier-written l m w .text)) stop text n k rest

@@ -1,10 +1,9 @@
 -- A text's first line is ill formed, or the text starts with the text of that line and a newline. Assumes nothing.
-use mathlib.Core.Path.{_≡_, refl, sym, ap, _∙_}
+use mathlib.Core.Path.{_≡_, refl, ap, _∙_}
 use mathlib.Core.Logic.{_⊎_, inl, inr}
 use mathlib.Core.Bool.{Bool, true, false, cond}
-use mathlib.Core.List.{List, [], _∷_, _++_}
-use Prim.Native.Nat.{ℕ, suc, _+_, _≤_, _<_}
-use native.Mathlib.Numerals.{add-one}
+use mathlib.Core.List.{List, _∷_, _++_}
+use Prim.Native.Nat.{ℕ, suc, _+_, _<_}
 use native.Mathlib.Omega.{arith}
 use lib.Dec.{ltb}
 use lib.ListN.{length, take, drop, length-append}
@@ -14,8 +13,7 @@ use Rattle.parts.specs.Parts.{indexOf}
 use Rattle.parts.proofs.Seek.{index-at}
 use Rattle.parts.proofs.Joins.{index-after}
 use Rattle.line.specs.declared.Line.{Line}
-use Rattle.line.specs.declared.Line.the-variants.{Message, Signal, Route, IllFormed}
-use Rattle.line.specs.declared.First.{First}
+use Rattle.line.specs.declared.Line.the-variants.{IllFormed}
 use Rattle.line.specs.Meaning.{lineMeaning}
 use Rattle.line.specs.Written.{lineText, Writable}
 use Rattle.line.specs.First.{illFormed, sized, firstLine}

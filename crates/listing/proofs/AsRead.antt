@@ -1,6 +1,6 @@
 -- What the lister prints is what reading answers: the number of a refusal, or a line for each reading, of the same class.
 -- Assumes nothing.
-use mathlib.Core.Path.{_≡_, refl, sym, ap, _∙_}
+use mathlib.Core.Path.{_≡_, refl}
 use mathlib.Core.Bool.{Bool, true, false, cond}
 use mathlib.Core.List.{List}
 use mathlib.Core.Option.{Option, none, some}
@@ -9,7 +9,7 @@ use native.Mathlib.Omega.{arith}
 use lib.Dec.{eqb, leb}
 use lib.ListN.{length}
 use Rattle.bits.specs.Frame.{frameBytes}
-use Rattle.books.specs.Book.{Placement, Message}
+use Rattle.books.specs.Book.{Message}
 use Rattle.framing.specs.declared.Reading.{Reading}
 use Rattle.framing.specs.declared.Reading.the-variants.{Read, NotEightBytes, WrongChecksum, TooLittleRoom}
 use Rattle.framing.specs.Messages.{messageOf}

@@ -1,23 +1,22 @@
 -- From the word back to the frame, and from each answer on the way to what the line prints. Assumes nothing.
 use mathlib.Core.Path.{_≡_, refl, sym, ap, _∙_, subst}
 use mathlib.Core.Bool.{Bool, true, false, cond}
-use mathlib.Core.List.{List, [], _∷_, _++_}
-use mathlib.Core.Option.{Option, none, some}
+use mathlib.Core.List.{List, _++_}
+use mathlib.Core.Option.{none, some}
 use Prim.Native.Nat.{ℕ, _-_, _^_, _≤_, _<_}
 use native.Mathlib.Omega.{arith}
-use lib.Dec.{eqb}
-use lib.ListN.{length, getD, drop, length-take}
+use lib.ListN.{length, drop, length-take}
 use borrow.Author.Tests.{eq-eqb, ne-eqb}
 use Rattle.bits.specs.Frame.{frameBytes}
-use Rattle.bits.specs.Word.{Fits, wordOf, bytesOf}
-use Rattle.bits.proofs.Weights.{Bytes, read-bytes, word-bytes}
+use Rattle.bits.specs.Word.{Fits, bytesOf}
+use Rattle.bits.proofs.Weights.{read-bytes, word-bytes}
 use Rattle.books.specs.Book.{Placement, Message}
 use Rattle.books.specs.Words.{placed, messagesOf}
 use Rattle.catalogue.specs.declared.Class.{Class}
 use Rattle.catalogue.specs.Find.{bitsOf}
 use Rattle.catalogue.specs.Class.{classOf}
 use Rattle.frame_lines.specs.declared.FrameLine.the-variants.{NotEightBytes}
-use Rattle.frame_lines.specs.Meaning.{Said, frame, illFormed, frameLineSays, refusal}
+use Rattle.frame_lines.specs.Meaning.{illFormed, frameLineSays, refusal}
 use Rattle.frame_lines.proofs.Behind.{SaysFrame, SaysFewer}
 use Rattle.frames.specs.Lookup.{Spans, Finds, part}
 use Rattle.frames.specs.declared.lookup.Found.{Found}
@@ -28,9 +27,8 @@ use Rattle.framing.specs.declared.Reading.the-variants.{UnknownIdentifier, Wron
 use Rattle.framing.specs.Messages.{messageOf, classIn}
 use Rattle.framing.specs.Reading.{readingNumber, checksumHolds}
 use Rattle.record.specs.Columns.{numbersOf, startsOf}
-use Rattle.record.specs.Limits.{signalLimit}
 use Rattle.signal_lines.specs.Printed.{signalLine, refusedLine, illFormedLine}
-use Rattle.listing.specs.Printout.{signalLines, messageLines, frameListing, printed, printout}
+use Rattle.listing.specs.Printout.{signalLines, messageLines, frameListing, printout}
 use Rattle.listing.specs.Working.{wordLines, messageText, Listable}
 
 -- ---- the word and the frame

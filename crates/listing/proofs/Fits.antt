@@ -1,13 +1,10 @@
 -- A printout at its place, or that it does not fit. Assumes nothing.
-use mathlib.Core.Path.{_≡_, refl, sym, ap, _∙_}
-use mathlib.Core.Bool.{cond}
-use mathlib.Core.List.{List, [], _∷_, _++_, append-assoc}
+use mathlib.Core.Path.{_≡_, ap, _∙_}
+use mathlib.Core.List.{List}
 use Prim.Native.Nat.{ℕ, _+_, _-_, _≤_, _<_}
-use native.Mathlib.Nat.{zero-add}
 use native.Mathlib.Omega.{arith}
-use lib.Dec.{leb}
 use lib.ListN.{length, take, drop}
-use lib.Seq.{sets, sets-eq, take-at, length-sets}
+use lib.Seq.{sets-eq, take-at}
 use borrow.Author.Tests.{le-leb, lt-leb}
 use Rattle.printing.specs.Put.{Put, PutWithin}
 use Rattle.listing.specs.declared.Fitted.{Fitted}

@@ -2,17 +2,17 @@
 -- Assumes nothing.
 use mathlib.Core.Path.{_≡_, refl, sym, ap, _∙_}
 use mathlib.Core.Bool.{Bool, true, false, cond}
-use mathlib.Core.List.{List, [], _∷_, _++_}
-use Prim.Native.Nat.{ℕ, suc, _+_, _-_, _≤_, _<_}
+use mathlib.Core.List.{List, _∷_, _++_}
+use Prim.Native.Nat.{ℕ, _+_, _-_, _≤_, _<_}
 use native.Mathlib.Nat.{zero-add}
 use native.Mathlib.Omega.{arith}
 use lib.Dec.{leb}
-use lib.ListN.{length, take, drop, length-append, length-drop, drop-of-length-le}
+use lib.ListN.{length, take, drop, length-append, length-drop}
 use lib.Seq.{sets, sets-eq, drop-drop, length-take-le}
 use borrow.Author.Tests.{leb-true, leb-false, le-leb, lt-leb}
 use Rattle.books.specs.Book.{Message}
 use Rattle.framing.specs.Messages.{written}
-use Rattle.parts.specs.Parts.{TextLine, ended, unended, lines, indexOf}
+use Rattle.parts.specs.Parts.{ended, lines, indexOf}
 use Rattle.parts.proofs.LineEnds.{lines-none, lines-more, lines-last}
 use Rattle.printing.specs.Put.{Put}
 use Rattle.printing.proofs.Puts.{sets-append, put-length}

@@ -1,8 +1,8 @@
 -- A listing fits its room, and leaves the room as long as it was. Assumes nothing.
-use mathlib.Core.Path.{_≡_, refl, sym, ap, _∙_}
+use mathlib.Core.Path.{_≡_, refl, ap, _∙_}
 use mathlib.Core.Bool.{Bool, true, false, cond}
-use mathlib.Core.List.{List, [], _∷_, _++_}
-use Prim.Native.Nat.{ℕ, _+_, _-_, _≤_}
+use mathlib.Core.List.{List, [], _∷_}
+use Prim.Native.Nat.{ℕ, _-_, _≤_}
 use native.Mathlib.Omega.{arith}
 use lib.Dec.{leb}
 use lib.ListN.{length, drop, length-append, length-drop}
@@ -14,9 +14,9 @@ use Rattle.parts.specs.Parts.{TextLine, ended, unended, lines}
 use Rattle.listing.specs.declared.Listed.{Listed}
 use Rattle.listing.specs.declared.Listed.the-variants.{NotABook}
 use Rattle.listing.specs.Printout.{printout}
-use Rattle.listing.specs.Listing.{Run, nothing, lineThen, run, ofRun, listing}
+use Rattle.listing.specs.Listing.{nothing, lineThen, run, ofRun, listing}
 
-pub fits-room : (ms : List Message) (room : ℕ) (ls : List TextLine) → length (run ms room ls .text) ≤ room
+fits-room : (ms : List Message) (room : ℕ) (ls : List TextLine) → length (run ms room ls .text) ≤ room
 unfolding run
 fits-room ms room [] = omega arith
 fits-room ms room (unended l ∷ ls) = omega arith

@@ -1,10 +1,9 @@
 -- The lines of a message's signals, one signal at a time: writing what is left gives the final list. Assumes nothing.
 use mathlib.Core.Path.{_≡_, refl, sym, ap, _∙_}
-use mathlib.Core.List.{List, [], _∷_, _++_}
+use mathlib.Core.List.{List, [], _++_}
 use Prim.Native.Nat.{ℕ, _+_, _*_, _≤_, _<_}
-use native.Mathlib.Nat.{add-zero}
 use native.Mathlib.Omega.{arith}
-use lib.ListN.{length, getD, drop, length-append}
+use lib.ListN.{length, getD, length-append}
 use lib.Seq.{sets}
 use Rattle.bits.specs.Word.{Fits, fieldOf}
 use Rattle.books.specs.Words.{placed}
@@ -13,7 +12,7 @@ use Rattle.catalogue.specs.Find.{bitsOf}
 use Rattle.catalogue.specs.Class.{classOf}
 use Rattle.messages.specs.Signals.{AllFit, classFrom}
 use Rattle.messages.proofs.Steps.{placementAt, rest, rest-more, rest-none, fits-at, fits-on}
-use Rattle.printing.specs.Put.{Put, PutWithin}
+use Rattle.printing.specs.Put.{PutWithin}
 use Rattle.printing.proofs.Puts.{sets-append, put-length}
 use Rattle.signal_lines.specs.Printed.{signalLine, lineRoom}
 use Rattle.listing.specs.Working.{wordLines, Roomy}

@@ -6,7 +6,7 @@ use Prim.Native.Nat.{ℕ, _+_, _-_, _*_, _≤_}
 use lib.Dec.{leb}
 use lib.ListN.{length}
 use lib.Seq.{sets}
-use Rattle.books.specs.Book.{Placement, Message}
+use Rattle.books.specs.Book.{Placement}
 use Rattle.books.specs.Words.{placed}
 use Rattle.messages.specs.Signals.{AllFit, classFrom, checkHolds}
 use Rattle.framing.specs.declared.Reading.the-variants.{WrongChecksum}

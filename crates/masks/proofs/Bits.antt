@@ -35,7 +35,7 @@ unfolding bit
 bit-zero zero = refl
 bit-zero (suc k) = bit-suc 0 k ∙ bit-zero k
 
-pub bit-one : (k j : ℕ) → bit (1 * 2 ^ k) j ≡ eqb j k
+bit-one : (k j : ℕ) → bit (1 * 2 ^ k) j ≡ eqb j k
 unfolding bit
 bit-one zero zero = refl
 bit-one zero (suc j) = bit-suc 1 j ∙ bit-zero j ∙ sym (eqb·suc-zero j)
@@ -50,7 +50,7 @@ bit-with m k j l =
 and-low : (a b : ℕ) → bitAnd a b % 2 ≡ min (a % 2) (b % 2)
 and-low a b = omega (arith, and-step a b)
 
-pub bit-and : (a b k : ℕ) → bit (bitAnd a b) k ≡ bit a k && bit b k
+bit-and : (a b k : ℕ) → bit (bitAnd a b) k ≡ bit a k && bit b k
 unfolding bit
 bit-and a b k = rw (and-shr, and-low) (go (a / 2 ^ k % 2) (b / 2 ^ k % 2) (omega arith) (omega arith))
   where

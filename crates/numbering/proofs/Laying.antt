@@ -22,7 +22,7 @@ empty zero x = refl
 empty (suc n) zero = refl
 empty (suc n) (suc x) = empty n x
 
-pub laid-start : (places : List ℕ) → Laid places (replicate slotCount 0) 0
+laid-start : (places : List ℕ) → Laid places (replicate slotCount 0) 0
 laid-start places = record {
   long = refl;
   low = λ x. omega (arith, empty slotCount x);

@@ -2,13 +2,12 @@
 use mathlib.Core.Path.{_≡_, refl, sym, ap, _∙_}
 use mathlib.Core.Bool.{Bool, true, false, cond}
 use mathlib.Core.List.{List, [], _∷_}
-use Prim.Native.Nat.{ℕ, zero, suc, _+_, _*_, _/_, _%_, _^_, _≤_, _<_}
+use Prim.Native.Nat.{ℕ, zero, suc, _+_, _/_, _%_, _^_, _≤_, _<_}
 use native.Mathlib.Nat.{pow-le-pow-right, lt-of-lt-of-le, div-eq-of-lt, le-div-iff-mul-le, div-lt-iff-lt-mul, one-le-pow, one-mul, pow-succ'}
 use native.Mathlib.Omega.{arith}
 use lib.Dec.{eqb, ltb}
 use lib.ListN.{length, getD}
-use borrow.Author.Tests.{eq-eqb, ne-eqb, eqb-true, eqb-false, lt-ltb, le-ltb, ltb-true, ltb-false}
-use Rattle.numerals.specs.declared.Number.{Number}
+use borrow.Author.Tests.{eq-eqb, ne-eqb, lt-ltb, le-ltb, ltb-true, ltb-false}
 use Rattle.numerals.specs.declared.Number.the-variants.{Is, Not}
 use Rattle.numerals.specs.Numeral.{numeralFrom, needlessZero, decimal}
 use Rattle.numerals.specs.Written.{digitByte, digitsOf, decimalWidth, decimalText}
@@ -21,28 +20,28 @@ pub record Wide (n k : ℕ) : Type 0 where
   pub above : 0 < k → 10 ^ k ≤ n
   pub width : decimalWidth n ≡ suc k
 
-pub wide-1 : (n : ℕ) → n < 10 → Wide n 0
+wide-1 : (n : ℕ) → n < 10 → Wide n 0
 unfolding decimalWidth
 wide-1 n h = record { few = omega arith; below = h; above = λ p. absurd (omega arith); width = simp (lt-ltb _ _ h) }
 
-pub wide-2 : (n : ℕ) → 10 ≤ n → n < 100 → Wide n 1
+wide-2 : (n : ℕ) → 10 ≤ n → n < 100 → Wide n 1
 unfolding decimalWidth
 wide-2 n l h = record { few = omega arith; below = h; above = λ p. l; width = simp (le-ltb _ _ l, lt-ltb _ _ h) }
 
-pub wide-3 : (n : ℕ) → 100 ≤ n → n < 1000 → Wide n 2
+wide-3 : (n : ℕ) → 100 ≤ n → n < 1000 → Wide n 2
 unfolding decimalWidth
 wide-3 n l h =
     let a : 10 ≤ n = omega arith in
     record { few = omega arith; below = h; above = λ p. l; width = simp (le-ltb _ _ a, le-ltb _ _ l, lt-ltb _ _ h) }
 
-pub wide-4 : (n : ℕ) → 1000 ≤ n → n < 10000 → Wide n 3
+wide-4 : (n : ℕ) → 1000 ≤ n → n < 10000 → Wide n 3
 unfolding decimalWidth
 wide-4 n l h =
     let a : 10 ≤ n = omega arith in
     let b : 100 ≤ n = omega arith in
     record { few = omega arith; below = h; above = λ p. l; width = simp (le-ltb _ _ a, le-ltb _ _ b, le-ltb _ _ l, lt-ltb _ _ h) }
 
-pub wide-5 : (n : ℕ) → 10000 ≤ n → n < 100000 → Wide n 4
+wide-5 : (n : ℕ) → 10000 ≤ n → n < 100000 → Wide n 4
 unfolding decimalWidth
 wide-5 n l h =
     let a : 10 ≤ n = omega arith in
@@ -55,7 +54,7 @@ pub record Some (n : ℕ) : Type 0 where
   pub k : ℕ
   pub wide : Wide n k
 
-pub some-width : (n : ℕ) → n < 100000 → Some n
+some-width : (n : ℕ) → n < 100000 → Some n
 some-width n h = go (ltb n 10) (ltb n 100) (ltb n 1000) (ltb n 10000) refl refl refl refl
   where
     go : (a b c d : Bool) → ltb n 10 ≡ a → ltb n 100 ≡ b → ltb n 1000 ≡ c → ltb n 10000 ≡ d → Some n

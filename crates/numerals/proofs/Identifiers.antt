@@ -1,16 +1,15 @@
 -- 8 hexadecimal digits and the numbers below 2^32 determine each other. Assumes nothing.
-use mathlib.Core.Path.{_≡_, refl, sym, ap, _∙_}
+use mathlib.Core.Path.{_≡_, refl}
 use mathlib.Core.Bool.{Bool, true, false, cond}
-use mathlib.Core.List.{List, [], _∷_}
-use Prim.Native.Nat.{ℕ, _+_, _*_, _^_, _≤_, _<_}
+use mathlib.Core.List.{List}
+use Prim.Native.Nat.{ℕ, _<_}
 use native.Mathlib.Omega.{arith}
 use lib.Dec.{eqb}
 use lib.ListN.{length}
 use borrow.Author.Tests.{eq-eqb, eqb-true}
-use Rattle.numerals.specs.declared.Number.{Number}
 use Rattle.numerals.specs.declared.Number.the-variants.{Is, Not}
 use Rattle.numerals.specs.Numeral.{numeralFrom, identifier}
-use Rattle.numerals.specs.Written.{digitsOf, identifierText}
+use Rattle.numerals.specs.Written.{identifierText}
 use Rattle.numerals.proofs.Digits.{length-digits, numeral-read, NumeralText, numeral-written}
 
 pub identifier-read : (n : ℕ) → n < 4294967296 → identifier (identifierText n) ≡ Is n

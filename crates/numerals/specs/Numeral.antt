@@ -1,7 +1,7 @@
 -- "Identifiers: exactly 8 digits 0-9 A-F. Other numbers: 1 to 5 decimal digits, no needless leading zero."
 -- Assumes nothing.
 use Prim.Native.Nat.{ℕ, _+_, _-_, _*_}
-use mathlib.Core.Bool.{Bool, true, false, cond}
+use mathlib.Core.Bool.{Bool, false, cond}
 use mathlib.Core.List.{List, [], _∷_}
 use lib.Dec.{eqb, ltb}
 use lib.ListN.{length, getD}

@@ -1,6 +1,6 @@
 -- "Lines end with a newline ..; fields are parted by one tab." A text in lines, and a line in fields. Assumes nothing.
 use Prim.Native.Nat.{ℕ, suc}
-use mathlib.Core.Bool.{Bool, true, false, cond}
+use mathlib.Core.Bool.{cond}
 use mathlib.Core.List.{List, [], _∷_}
 use lib.Dec.{eqb}
 

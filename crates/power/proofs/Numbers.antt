@@ -5,7 +5,7 @@ use Rattle.power.specs.declared.State.the-variants.{Off, Rising, Prechar
 use Rattle.power.specs.declared.Numbered.the-variants as N
 use Rattle.power.specs.States.{number, numbered}
 
-pub named-again : (s : State) → numbered (number s) ≡ N.State s
+named-again : (s : State) → numbered (number s) ≡ N.State s
 unfolding numbered
 named-again Off = refl
 named-again Rising = refl

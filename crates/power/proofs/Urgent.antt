@@ -20,7 +20,7 @@ module _ (seen : Observation) (apart : allOpen seen ≡ true) where
   not-closed : (between positive : ℕ) → shows c between positive seen ≡ false
   not-closed between positive = simp (eqb-true (seen .«main_negative») 1 (first _ _ _ apart))
 
-  pub next-is-off : urgent seen ≡ true → (state : State) → (state ≡ Fault → ⊥) → nextState state seen ≡ Off
+  next-is-off : urgent seen ≡ true → (state : State) → (state ≡ Fault → ⊥) → nextState state seen ≡ Off
   unfolding nextState picture
   next-is-off now Off h = simp apart
   next-is-off now Rising h = simp (not-closed, now, apart)

@@ -11,7 +11,7 @@ ghost use mathlib.Core.Bool.{cond, _&&_};
 ghost use Rattle.power.specs.Observed.{allOpen, urgent};
 ghost use Rattle.power.specs.Pictures.{picture};
 ghost use Rattle.power.specs.Rules.{steps, firstStep, fromFault, nextState};
-ghost use Rattle.power.specs.declared.State.the-variants.{Off, Rising, Precharge, Both, On, Falling, Fault};
+ghost use Rattle.power.specs.declared.State.the-variants.{Off, Rising, Precharge, Both, On, Falling};
 
 // Rules 3 to 5, from each state but fault.
 

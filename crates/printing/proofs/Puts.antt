@@ -16,9 +16,6 @@ sets-append l at (x ∷ a) b = ap (λ (n : ℕ). sets (sets (set l at x) (suc at
 pub put-length : {old : List ℕ} {at : ℕ} {text new : List ℕ} {next : ℕ} → Put old at text new next → length new ≡ length old
 put-length {old} {at} {text} p = ap length (p .now-there) ∙ length-sets old at text
 
-pub put-nothing : (old : List ℕ) (at : ℕ) → Put old at [] old at
-put-nothing old at = record { now-there = refl; now-at = sym (add-zero at) }
-
 -- one text after another is both
 pub and-then : {old : List ℕ} {at : ℕ} {a mid : List ℕ} {m : ℕ} {b new : List ℕ} {next : ℕ} → Put old at a mid m → Put mid m b new next → Put old at (a ++ b) new next
 and-then {old} {at} {a} {mid} {m} {b} p q =

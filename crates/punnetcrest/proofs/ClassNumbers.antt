@@ -1,13 +1,12 @@
 -- From the class to what the call returns and leaves. Assumes nothing.
 use Prim.Native.Nat.{ℕ}
-use mathlib.Core.Path.{_≡_, sym, ap, _∙_}
-use lib.Dec.{eqb}
+use mathlib.Core.Path.{_≡_}
 use lib.IntN.{ℤ}
 use borrow.Author.Tests.{eq-eqb, ne-eqb}
 use Rattle.catalogue.specs.declared.Class.{Class}
 use Rattle.catalogue.specs.Class.{classOf, refusalOf}
 use Rattle.framing.specs.Reading.{classCode, thousandthsOf}
-use Rattle.punnetcrest.specs.Classing.{inNumbers, classed}
+use Rattle.punnetcrest.specs.Classing.{classed}
 
 module _ (number raw code : ℕ) (reading : ℤ) {class : Class} (is : class ≡ classOf number (record { 0 = raw })) where
   pub class-refused : (refusalOf class ≡ 0 → ⊥) → (refusalOf class, (code, reading)) ≡ classed number raw code reading

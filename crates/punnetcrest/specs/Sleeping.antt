@@ -1,6 +1,6 @@
 -- The sleep watch in numbers: what a call returns, with *last_wake and *asleep as it leaves them. Assumes nothing.
 use Prim.Native.Nat.{ℕ}
-use mathlib.Core.Bool.{Bool, cond, not}
+use mathlib.Core.Bool.{cond, not}
 use lib.Dec.{eqb, leb}
 use Rattle.sleep.specs.declared.Answer.the-variants.{Taken}
 use Rattle.sleep.specs.declared.Updated.{Updated}

@@ -1,5 +1,4 @@
 // The spread of a place, by the routes of a lent book.
-ghost use mathlib.Core.Path.{_≡_};
 ghost use Rattle.punnetcrest.specs.Spreading.{Spread};
 use record::BOOK_WORDS;
 

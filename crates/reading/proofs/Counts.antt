@@ -1,11 +1,11 @@
 -- What lines that pass are counted to: the book's counts are counts of lines, and each route has the number of its R line. Assumes nothing.
-use mathlib.Core.Path.{_≡_, refl, sym, ap, _∙_, subst}
-use Prim.Native.Nat.{ℕ, zero, suc, _+_, _≤_, _<_}
+use mathlib.Core.Path.{_≡_, sym, ap, _∙_, subst}
+use Prim.Native.Nat.{ℕ, suc, _+_, _≤_, _<_}
 use native.Mathlib.Omega.{arith}
 use native.Mathlib.Nat.{add-suc}
-use mathlib.Core.Bool.{Bool, false, _||_}
+use mathlib.Core.Bool.{_||_}
 use mathlib.Core.List.{List, [], _∷_, _++_, append-assoc, append-nil}
-use lib.ListN.{length, length-append}
+use lib.ListN.{length}
 use lib.Dec.{leb}
 use borrow.Author.Tests.{leb-false}
 use Rattle.line.specs.declared.Line.{Line}
@@ -16,7 +16,7 @@ use Rattle.books.specs.Book.{Book, Message, Placement, Route, noBook, fresh, in
 use Rattle.books.specs.Lines.{routeRefusal, signalRefusal, busLimit, routeLimit}
 use Rattle.books.proofs.Tests.{not-refused, both-false}
 use Rattle.books.proofs.Ends.{in-last, Last, last, count-last, length-more}
-use Rattle.reading.specs.Reading.{Outcome, passed, refused, onward, refusalOf, withLine, numberedWith, readFrom, meanings, linesRead}
+use Rattle.reading.specs.Reading.{passed, refusalOf, withLine, numberedWith, readFrom, meanings, linesRead}
 use Rattle.reading.specs.Written.{Places, no-route, route}
 use Rattle.reading.specs.Taken.{mLines, sLines, rLinesFrom}
 use Rattle.reading.proofs.Passing.{went, same-book}
@@ -115,7 +115,7 @@ routed-with b (line.Signal n s) h e = h
 routed-with b (line.Route x i y j) h e = routed-route (b .routes) x i y j h e
 routed-with b line.IllFormed h e = h
 
-pub routed-on : (n : ℕ) (b : Book) (at : List ℕ) (ls : List Line) {c : Book} {to : List ℕ} → Routed (b .routes) → readFrom n b at ls ≡ passed c to → Routed (c .routes)
+routed-on : (n : ℕ) (b : Book) (at : List ℕ) (ls : List Line) {c : Book} {to : List ℕ} → Routed (b .routes) → readFrom n b at ls ≡ passed c to → Routed (c .routes)
 unfolding readFrom
 routed-on n b at [] h e = subst (λ (x : Book). Routed (x .routes)) (same-book e) h
 routed-on n b at (l ∷ ls) h e =

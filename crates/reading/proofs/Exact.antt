@@ -1,19 +1,16 @@
 -- Refusal 12, exactly: the tables of a lent book are those of a taken book exactly when some text is taken with them. Assumes nothing.
-use mathlib.Core.Path.{_≡_, refl}
-use Prim.Native.Nat.{ℕ, _≤_, _<_}
+use mathlib.Core.Path.{_≡_}
+use Prim.Native.Nat.{ℕ, _<_}
 use native.Mathlib.Omega.{arith}
 use mathlib.Core.Bool.{true}
 use mathlib.Core.List.{List, [], _∷_}
-use lib.ListN.{length}
 use Rattle.chains.specs.Chain.{Chain}
-use Rattle.books.specs.Book.{Book, Message, Route}
-use Rattle.books.specs.Lines.{routeLimit}
+use Rattle.books.specs.Book.{Book, Route}
 use Rattle.books.specs.Built.{Built, none}
-use Rattle.books.specs.Words.{messagesTaken, messagesOf, Stands}
+use Rattle.books.specs.Words.{messagesTaken, messagesOf}
 use Rattle.books.proofs.Building.{good-built, built-good}
 use Rattle.books.proofs.Columns.{taken-stands, stands-taken}
-use Rattle.reading.specs.Reading.{passed, linesRead}
-use Rattle.reading.specs.Written.{bookText, Places, no-route}
+use Rattle.reading.specs.Written.{bookText, no-route}
 use Rattle.reading.specs.Taken.{Sound, TakenWith, RoutesStand, MessagesFrom, RoutesFrom}
 use Rattle.reading.proofs.Passing.{read-built}
 use Rattle.reading.proofs.Texts.{text-read, text-short}
@@ -32,7 +29,7 @@ no-chain : (p q : ℕ) (c : List ℕ) → Chain [] [] p c q → ⊥
 no-chain p q [] h = h
 no-chain p q (i ∷ c) h = let z : i < 0 = h .0 in omega arith
 
-no-routes-sound : Sound []
+pub no-routes-sound : Sound []
 no-routes-sound = record { loop-free = λ p c h. no-chain p p c h; single = λ p q c d h. no-chain p q c (h .one) }
 
 pub from-messages : (w : List ℕ) → messagesTaken w ≡ true → MessagesFrom w

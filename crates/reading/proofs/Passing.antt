@@ -7,9 +7,9 @@ use mathlib.Core.List.{List, [], _∷_, _++_}
 use lib.ListN.{length}
 use Rattle.line.specs.declared.Line.{Line}
 use Rattle.line.specs.declared.Line.the-variants as line
-use Rattle.books.specs.Book.{Book, Message, Placement, noBook}
+use Rattle.books.specs.Book.{Book, Message, noBook}
 use Rattle.books.specs.Built.{Built, none, message, signal}
-use Rattle.reading.specs.Reading.{Outcome, passed, refused, onward, refusalOf, withLine, numberedWith, readFrom, meanings, linesRead}
+use Rattle.reading.specs.Reading.{Outcome, passed, onward, refusalOf, withLine, numberedWith, readFrom, meanings, linesRead}
 
 -- lines that pass: the first is not refused, and the others pass
 pub record Went (why : ℕ) (later : Outcome) (c : Book) (at : List ℕ) : Type 0 where
@@ -37,7 +37,7 @@ built-with b (line.Route x i y j) h e = h
 built-with b line.IllFormed h e = h
 
 -- the messages of a book that lines give are built line by line
-pub built-on : (n : ℕ) (b : Book) (at : List ℕ) (ls : List Line) {c : Book} {to : List ℕ} → Built (b .messages) → readFrom n b at ls ≡ passed c to → Built (c .messages)
+built-on : (n : ℕ) (b : Book) (at : List ℕ) (ls : List Line) {c : Book} {to : List ℕ} → Built (b .messages) → readFrom n b at ls ≡ passed c to → Built (c .messages)
 unfolding readFrom
 built-on n b at [] h e = subst (λ (x : Book). Built (x .messages)) (same-book e) h
 built-on n b at (l ∷ ls) h e =

@@ -1,19 +1,18 @@
 -- Texts of books: a book that lines build has a text, and reading that text gives the book. Assumes nothing.
 use mathlib.Core.Path.{_≡_, refl, sym, ap, _∙_, subst}
-use Prim.Native.Nat.{ℕ, zero, suc, _+_, _*_, _≤_, _<_, _/_, _%_}
+use Prim.Native.Nat.{ℕ, suc, _+_, _*_, _≤_, _<_}
 use native.Mathlib.Omega.{arith}
-use mathlib.Core.List.{List, [], _∷_, _++_, map, append-nil}
-use mathlib.Core.Bool.{Bool, true, false}
+use mathlib.Core.List.{List, [], _∷_, _++_, map}
 use lib.ListN.{length, length-append, length-map}
 use lib.Dec.{leb, eqb}
 use borrow.Author.Tests.{leb-false, eqb-false}
 use Rattle.numerals.specs.Written.{identifierText, decimalText, decimalWidth, decimalLimit}
 use Rattle.numerals.proofs.Digits.{length-digits}
 use Rattle.numerals.proofs.Decimals.{width-few}
-use Rattle.parts.specs.Parts.{lines, TextLine, ended, unended, tab, newline}
-use Rattle.parts.specs.Joined.{join, textOfLines, Free, Frees, no-part, part}
+use Rattle.parts.specs.Parts.{ended, tab, newline}
+use Rattle.parts.specs.Joined.{join, textOfLines, Frees, no-part, part}
 use Rattle.parts.proofs.LineEnds.{lines-written}
-use Rattle.line.specs.Meaning.{meaningOf, lineMeaning}
+use Rattle.line.specs.Meaning.{meaningOf}
 use Rattle.line.specs.Written.{lineText, fieldsOf, Writable}
 use Rattle.line.proofs.ReadBack.{text-free, read-back}
 use Rattle.line.specs.declared.Line.{Line}
@@ -22,13 +21,13 @@ use Rattle.record.specs.Limits.{identifierLimit, textLimit}
 use Rattle.record.specs.Place.{key-place}
 use Rattle.catalogue.specs.Find.{bitsOf}
 use Rattle.books.proofs.Known.{known-small}
-use Rattle.books.specs.Book.{Book, Message, Placement, Route, noBook, fresh, allPlacements}
-use Rattle.books.specs.Lines.{messageRefusal, signalRefusal, unknownOrOver, isIn, messageLimit, signalLimit, routeLimit, startLimit}
+use Rattle.books.specs.Book.{Book, Message, Placement, Route, noBook, allPlacements}
+use Rattle.books.specs.Lines.{messageRefusal, signalRefusal, unknownOrOver, routeLimit, startLimit}
 use Rattle.books.specs.Built.{Built, none, message, signal}
 use Rattle.books.proofs.Tests.{not-refused, both-false}
 use Rattle.books.proofs.Building.{built-good}
-use Rattle.books.proofs.Columns.{Within, within}
-use Rattle.reading.specs.Reading.{Outcome, passed, readFrom, meanings, linesRead}
+use Rattle.books.proofs.Columns.{within}
+use Rattle.reading.specs.Reading.{passed, readFrom, meanings, linesRead}
 use Rattle.reading.specs.Written.{signalLine, routeLine, messageLines, bookLines, bookText, Places, no-route, route, countUp}
 use Rattle.reading.proofs.Writes.{lines-message, lines-signal, book-read}
 
@@ -51,7 +50,7 @@ means nothing = refl
 means (also {l} {ls} w a) = let e = read-back l w in let f = means a in cc
 
 -- lines, written and read back
-pub meanings-written : (ls : List Line) → AllWritable ls → meanings (textOfLines (map lineText ls)) ≡ ls
+meanings-written : (ls : List Line) → AllWritable ls → meanings (textOfLines (map lineText ls)) ≡ ls
 unfolding meanings
 meanings-written ls a = ap (map meaningOf) (lines-written (map lineText ls) (texts-free ls)) ∙ means a
 
@@ -80,7 +79,7 @@ routes-writable (route {r} f t p) =
     let b = key-place (r .to) t in
     also {l = routeLine r} ((omega arith, omega arith), (omega arith, omega arith)) (routes-writable p)
 
-pub lines-writable : (b : Book) → Built (b .messages) → Places (b .routes) → AllWritable (bookLines b)
+lines-writable : (b : Book) → Built (b .messages) → Places (b .routes) → AllWritable (bookLines b)
 unfolding bookLines
 lines-writable b h p = all-append (messages-writable h) (routes-writable p)
 

@@ -1,9 +1,9 @@
 -- The lines of a book, read, give the book. Assumes nothing.
 use mathlib.Core.Path.{_≡_, refl, sym, ap, _∙_, subst}
-use Prim.Native.Nat.{ℕ, zero, suc, _+_, _≤_, _<_, _/_, _%_}
+use Prim.Native.Nat.{ℕ, suc, _+_, _≤_, _<_, _/_, _%_}
 use native.Mathlib.Omega.{arith}
 use mathlib.Core.List.{List, [], _∷_, _++_, map, append-assoc, append-nil}
-use lib.ListN.{length, length-append, length-map}
+use lib.ListN.{length, length-append}
 use Rattle.line.specs.declared.Line.{Line}
 use Rattle.line.specs.declared.Line.the-variants as line
 use Rattle.record.specs.Limits.{identifierLimit}
@@ -14,8 +14,8 @@ use Rattle.books.specs.Lines.{signalRefusal, routeRefusal, unknownOrOver, route
 use Rattle.books.proofs.Tests.{not-refused, no-refusal, nor}
 use Rattle.books.specs.Built.{Built, none, message, signal}
 use Rattle.books.proofs.Ends.{map-append, in-last, Last, last}
-use Rattle.reading.specs.Reading.{Outcome, passed, refused, onward, refusalOf, withLine, numberedWith, readFrom}
-use Rattle.reading.specs.Written.{signalLine, routeLine, messageLines, bookLines, Places, no-route, route, countUp}
+use Rattle.reading.specs.Reading.{passed, refusalOf, withLine, numberedWith, readFrom}
+use Rattle.reading.specs.Written.{signalLine, routeLine, messageLines, bookLines, Places, route, countUp}
 use Rattle.reading.proofs.Passing.{goes-on, read-append}
 
 lines-append : (ms ns : List Message) → messageLines (ms ++ ns) ≡ messageLines ms ++ messageLines ns
@@ -58,7 +58,7 @@ abbrev onlyMessages : List Message → Book
 onlyMessages ms = record { messages = ms; routes = [] }
 
 -- the lines of messages that lines build
-pub messages-read : {ms : List Message} → Built ms → readFrom 1 noBook [] (messageLines ms) ≡ passed (onlyMessages ms) []
+messages-read : {ms : List Message} → Built ms → readFrom 1 noBook [] (messageLines ms) ≡ passed (onlyMessages ms) []
 unfolding messageLines readFrom refusalOf withLine numberedWith
 messages-read none = refl
 messages-read (message {ms} i b e) =
@@ -88,7 +88,7 @@ route-back r f t =
 abbrev withRoutes : List Message → List Route → Book
 withRoutes ms rs = record { messages = ms; routes = rs }
 
-pub routes-read : (n : ℕ) (ms : List Message) (before : List Route) (at : List ℕ) (rs : List Route) → Places rs → length before + length rs ≤ routeLimit
+routes-read : (n : ℕ) (ms : List Message) (before : List Route) (at : List ℕ) (rs : List Route) → Places rs → length before + length rs ≤ routeLimit
     → readFrom n (withRoutes ms before) at (map routeLine rs) ≡ passed (withRoutes ms (before ++ rs)) (at ++ countUp n (length rs))
 unfolding readFrom refusalOf withLine numberedWith countUp
 routes-read n ms before at [] p h = let a = append-nil before in let b = append-nil at in (cc)

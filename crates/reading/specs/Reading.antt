@@ -6,7 +6,7 @@ use Rattle.parts.specs.Parts.{lines}
 use Rattle.line.specs.Meaning.{meaningOf}
 use Rattle.line.specs.declared.Line.{Line}
 use Rattle.line.specs.declared.Line.the-variants as line
-use Rattle.books.specs.Book.{Book, Placement, Route, noBook, fresh, inLast}
+use Rattle.books.specs.Book.{Book, Route, noBook, fresh, inLast}
 use Rattle.books.specs.Lines.{messageRefusal, signalRefusal, routeRefusal}
 
 -- why a line is refused after the lines that gave the book: 2 for its form, else the lowest of 3 to 9; 0 where it is taken

@@ -1,11 +1,10 @@
 -- A printed line, field by field. Assumes nothing.
-use mathlib.Core.Path.{_≡_, refl, sym, ap, _∙_, subst⁻¹}
+use mathlib.Core.Path.{_≡_, refl, subst⁻¹}
 use mathlib.Core.List.{List, [], _∷_, _++_, append-assoc}
 use Prim.Native.Nat.{ℕ, _+_}
 use native.Mathlib.Omega.{arith}
-use lib.ListN.{length}
 use lib.Seq.{sets}
-use Rattle.numerals.specs.Written.{identifierText, digitsOf}
+use Rattle.numerals.specs.Written.{identifierText}
 use Rattle.numerals.proofs.Digits.{length-digits}
 use Rattle.parts.specs.Parts.{tab, newline}
 use Rattle.parts.specs.Joined.{join}

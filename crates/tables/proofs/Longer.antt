@@ -7,7 +7,7 @@ use native.Mathlib.Omega.{arith}
 use lib.ListN.{length, length-append}
 use Rattle.books.specs.Book.{Placement, Message, identifiers, allPlacements, fresh, withPlacement}
 use Rattle.books.specs.Words.{endsAfter}
-use Rattle.books.proofs.Ends.{map-append, all-append, last}
+use Rattle.books.proofs.Ends.{map-append, all-append}
 
 all-one : (m : Message) → allPlacements (m ∷ []) ≡ m .placements
 unfolding allPlacements
@@ -28,9 +28,6 @@ ends-last n (x ∷ ms) m =
 -- ---- a message more
 
 module _ (ms : List Message) (i : ℕ) where
-  pub identifiers-more : identifiers (ms ++ (fresh i ∷ [])) ≡ identifiers ms ++ (i ∷ [])
-  identifiers-more = map-append (λ (m : Message). m .identifier) ms (fresh i ∷ [])
-
   pub placements-stay : allPlacements (ms ++ (fresh i ∷ [])) ≡ allPlacements ms
   placements-stay = all-last ms (fresh i) ∙ append-nil (allPlacements ms)
 

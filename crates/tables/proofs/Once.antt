@@ -33,7 +33,7 @@ answer-back added.BitsMeet = refl
 answer-back added.Full = refl
 
 -- no two answers have the same number
-pub answers-apart : (r r′ : Added) → refusalOf r ≡ refusalOf r′ → r ≡ r′
+answers-apart : (r r′ : Added) → refusalOf r ≡ refusalOf r′ → r ≡ r′
 answers-apart r r′ e = sym (answer-back r) ∙ ap answerOf e ∙ answer-back r′
 
 pub judged-once : (refusal : ℕ) (old new : Book) (r r′ : Added) (w w′ : List ℕ) → Judged refusal old new r w → Judged refusal old new r′ w′ → (r ≡ r′) × (w ≡ w′)

@@ -19,14 +19,14 @@ use Rattle.tables.specs.Testing.{parted}
 
 -- ---- parts of two columns side by side
 
-pub placed-take : (n : ℕ) (ns ss : List ℕ) → placed (take n ns) (take n ss) ≡ take n (placed ns ss)
+placed-take : (n : ℕ) (ns ss : List ℕ) → placed (take n ns) (take n ss) ≡ take n (placed ns ss)
 unfolding placed
 placed-take zero ns ss = refl
 placed-take (suc n) [] ss = refl
 placed-take (suc n) (x ∷ ns) [] = refl
 placed-take (suc n) (x ∷ ns) (y ∷ ss) = ap (_∷_ (record { number = x; start = y })) (placed-take n ns ss)
 
-pub placed-drop : (n : ℕ) (ns ss : List ℕ) → placed (drop n ns) (drop n ss) ≡ drop n (placed ns ss)
+placed-drop : (n : ℕ) (ns ss : List ℕ) → placed (drop n ns) (drop n ss) ≡ drop n (placed ns ss)
 unfolding placed
 placed-drop zero ns ss = refl
 placed-drop (suc n) [] ss = refl

@@ -17,7 +17,7 @@ use Rattle.tables.specs.Adding.{Within, withMessage, withSignal, withRou
 use Rattle.tables.proofs.Longer.{placements-stay, placements-more}
 
 -- ---- what a line that is taken tells
-pub message-room : (ms : List Message) (i : ℕ) → messageRefusal ms i ≡ 0 → length ms < messageLimit
+message-room : (ms : List Message) (i : ℕ) → messageRefusal ms i ≡ 0 → length ms < messageLimit
 unfolding messageRefusal
 message-room ms i e =
     let a = not-refused (leb identifierLimit i) 2 _ e in
@@ -42,7 +42,7 @@ signal-room ms p e =
     let n = eqb-false (length ms) 0 (b .0) in
     record { some = pos-of-ne-zero n; alone = ap not (nor (unknownOrOver p) (misplaced p) (a .0) (d .0)); room = leb-false _ _ (g .0) }
 
-pub route-room : (rs : List Route) (a i b j : ℕ) → routeRefusal rs a i b j ≡ 0 → length rs < routeLimit
+route-room : (rs : List Route) (a i b j : ℕ) → routeRefusal rs a i b j ≡ 0 → length rs < routeLimit
 unfolding routeRefusal
 route-room rs a i b j e =
     let f = not-refused ((leb busLimit a || leb identifierLimit i) || (leb busLimit b || leb identifierLimit j)) 2 _ e in

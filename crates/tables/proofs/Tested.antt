@@ -141,7 +141,7 @@ module _ (w : List ℕ) (l : Long w) (c : Checked w) where
       column-zero signalLimit (signalCountOf w) (startsOf w) (l .starts) (c .room) (b .1) ∙ ap (column signalLimit) (sym (ap starts shows-all ∙ placed-starts ns ss starts-few)) in
       record { messages = count-messages; signals = count-signals; columns = cc (columns-whole w) }
 
-  pub checked-taken : messagesTaken w ≡ true
+  checked-taken : messagesTaken w ≡ true
   unfolding good
   checked-taken =
       stands-taken w (messagesOf w) standing
@@ -170,7 +170,7 @@ module _ (w : List ℕ) (t : messagesTaken w ≡ true) where
   ids-are : length (identifiers (messagesOf w)) ≡ length (messagesOf w)
   ids-are = length-map (messagesOf w) (λ (m : Message). m .identifier)
 
-  pub taken-checked : Checked w
+  taken-checked : Checked w
   taken-checked =
       let ids-in = ids-stand w (messagesOf w) few′ room′ stood in
       let ends-in = ends-stand w (messagesOf w) few′ room′ stood in
@@ -205,7 +205,7 @@ module _ (w : List ℕ) (t : messagesTaken w ≡ true) where
 -- ---- what the test answers
 
 -- a part that fails
-pub fails : (w : List ℕ) → (Checked w → ⊥) → false ≡ messagesTaken w
+fails : (w : List ℕ) → (Checked w → ⊥) → false ≡ messagesTaken w
 fails w f = go (messagesTaken w) refl
   where
     go : (t : Bool) → messagesTaken w ≡ t → false ≡ messagesTaken w

@@ -1,5 +1,5 @@
 -- The loop that looks for a route's line: the answer for the rest is the answer for the whole. Assumes nothing.
-use mathlib.Core.Path.{_≡_, refl, sym, ap, _∙_}
+use mathlib.Core.Path.{_≡_, refl, sym, _∙_}
 use Prim.Native.Nat.{ℕ, zero, suc, _+_, _-_, _≤_, _<_}
 use native.Mathlib.Numerals.{add-one}
 use native.Mathlib.Omega.{arith}
@@ -12,7 +12,7 @@ use Rattle.line.specs.declared.First.{First}
 use Rattle.line.specs.First.{firstLine}
 use Rattle.line.proofs.Firsts as firsts
 use Rattle.books.specs.Book.{Book}
-use Rattle.reading.specs.Reading.{Outcome, passed, onward, refusalOf, withLine, numberedWith, readFrom, meanings, linesRead}
+use Rattle.reading.specs.Reading.{passed, refusalOf, withLine, numberedWith, readFrom, meanings}
 use Rattle.reading.specs.Taken.{rLinesFrom}
 use Rattle.reading.proofs.Passing.{went}
 use Rattle.taking.specs.Taking.{isRoute, Well, none, more}

@@ -44,7 +44,7 @@ module _ (fs ts gs us : List ℕ) (f : ℕ → ℕ) (r : Renames fs ts gs us f) 
   single-back single p q c d two = single (f p) (f q) c d (doubling-on p q c d two)
 
 -- tables that give each other their places
-pub judged-renamed : (fs ts gs us : List ℕ) (f g : ℕ → ℕ) → Renames fs ts gs us f → Renames gs us fs ts g → (v : Verdict) → Judged gs us v → Judged fs ts v
+judged-renamed : (fs ts gs us : List ℕ) (f g : ℕ → ℕ) → Renames fs ts gs us f → Renames gs us fs ts g → (v : Verdict) → Judged gs us v → Judged fs ts v
 judged-renamed fs ts gs us f g r s (verdict.Loop i) (a, low) = (closed-on gs us fs ts g s i a, λ k l b. low k l (closed-on fs ts gs us f r k b))
 judged-renamed fs ts gs us f g r s (verdict.Doubling i) (free, (a, low)) =
     (free-back fs ts gs us f r free, (begins-on gs us fs ts g s i a, λ k l b. low k l (begins-on fs ts gs us f r k b)))

@@ -7,7 +7,7 @@ use Rattle.rows.specs.Rows.{rows}
 use Rattle.catalogue.specs.Find.{rowOf}
 use Rattle.catalogue.specs.Class.{classOf, between}
 use Rattle.power.specs.Observed.{prechargeComplete}
-use Rattle.worked.specs.Table.{Question, count, checksum, precharge, Answer, value, invalid, absent, outside, check, complete, answer, Worked, asks, identifier}
+use Rattle.worked.specs.Table.{count, checksum, precharge, value, invalid, absent, outside, check, complete, answer, Worked, asks, identifier}
 
 pub worked : List Worked
 worked =

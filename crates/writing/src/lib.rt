@@ -1,7 +1,7 @@
 // The numbers of a route book as they are written, into a lent slice at a place: an identifier in 8 digits 0-9 A-F, another number
 // in 1 to 5 decimal digits. Both ask for room, write just those bytes, and say where the next byte goes.
 ghost use mathlib.Core.Path.{_≡_};
-ghost use Prim.Native.Nat.{_+_, _≤_, _<_, _^_};
+ghost use Prim.Native.Nat.{_+_, _≤_, _<_};
 ghost use lib.ListN.{length};
 ghost use lib.Seq.{sets};
 ghost use Rattle.numerals.specs.Written.{digitByte, digitsOf, identifierText, decimalWidth, decimalText};
