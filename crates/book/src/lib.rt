@@ -4,10 +4,10 @@
 use answers::Answer;
 use answers::Refusal;
 use columns::part;
-use columns::wide;
 use parts::part_from;
 use record::BOOK_WORDS;
 use record::TEXT_LIMIT;
+use record::wide;
 use taking::Lines;
 use taking::route_line;
 use taking::take_lines;

@@ -7,13 +7,6 @@ ghost use Rattle.books.specs.Lines.{isIn};
 ghost use Rattle.columns.specs.Identifiers.{distinctAfter};
 use record::IDENTIFIER_LIMIT;
 
-// A count or an end as the size that it is.
-pub fn wide(count: u32) -> usize
-    ensures { λ r. ⌜ r ≡ count ⌝ }
-{
-    count as usize
-}
-
 // The first `count` entries.
 pub fn first(column: &[u32], count: usize) -> &[u32]
     requires { ⌜ count ≤ length (now column) ⌝ }

@@ -7,17 +7,12 @@ ghost use lib.ListN.{length, getD};
 ghost use Rattle.books.specs.Words.{messagesTaken};
 ghost use Rattle.frames.specs.Lookup.{firstAt, Finds};
 use record::BOOK_WORDS;
+use record::wide;
 
 // What looking for a message finds: its signals stand in the columns from the first place to before the second.
 pub enum Found {
     Signals(usize, usize),
     Nothing,
-}
-
-fn wide(x: u32) -> usize
-    ensures { λ r. ⌜ r ≡ x ⌝ }
-{
-    x as usize
 }
 
 // The place of an identifier among the identifiers, and their count where it is not there.

@@ -55,6 +55,13 @@ pub const TOS: usize = 707;
 
 pub const TOS_END: usize = 771;
 
+// A count or an end as the size that it is.
+pub fn wide(word: u32) -> usize
+    ensures { λ r. ⌜ r ≡ word ⌝ }
+{
+    word as usize
+}
+
 // How many messages the words say there are, whatever it is; as the next two.
 pub fn message_count(book: &[u32; BOOK_WORDS]) -> u32
     ensures { λ r. ⌜ r ≡ messageCountOf (now (book .entry)) ⌝ }

@@ -15,6 +15,7 @@ use record::BOOK_WORDS;
 use record::BUSES;
 use record::IDENTIFIER_LIMIT;
 use record::ROUTES;
+use record::wide;
 use zeros::zero_past;
 
 // What came of a call for a spread.
@@ -27,12 +28,6 @@ pub enum Sent {
     NoSuchPlace,
     // the room has fewer entries than the spread
     NoRoom,
-}
-
-fn wide(x: u32) -> usize
-    ensures { λ r. ⌜ r ≡ x ⌝ }
-{
-    x as usize
 }
 
 // Copies the first n entries.

@@ -10,13 +10,13 @@ use crate::judging::over_limit;
 use crate::storing::put_message;
 use crate::storing::put_route;
 use crate::storing::put_signal;
-use columns::wide;
 use placing::Filled;
 use placing::filled_with;
 use record::BOOK_WORDS;
 use record::IDENTIFIER_LIMIT;
 use record::MESSAGES;
 use record::ROUTES;
+use record::wide;
 
 // An `M` line.
 pub fn add_message(book: &mut [u32; BOOK_WORDS], identifier: u32) -> Added

@@ -11,7 +11,6 @@ ghost use Rattle.books.specs.Lines.{isIn, signalRefusal, busLimit, identifierLi
 ghost use Rattle.record.specs.Columns.{idsOf, endsOf};
 ghost use Rattle.tables.specs.Adding.{OfKept, Kept, Earlier, refusalOf, placement, afterRefusal, lastBegin};
 use crate::Added;
-use columns::wide;
 use placing::Filled;
 use placing::is_misplaced;
 use placing::is_repeated;
@@ -21,6 +20,7 @@ use record::BUSES;
 use record::IDENTIFIER_LIMIT;
 use record::SIGNALS;
 use record::START_LIMIT;
+use record::wide;
 
 // Whether a place has a bus or an identifier over the limit.
 pub fn over_limit(bus: u32, identifier: u32) -> bool

@@ -4,7 +4,6 @@ ghost use Prim.Native.Nat.{_+_, _-_, _<_, _≤_};
 ghost use lib.ListN.{set};
 ghost use Rattle.books.specs.Lines.{messageLimit, signalLimit, routeLimit};
 ghost use Rattle.record.specs.Columns.{messageCountAt, signalCountAt, routeCountAt, idsAt, endsAt, numbersAt, startsAt, fromsAt, tosAt};
-use columns::wide;
 use record::BOOK_WORDS;
 use record::ENDS;
 use record::FROMS;
@@ -15,6 +14,7 @@ use record::ROUTE_COUNT;
 use record::SIGNAL_COUNT;
 use record::STARTS;
 use record::TOS;
+use record::wide;
 
 // A message after `count` others. It has no signals yet, so it ends where they end.
 pub fn put_message(book: &mut [u32; BOOK_WORDS], count: u32, identifier: u32, end: u32)

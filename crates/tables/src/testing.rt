@@ -6,10 +6,10 @@ ghost use lib.ListN.{length, drop};
 ghost use Rattle.books.specs.Words.{placed, messagesTaken};
 ghost use Rattle.zeros.specs.Zeros.{zeros};
 ghost use Rattle.tables.specs.Testing.{parted};
-use columns::wide;
 use record::BOOK_WORDS;
 use record::MESSAGES;
 use record::SIGNALS;
+use record::wide;
 use zeros::zero_past;
 
 // Whether the entries past a count are 0 in two columns in step.

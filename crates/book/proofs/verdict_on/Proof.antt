@@ -7,7 +7,7 @@ use Rattle.book.proofs.verdict_on.Statement.{statement}
 use Rattle.book.proofs.verdict_on.Tie as tie
 use Rattle.book.proofs.verdict_on.Reads as reads
 use Rattle.book.proofs.verdict_on.Lts as lts
-use Rattle.columns.proofs.wide.Reads as wide-reads
+use Rattle.record.proofs.wide.Reads as wide-reads
 use Rattle.columns.proofs.part.Reads as part-reads
 use Rattle.record.proofs.froms.Reads as froms-reads
 use Rattle.record.proofs.route_count.Reads as route-count-reads
