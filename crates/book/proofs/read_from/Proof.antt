@@ -1,6 +1,4 @@
 -- `book::read_from` meets its contract. Assumes nothing.
-use mathlib.Core.Path.{_≡_, subst, sym, _∙_}
-use native.Mathlib.Omega.{arith}
 use Rattle.book.proofs.Answers.{from-here, past-end}
 use borrow.Author.Needs.{needs}
 use Rattle.book.proofs.read_from.Statement.{statement}

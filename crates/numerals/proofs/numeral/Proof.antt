@@ -1,11 +1,9 @@
 -- `numerals::numeral` meets its contract: the answer for the rest, after the value of the digits passed, is the answer for the whole. Assumes nothing.
 use Rattle.numerals.proofs.Reading.{Passed, none-passed, all-passed, no-digit, one-passed, fits}
-use mathlib.Core.Path.{_≡_, refl, sym}
-use Prim.Native.Nat.{_≤_, _<_, _-_, _+_, _^_}
+use Prim.Native.Nat.{_-_}
 use native.Mathlib.Omega.{arith}
 use borrow.Author.Needs.{needs}
-use lib.ListN.{length, drop}
-use Rattle.numerals.specs.Numeral.{digitValue, numeralFrom}
+use lib.ListN.{length}
 use Rattle.numerals.proofs.numeral.Statement.{statement}
 use Rattle.numerals.proofs.numeral.Tie as tie
 use Rattle.numerals.proofs.numeral.Reads as reads

@@ -1,9 +1,7 @@
 -- `numerals::read_identifier` meets its contract. Assumes nothing.
 use lib.Dec.{lit≤}
 use Rattle.numerals.proofs.Reading.{few}
-use mathlib.Core.Path.{_∙_, sym}
 use native.Mathlib.Omega.{arith}
-use borrow.Author.Needs.{needs}
 use borrow.Author.Tests.{eq-eqb, ne-eqb}
 use Rattle.numerals.specs.Numeral.{identifier}
 use Rattle.numerals.proofs.read_identifier.Statement.{statement}

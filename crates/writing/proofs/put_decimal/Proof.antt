@@ -1,5 +1,4 @@
 -- `writing::put_decimal` meets its contract. Assumes nothing.
-use mathlib.Core.Path.{_≡_, refl, ap}
 use native.Mathlib.Omega.{arith}
 use Rattle.numerals.specs.Written.{decimalText}
 use Rattle.numerals.proofs.Decimals.{width-few, width-holds}

@@ -1,8 +1,6 @@
 -- `writing::put_digits` meets its contract: writing what is left gives the final list. Assumes nothing.
 use native.Mathlib.Nat.{mod-lt}
 use native.Mathlib.Omega.{arith}
-use borrow.Author.Needs.{needs}
-use lib.ListN.{length}
 use Rattle.writing.proofs.Left.{Left, all-left, none-left, one-less}
 use Rattle.writing.proofs.put_digits.Statement.{statement}
 use Rattle.writing.proofs.put_digits.Tie as tie

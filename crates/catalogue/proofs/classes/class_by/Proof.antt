@@ -1,6 +1,6 @@
 -- `catalogue::classes::class_by` meets its contract: each arm does the work on the row of its shape, and what is left for
 -- `_` is no shape. Assumes nothing.
-use mathlib.Core.Path.{_≡_, sym, ap, _∙_, subst}
+use mathlib.Core.Path.{_≡_, sym, ap, subst}
 use mathlib.Core.Option.{Option, none, some}
 use mathlib.Core.List.{map}
 use Prim.Native.Nat.{ℕ}

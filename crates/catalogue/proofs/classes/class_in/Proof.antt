@@ -1,7 +1,7 @@
 -- `catalogue::classes::class_in` meets its contract: each way rewrites with the tests that led there.
 -- Assumes nothing.
 use mathlib.Core.Path.{_≡_, sym, ap, _∙_}
-use mathlib.Core.Bool.{true, false}
+use mathlib.Core.Bool.{false}
 use Prim.Native.Nat.{_*_, _^_}
 use lib.Dec.{leb}
 use lib.IntN.{ℤ, pos, _+ℤ_}

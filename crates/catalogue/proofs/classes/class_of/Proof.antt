@@ -1,6 +1,6 @@
 -- `catalogue::classes::class_of` meets its contract: the class of a count does not ask for the row's number.
 -- Assumes nothing.
-use mathlib.Core.Path.{_≡_, sym, ap, _∙_}
+use mathlib.Core.Path.{sym, ap, _∙_}
 use Prim.Native.Nat.{ℕ}
 use borrow.Author.Needs.{needs}
 use Rattle.catalogue.specs.Shapes.{rowShaped}

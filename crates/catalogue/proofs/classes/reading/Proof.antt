@@ -1,10 +1,10 @@
 -- `catalogue::classes::reading` meets its contract: the product stays below 2 ^ 48 and the offset below 2 ^ 31.
 -- Assumes nothing.
 use mathlib.Core.Path.{_≡_, ap, _∙_, subst⁻¹}
-use Prim.Native.Nat.{ℕ, _*_, _≤_}
+use Prim.Native.Nat.{_*_, _≤_}
 use native.Mathlib.Nat.{mul-le-mul}
 use native.Mathlib.Omega.{arith}
-use lib.Signed.{mag, natAbs-le}
+use lib.Signed.{natAbs-le}
 use lib.IntN.{ℤ, pos, natAbs, _+ℤ_}
 use mir.Syntax.{w32, w64}
 use mir.Val.{toZ, ofZ, SFits}

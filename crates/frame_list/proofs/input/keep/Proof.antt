@@ -1,7 +1,6 @@
 -- `frame_list::input::keep` meets its contract: what is moved is what stood there. Assumes nothing.
 use Prim.Native.Nat.{_-_, _≤_}
 use native.Mathlib.Omega.{arith}
-use borrow.Author.Needs.{needs}
 use Rattle.frame_list.proofs.Moving.{Moved, none-moved, byte-moved, all-moved}
 use Rattle.frame_list.proofs.input.keep.Statement.{statement}
 use Rattle.frame_list.proofs.input.keep.Tie as tie

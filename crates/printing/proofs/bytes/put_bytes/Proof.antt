@@ -1,7 +1,6 @@
 -- `printing::bytes::put_bytes` meets its contract: writing what is left gives the final list. Assumes nothing.
 use Prim.Native.Nat.{_-_}
 use native.Mathlib.Omega.{arith}
-use borrow.Author.Needs.{needs}
 use lib.ListN.{length}
 use Rattle.printing.proofs.Puts.{Written, none-written, byte-written, all-written}
 use Rattle.printing.proofs.bytes.put_bytes.Statement.{statement}

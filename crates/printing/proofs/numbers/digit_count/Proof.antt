@@ -1,8 +1,7 @@
 -- `printing::numbers::digit_count` meets its contract: the digits counted and those of the rest are those of the number, and one. Assumes nothing.
 use mathlib.Core.Path.{_≡_, refl}
-use Prim.Native.Nat.{_+_, _≤_}
+use Prim.Native.Nat.{_+_}
 use native.Mathlib.Omega.{arith}
-use borrow.Author.Needs.{needs}
 use Rattle.printing.specs.Decimal.{digitCount}
 use Rattle.printing.proofs.Counting.{one-digit, more-digits, count-few}
 use Rattle.printing.proofs.numbers.digit_count.Statement.{statement}

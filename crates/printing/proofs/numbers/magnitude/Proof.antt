@@ -1,8 +1,5 @@
 -- `printing::numbers::magnitude` meets its contract: one more than a number below 0 has its opposite in range. Assumes nothing.
-use mathlib.Core.Path.{_≡_}
-use Rattle.printing.proofs.Signs.{negative, positive, raised-fits, turned-fits, turned-cast, turned-sum, turned-back, positive-cast, positive-held}
-use mathlib.Core.Path.{ap, _∙_, sym}
-use lib.IntN.{natAbs}
+use Rattle.printing.proofs.Signs.{negative, positive, raised-fits, turned-fits, turned-cast, turned-sum, turned-back, positive-cast}
 use borrow.Author.Needs.{needs}
 use Rattle.printing.proofs.numbers.magnitude.Statement.{statement}
 use Rattle.printing.proofs.numbers.magnitude.Tie as tie
