@@ -4,3 +4,4 @@ pub mod Named
 pub mod Once
 pub mod OneOutcome
 pub mod StandIns
+pub mod NextLines

@@ -25,8 +25,9 @@ use Rattle.book.proofs.Once.{there, alone}
 use Rattle.book.proofs.read as read
 use Rattle.book.proofs.read_on as read-on
 use Rattle.book.proofs.start as start
+use Rattle.book.proofs.after as after
 use Rattle.book.proofs.LineReader as L
-use Rattle.book.specs.Reader.{readerAt}
+use Rattle.book.specs.Reader.{readerAt, movedOn}
 use Rattle.book.specs.declared.LineReader.{LineReader}
 
 -- a clause that states how a text is answered
@@ -51,3 +52,6 @@ module _ {M : Type 1} (𝓤 : URA M) (H : Heap 𝓤) (A : Atoms 𝓤) (mem : Mem
 
   pub one-start : (κ : Lfts 1) (e : AtExit start.ended κ) → Only 𝓤 (λ r. start.clauses 𝓤 H A mem run κ (text, tt) .ensures tt r e)
   one-start κ e = only-this 𝓤 _ (L.the-row (record { mir = named 0; lft = [] }) .coded) (readerAt text 0) (λ r. refl)
+
+  pub one-after : (κ : Lfts 1) (lines : LineReader) (e : AtExit after.ended κ) → Only 𝓤 (λ r. after.clauses 𝓤 H A mem run κ (lines, tt) .ensures tt r e)
+  one-after κ lines e = only-this 𝓤 _ (L.the-row (record { mir = named 0; lft = [] }) .coded) (movedOn lines) (λ r. refl)

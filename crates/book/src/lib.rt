@@ -1,9 +1,11 @@
 // The reader of a route book: a text to the words of a book, or to a refusal with its line. `read` is the call for users; it has no
 // `requires`, and whatever text and words are lent it says what it answers and what the words are then (specs/Answered.antt).
-// It starts a line reader at the text's first byte and reads on; `start` and `read_on` are for a text that is read from further on.
+// It starts a line reader at the text's first byte and reads on. `start`, `after` and `read_on` are for a text whose book begins
+// further on: the reader goes on line by line, and lines are counted from where `read_on` finds it.
 use answers::Answer;
 use answers::Refusal;
 use columns::part;
+use parts::find;
 use parts::part_from;
 use record::BOOK_WORDS;
 use record::TEXT_LIMIT;
@@ -23,7 +25,9 @@ ghost use Rattle.tables.specs.Adding.{OfBook, Holds};
 ghost use Rattle.taking.specs.Taking.{PassedTo};
 ghost use Rattle.verdict.specs.Verdicts.{Judged};
 ghost use Rattle.book.specs.Answered.{Answered};
-ghost use Rattle.book.specs.Reader.{readerAt};
+ghost use Rattle.book.specs.Reader.{nextLine, readerAt, movedOn};
+
+const NEWLINE: u8 = b'\n';
 
 // The verdict on the routes of a book.
 fn verdict_on(book: &[u32; BOOK_WORDS]) -> Verdict
@@ -84,6 +88,17 @@ fn read_from(text: &[u8], at: usize, book: &mut [u32; BOOK_WORDS]) -> Answer
     read_text(part_from(text, text.len()), book)
 }
 
+// The place after the line that a place begins: past its newline, or the text's end where there is none.
+fn next_from(text: &[u8], at: usize) -> usize
+    ensures { λ r. ⌜ r ≡ nextLine (now (text .entry)) at ⌝ }
+{
+    if at >= text.len() {
+        return at;
+    }
+    let end = at + find(part_from(text, at), NEWLINE);
+    if end < text.len() { end + 1 } else { end }
+}
+
 // The line reader carries the text and its own place in it.
 pub struct LineReader<'a> {
     pub text: &'a [u8],
@@ -95,6 +110,17 @@ pub fn start<'a>(text: &'a [u8]) -> LineReader<'a>
     ensures { λ r. ⌜ r ≡ readerAt (text .entry) 0 ⌝ }
 {
     LineReader { text, at: 0 }
+}
+
+// The reader at the next line.
+pub fn after<'a>(lines: LineReader<'a>) -> LineReader<'a>
+    ensures { λ r. ⌜ r ≡ movedOn (lines .entry) ⌝ }
+{
+    let at = next_from(lines.text, lines.at);
+    LineReader {
+        text: lines.text,
+        at,
+    }
 }
 
 // What is left of the reader's text, into a book.
