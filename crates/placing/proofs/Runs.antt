@@ -2,19 +2,15 @@
 use mathlib.Core.Path.{_≡_, refl, sym, ap, _∙_, subst}
 use mathlib.Core.Bool.{Bool, true, false, _&&_}
 use Prim.Native.Nat.{ℕ, zero, suc, _+_, _-_, _*_, _/_, _%_, _^_, _≤_, _<_}
-use native.Mathlib.Nat.{mul-one, one-mul, div-one, pow-succ', suc-add, zero-add, div-div-eq-div-mul}
+use native.Mathlib.Nat.{mul-one, one-mul, div-one, pow-succ', suc-add, zero-add}
 use native.Mathlib.Omega.{arith}
 use lib.Bits.{shifted-half, shifted-even}
 use lib.Pow.{pow-pos, shl-exact, ones-lt}
 use lib.Dec.{eqb, leb, ltb}
 use borrow.Author.Tests.{lt-ltb, le-ltb, le-leb, lt-leb, ltb-true, ltb-false}
 use Rattle.masks.specs.Bit.{bit}
-use Rattle.masks.proofs.Bits.{bit-zero}
+use Rattle.masks.proofs.Bits.{bit-zero, bit-suc}
 use Rattle.placing.specs.Placing.{inRun}
-
-bit-suc : (m k : ℕ) → bit m (suc k) ≡ bit (m / 2) k
-unfolding bit
-bit-suc m k = rw (pow-succ', ← div-div-eq-div-mul)
 
 -- 2 ^ (b + 1) - 1 is odd, and half of it is 2 ^ b - 1
 half : (b : ℕ) → (2 ^ suc b - 1) / 2 ≡ 2 ^ b - 1
