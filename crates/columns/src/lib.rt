@@ -1,11 +1,17 @@
 // One column of a book: a part of it, whether a number stands in it, and whether identifiers repeat.
 ghost use mathlib.Core.Path.{_≡_};
 ghost use mathlib.Core.List.{[]};
-ghost use Prim.Native.Nat.{_-_, _%_, _≤_, _<_};
+ghost use Prim.Native.Nat.{_-_, _≤_, _<_};
 ghost use lib.ListN.{length, take, drop};
 ghost use Rattle.books.specs.Lines.{isIn};
 ghost use Rattle.columns.specs.Identifiers.{distinctAfter};
+ghost use Rattle.columns.specs.Slots.{slotCount, slotOf};
 use record::IDENTIFIER_LIMIT;
+
+// How many slots there are, and the largest prime below their count.
+const SLOTS: usize = 256;
+
+const SLOT_PRIME: u32 = 251;
 
 // The first `count` entries.
 pub fn first(column: &[u32], count: usize) -> &[u32]
@@ -39,9 +45,9 @@ pub fn holds(column: &[u32], number: u32) -> bool
 
 // The slot of an identifier: a remainder, so that neighbours fall into different ones.
 fn slot(identifier: u32) -> usize
-    ensures { λ r. ⌜ (r ≡ identifier % 251) × (r < 256) ⌝ }
+    ensures { λ r. ⌜ (r ≡ slotOf identifier) × (r < slotCount) ⌝ }
 {
-    (identifier % 251) as usize
+    (identifier % SLOT_PRIME) as usize
 }
 
 // Whether the identifiers are within the limit, and none stands there twice.
@@ -49,7 +55,7 @@ fn slot(identifier: u32) -> usize
 pub fn distinct(ids: &[u32]) -> bool
     ensures { λ r. ⌜ r ≡ distinctAfter [] (now (ids .entry)) ⌝ }
 {
-    let mut used = [0u8; 256];
+    let mut used = [0u8; SLOTS];
     let mut at: usize = 0;
     while at < ids.len() {
         let identifier = ids[at];

@@ -26,7 +26,7 @@ bit-or a b k = rw (or-shr, or-low) (go (a / 2 ^ k % 2) (b / 2 ^ k % 2) (omega ar
     go (suc zero) (suc (suc y)) h k = absurd (omega arith)
     go (suc (suc x)) y h k = absurd (omega arith)
 
-bit-suc : (m k : ℕ) → bit m (suc k) ≡ bit (m / 2) k
+pub bit-suc : (m k : ℕ) → bit m (suc k) ≡ bit (m / 2) k
 unfolding bit
 bit-suc m k = rw (pow-succ', ← div-div-eq-div-mul)
 
@@ -83,7 +83,7 @@ and-parts : (a b : Bool) → a && b ≡ true → (a ≡ true) × (b ≡ true)
 and-parts true b e = (refl, e)
 and-parts false b e = (e, (cc))
 
-below-pow : (n : ℕ) → n < 2 ^ n
+pub below-pow : (n : ℕ) → n < 2 ^ n
 below-pow zero = omega arith
 below-pow (suc n) = omega (arith, below-pow n, pow-succ' 2 n)
 

@@ -17,7 +17,7 @@ pub fn has(m: u64, k: u32) -> bool
 }
 
 // What is in either.
-pub fn both(a: u64, b: u64) -> u64
+pub fn either(a: u64, b: u64) -> u64
     ensures { λ r. ⌜ ((k : ℕ) → bit r k ≡ bit a k || bit b k) ⌝ }
 {
     a | b

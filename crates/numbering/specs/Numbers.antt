@@ -1,4 +1,5 @@
--- The numbers of the places of a column. Assumes nothing: these are definitions.
+-- The numbers of the places of a column: the working side of the verdict, which no entry point's contract names. `verdict: Renaming
+-- judged-places` ties it to chains: the verdict over numbers is the verdict over places. Assumes nothing: these are definitions.
 use mathlib.Core.Path.{_≡_}
 use Prim.Native.Nat.{ℕ, _<_, _≤_}
 use mathlib.Core.List.{List}

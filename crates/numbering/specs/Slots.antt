@@ -1,5 +1,6 @@
 -- The table of slots in which places are looked for. A slot holds one more than an index of the column, and 0 where it is empty.
--- Assumes nothing: these are definitions.
+-- This is the working side of `number_all`, whose contract names the count of slots alone; `numbering: Laying laid-met, laid-new`
+-- tie it to the numbers of places, and `verdict: Renaming judged-places` ties those to chains. Assumes nothing: these are definitions.
 use mathlib.Core.Path.{_≡_}
 use Prim.Native.Nat.{ℕ, zero, suc, _+_, _-_, _*_, _/_, _%_, _<_, _≤_}
 use mathlib.Core.Bool.{Bool, true, _||_, cond}
@@ -12,9 +13,18 @@ use Rattle.numbering.specs.Numbers.{FirstAt}
 abbrev pub slotCount : ℕ
 slotCount = 256
 
--- the slot where the search for a place begins: of the place times an odd number, eight bits from bit 24 on
+-- what a place is multiplied by: the usual number of multiplicative hashing, a prime near 2^32 divided by the golden
+-- ratio, so that neighbours fall far apart
+abbrev pub spreader : ℕ
+spreader = 2654435761
+
+-- 2^24: the bits of the product below it are dropped
+abbrev pub dropped : ℕ
+dropped = 16777216
+
+-- the slot where the search for a place begins: of the product, eight bits from bit 24 on
 abbrev pub slotOf : ℕ → ℕ
-slotOf place = place * 2654435761 / 16777216 % slotCount
+slotOf place = place * spreader / dropped % slotCount
 
 module _ (places slots : List ℕ) (place : ℕ) where
   -- a search stops at an empty slot, and at one that holds the place

@@ -10,6 +10,12 @@ ghost use Rattle.numbering.specs.Slots.{slotCount, slotOf, Stops, Laid};
 // How many slots places are spread over.
 const SLOTS: usize = 256;
 
+// What a place is multiplied by: the usual number of multiplicative hashing, a prime near 2^32 divided by the golden ratio.
+const SPREADER: u64 = 2654435761;
+
+// 2^24: the bits of the product below it are dropped.
+const DROPPED: u64 = 16777216;
+
 fn wide(x: u8) -> usize
     ensures { λ r. ⌜ (r ≡ x) × (r < slotCount) ⌝ }
 {
@@ -20,7 +26,7 @@ fn wide(x: u8) -> usize
 fn slot_of(place: u32) -> usize
     ensures { λ r. ⌜ (r ≡ slotOf place) × (r < slotCount) ⌝ }
 {
-    ((place as u64 * 2654435761) / 16777216 % 256) as usize
+    ((place as u64 * SPREADER) / DROPPED % (SLOTS as u64)) as usize
 }
 
 // Place x of the column that the two make, one after the other.

@@ -4,3 +4,4 @@ pub mod Covering
 pub mod Marks
 pub mod Filling
 pub mod Signals
+pub mod OneOutcome

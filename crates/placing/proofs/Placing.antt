@@ -12,22 +12,22 @@ use Rattle.catalogue.specs.Find.{bitsOf}
 use Rattle.catalogue.proofs.Found.{few-bits}
 use Rattle.books.specs.Book.{Placement, numbers}
 use Rattle.books.specs.Fixed.{checksumNumber, checksumStart, counterNumber, counterStart}
-use Rattle.books.specs.Lines.{unknownOrOver, misplaced, frameBits}
+use Rattle.books.specs.Lines.{unknownOrOver, misplaced, frameBits, startLimit}
 use Rattle.books.specs.Words.{placed}
 use Rattle.books.proofs.Tests.{neither, both-false}
 use Rattle.placing.specs.Placing.{placement, standsAlone, Room}
 
 -- ---- by itself: past the frame's end, and the two that have a start of their own
 module _ (n s b : ℕ) (e : b ≡ bitsOf n) where
-  pub past-end : 64 < s + b → misplaced (placement n s) ≡ true
+  pub past-end : frameBits < s + b → misplaced (placement n s) ≡ true
   unfolding misplaced
   past-end h = rw (← e, lt-ltb _ _ h)
 
-  pub not-past : misplaced (placement n s) ≡ false → s + b ≤ 64
+  pub not-past : misplaced (placement n s) ≡ false → s + b ≤ frameBits
   unfolding misplaced
   not-past m = omega (arith, e, ltb-false frameBits (s + bitsOf n) (both-false (ltb frameBits (s + bitsOf n)) _ m .0))
 
-  module _ (h : s + b ≤ 64) where
+  module _ (h : s + b ≤ frameBits) where
     pub sum-placed : n ≡ checksumNumber → misplaced (placement n s) ≡ not (eqb s checksumStart)
     unfolding misplaced
     sum-placed f = rw (← e, le-ltb _ _ h, f) (or-false (not (eqb s checksumStart)))
@@ -46,11 +46,11 @@ module _ (n s : ℕ) where
   unfolding unknownOrOver
   unknown e = rw e
 
-  pub over : 64 ≤ s → unknownOrOver (placement n s) ≡ true
+  pub over : startLimit ≤ s → unknownOrOver (placement n s) ≡ true
   unfolding unknownOrOver
   over g = rw (le-leb _ _ g) (or-true (eqb (bitsOf n) 0))
 
-  pub known : (bitsOf n ≡ 0 → ⊥) → s < 64 → unknownOrOver (placement n s) ≡ false
+  pub known : (bitsOf n ≡ 0 → ⊥) → s < startLimit → unknownOrOver (placement n s) ≡ false
   unfolding unknownOrOver
   known e g = rw (ne-eqb _ _ e, lt-leb _ _ g)
 

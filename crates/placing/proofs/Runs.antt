@@ -2,19 +2,16 @@
 use mathlib.Core.Path.{_≡_, refl, sym, ap, _∙_, subst}
 use mathlib.Core.Bool.{Bool, true, false, _&&_}
 use Prim.Native.Nat.{ℕ, zero, suc, _+_, _-_, _*_, _/_, _%_, _^_, _≤_, _<_}
-use native.Mathlib.Nat.{mul-one, one-mul, div-one, pow-succ', suc-add, zero-add, div-div-eq-div-mul}
+use native.Mathlib.Nat.{mul-one, one-mul, div-one, pow-succ', suc-add, zero-add}
 use native.Mathlib.Omega.{arith}
 use lib.Bits.{shifted-half, shifted-even}
 use lib.Pow.{pow-pos, shl-exact, ones-lt}
 use lib.Dec.{eqb, leb, ltb}
 use borrow.Author.Tests.{lt-ltb, le-ltb, le-leb, lt-leb, ltb-true, ltb-false}
-use Rattle.masks.specs.Bit.{bit}
-use Rattle.masks.proofs.Bits.{bit-zero}
+use Rattle.rows.specs.Rule.{mostBits}
+use Rattle.masks.specs.Bit.{width, bit}
+use Rattle.masks.proofs.Bits.{bit-zero, bit-suc}
 use Rattle.placing.specs.Placing.{inRun}
-
-bit-suc : (m k : ℕ) → bit m (suc k) ≡ bit (m / 2) k
-unfolding bit
-bit-suc m k = rw (pow-succ', ← div-div-eq-div-mul)
 
 -- 2 ^ (b + 1) - 1 is odd, and half of it is 2 ^ b - 1
 half : (b : ℕ) → (2 ^ suc b - 1) / 2 ≡ 2 ^ b - 1
@@ -51,11 +48,11 @@ shifted-at x (suc a) k =
     ∙ shifted-at x a k
 
 -- 1 << b, which a word holds
-pub one-shifted : (b : ℕ) → b ≤ 32 → 1 * 2 ^ b % 2 ^ 64 ≡ 2 ^ b
+pub one-shifted : (b : ℕ) → b ≤ mostBits → 1 * 2 ^ b % 2 ^ 64 ≡ 2 ^ b
 one-shifted b h = shl-exact 1 b 64 (omega arith) (omega arith) ∙ one-mul (2 ^ b)
 
 -- b ones from bit s on
-pub run-bits : (s b : ℕ) → b ≤ 32 → s + b ≤ 64 → (k : ℕ) → bit ((1 * 2 ^ b % 2 ^ 64 - 1) * 2 ^ s % 2 ^ 64) k ≡ inRun s b k
+pub run-bits : (s b : ℕ) → b ≤ mostBits → s + b ≤ width → (k : ℕ) → bit ((1 * 2 ^ b % 2 ^ 64 - 1) * 2 ^ s % 2 ^ 64) k ≡ inRun s b k
 unfolding inRun
 run-bits s b h g k = ap (λ (n : ℕ). bit n k) value ∙ at (ltb k s) refl
   where

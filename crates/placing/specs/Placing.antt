@@ -2,6 +2,7 @@
 use mathlib.Core.Bool.{Bool, _&&_, _||_, not}
 use Prim.Native.Nat.{ℕ, _+_, _≤_, _<_}
 use lib.Dec.{leb, ltb}
+use Rattle.rows.specs.Rule.{mostBits}
 use Rattle.books.specs.Book.{Placement}
 use Rattle.books.specs.Lines.{unknownOrOver, misplaced, frameBits}
 
@@ -16,7 +17,7 @@ standsAlone p = not (unknownOrOver p || misplaced p)
 -- a frame has room for so many bits from start on
 pub record Room (start bits : ℕ) : Type 0 where
   pub from : start < frameBits
-  pub few : bits ≤ 32
+  pub few : bits ≤ mostBits
   pub to : start + bits ≤ frameBits
 
 -- frame bit k is one of them

@@ -3,6 +3,7 @@ ghost use mathlib.Core.Path.{_≡_};
 ghost use mathlib.Core.List.{[]};
 ghost use Prim.Native.Nat.{ℕ, _+_, _≤_, _<_};
 ghost use lib.ListN.{length};
+ghost use Rattle.rows.specs.Rule.{mostBits};
 ghost use Rattle.catalogue.specs.Find.{bitsOf};
 ghost use Rattle.books.specs.Lines.{isIn, misplaced};
 ghost use Rattle.books.specs.Good.{goodAfter};
@@ -24,9 +25,12 @@ const COUNTER: u32 = 504;
 
 const COUNTER_START: u32 = 56;
 
+// How many marks there are, by which numbers are told apart quickly: as many as a mask has.
+const MARKS: u32 = masks::WIDTH as u32;
+
 // Whether a signal of the catalogue stands where it may not, by itself.
 pub fn is_misplaced(number: u32, start: u32, bits: u32) -> bool
-    requires { ⌜ (start < startLimit) × (bits ≤ 32) × (bits ≡ bitsOf number) ⌝ }
+    requires { ⌜ (start < startLimit) × (bits ≤ mostBits) × (bits ≡ bitsOf number) ⌝ }
     ensures { λ r. ⌜ r ≡ misplaced (placement number start) ⌝ }
 {
     if start + bits > FRAME_BITS {
@@ -83,8 +87,8 @@ pub fn filled_with(filled: Filled, number: u32, start: u32, bits: u32) -> Filled
 {
     let bits_here = run(start, bits);
     Filled {
-        bits: masks::both(filled.bits, bits_here),
-        marks: masks::with(filled.marks, number % 64),
+        bits: masks::either(filled.bits, bits_here),
+        marks: masks::with(filled.marks, number % MARKS),
     }
 }
 
@@ -93,7 +97,7 @@ pub fn is_repeated(numbers: &[u32], filled: Filled, number: u32) -> bool
     requires { ⌜ Marks (now numbers) (filled .marks) ⌝ }
     ensures { λ r. ⌜ r ≡ isIn number (now (numbers .entry)) ⌝ }
 {
-    if masks::has(filled.marks, number % 64) {
+    if masks::has(filled.marks, number % MARKS) {
         return columns::holds(numbers, number);
     }
     false

@@ -11,10 +11,11 @@ use lib.Seq.{getD-set-same, getD-set-other}
 use lib.Dec.{eqb}
 use borrow.Author.Tests.{eqb-true, eqb-false, not-true, not-false}
 use Rattle.masks.specs.Bit.{bit}
+use Rattle.masks.proofs.Told.{more-bits}
 use Rattle.chains.specs.Chain.{Walk, Chain}
 use Rattle.chains.proofs.Bools.{true-false, or-cases, or-left, or-right}
 use Rattle.reach.specs.Handing.{total, Real, HandedOn, Handing}
-use Rattle.reach.proofs.Growing.{more-bits, total-set, set-same}
+use Rattle.reach.proofs.Growing.{total-set, set-same}
 
 module _ (starts ends : List ℕ) where
   -- a chain is a walk

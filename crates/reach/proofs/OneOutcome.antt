@@ -7,14 +7,10 @@ use native.Mathlib.Decide.{decLe}
 use lib.ListN.{length, getD}
 use lib.Seq.{ext-getD}
 use Rattle.masks.specs.Bit.{bit}
+use Rattle.masks.proofs.Told.{same-bits}
 use Rattle.chains.specs.Chain.{LeadsOn}
 use Rattle.chains.proofs.Bools.{told-same}
 use Rattle.reach.specs.Led.{Led, Filled}
-use Rattle.reach.proofs.Growing.{more-bits}
-
--- a mask is told by its bits
-same-bits : (a b : ℕ) → ((k : ℕ) → bit a k ≡ bit b k) → a ≡ b
-same-bits a b e = omega (arith, more-bits a b (λ k h. sym (e k) ∙ h), more-bits b a (λ k h. e k ∙ h))
 
 pub one-fill : (starts ends lent l m : List ℕ) → Filled starts ends lent l → Filled starts ends lent m → l ≡ m
 unfolding Led

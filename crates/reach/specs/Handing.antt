@@ -1,4 +1,5 @@
--- How the masks of numbers grow: routes hand on what they lead to. Assumes nothing: these are definitions.
+-- How the masks of numbers grow: routes hand on what they lead to. This is the working side of `fill`, which no public function's
+-- contract names; `reach: Leading tells-one` ties masks that are settled to chains. Assumes nothing: these are definitions.
 use mathlib.Core.Path.{_≡_}
 use mathlib.Core.Bool.{Bool, true, false, _||_}
 use Prim.Native.Nat.{ℕ, _+_, _<_}

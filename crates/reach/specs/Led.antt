@@ -1,4 +1,6 @@
--- What the masks of routes say. Assumes nothing: these are definitions.
+-- What the masks of routes say: the working side of the verdict, which no entry point's contract names. `Led` is said over chains
+-- (`chains: Chain LeadsOn`); `verdict: Judging loop-by, sound-by, doubling-by` go from there to the verdict. Assumes nothing: these are
+-- definitions.
 use mathlib.Core.Path.{_≡_}
 use mathlib.Core.Bool.{Bool, cond}
 use Prim.Native.Nat.{ℕ, _-_, _*_, _<_, _≤_}

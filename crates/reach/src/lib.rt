@@ -51,7 +51,7 @@ fn hand(starts: &[u8], ends: &[u8], j: usize, masks: &mut [u64]) -> bool
     let end = end_of(ends, j);
     let start = start_of(starts, j);
     let had = masks[start];
-    let has = masks::both(had, masks::with(masks[end], end as u32));
+    let has = masks::either(had, masks::with(masks[end], end as u32));
     masks[start] = has;
     has != had
 }

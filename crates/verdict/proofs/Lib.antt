@@ -6,3 +6,4 @@ pub mod Masks
 pub mod Renaming
 pub mod Once
 pub mod Judging
+pub mod OneOutcome

@@ -11,6 +11,7 @@ use lib.Dec.{eqb}
 use borrow.Author.Tests.{eqb-true, eqb-false, eq-eqb, ne-eqb, not-true}
 use Rattle.masks.specs.Bit.{width, bit, meeting}
 use Rattle.masks.proofs.Bits.{bit-zero, meeting-some}
+use Rattle.masks.proofs.Told.{more-bits}
 use Rattle.chains.specs.Chain.{LeadsOn}
 use Rattle.chains.specs.Tests.{Tells, any, First}
 use Rattle.chains.proofs.Bools.{or-cases, and-parts, or-left, or-right, and-both, same-test, told-yes, told-of, told-same, true-false}
@@ -19,7 +20,6 @@ use Rattle.chains.proofs.Walks.{walk-last}
 use Rattle.chains.proofs.Loops.{comesBack}
 use Rattle.chains.proofs.Tests.{any-some, some-any, comesTo, meetAgain, fork, begins}
 use Rattle.reach.specs.Led.{Numbers, Led}
-use Rattle.reach.proofs.Growing.{more-bits}
 use Rattle.verdict.specs.Searches.{leadsBack, ForksEarlier, StartsAt, beginsBy}
 use Rattle.verdict.proofs.Meeting.{meets-at, meets-back}
 

@@ -1,4 +1,6 @@
--- What the searches over the masks of `reach` look for. Assumes nothing: these are definitions.
+-- What the searches over the masks of `reach` look for: the working side, which no entry point's contract names. `verdict: Masks
+-- back-same, none-begins, begins-same` tie it to chains, and `verdict: Judging loop-by, sound-by, doubling-by` make the verdict of it.
+-- Assumes nothing: these are definitions.
 use mathlib.Core.Path.{_≡_}
 use mathlib.Core.Bool.{Bool, true, _||_}
 use Prim.Native.Nat.{ℕ, _<_}

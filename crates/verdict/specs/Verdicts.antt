@@ -1,4 +1,5 @@
--- The verdict on a table of routes, over its chains. Assumes nothing: these are definitions.
+-- The verdict on a table of routes, over its chains: what is promised of refusals 10 and 11, in the words of `chains: Chain`
+-- alone. How it is found is not said here. Assumes nothing: these are definitions.
 use Prim.Native.Nat.{ℕ, _<_}
 use mathlib.Core.List.{List}
 use Rattle.chains.specs.Chain.{OnClosed, LoopFree, BeginsDoubling, IsSound}
@@ -16,9 +17,3 @@ abbrev pub Judged : List ℕ → List ℕ → Verdict → Type 0
 Judged froms tos (Loop i) = Lowest (OnClosed froms tos) i
 Judged froms tos (Doubling i) = LoopFree froms tos × Lowest (BeginsDoubling froms tos) i
 Judged froms tos Sound = IsSound froms tos
-
--- the refusal's number, 0 where there is none
-abbrev pub refusal : Verdict → ℕ
-refusal (Loop i) = 10
-refusal (Doubling i) = 11
-refusal Sound = 0

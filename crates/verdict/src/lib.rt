@@ -63,7 +63,7 @@ fn forking(starts: &[u8], onward: &[u64], down: bool) -> u64
         if masks::meet(earlier, onward[a]) {
             forks = masks::with(forks, a as u32);
         }
-        seen[start] = masks::both(earlier, onward[a]);
+        seen[start] = masks::either(earlier, onward[a]);
         t += 1;
     }
     forks
@@ -118,7 +118,7 @@ fn judge_numbered(starts: &[u8], ends: &[u8]) -> Verdict
     if up == 0 {
         return Verdict::Sound;
     }
-    let forks = masks::both(up, forking(starts, &onward, true));
+    let forks = masks::either(up, forking(starts, &onward, true));
     let j = first_doubling(&onward, forks, starts_of(starts, forks), n);
     Verdict::Doubling(j)
 }

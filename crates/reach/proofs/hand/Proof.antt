@@ -32,8 +32,8 @@ cast-with c = search needs
 with-requires : tie.Need-with-requires
 with-requires c κs = search needs
 
-both-requires : tie.Need-both-requires
-both-requires c κs = search needs
+either-requires : tie.Need-either-requires
+either-requires c κs = search needs
 
 mul-masks : tie.Need-mul-masks
 mul-masks c = search needs
@@ -52,8 +52,8 @@ returns c =
     let at-pre = c .before .before .before .before .before .before .before .before .before .pre in
     let at-args = c .before .before .before .before .before .before .before .before .before .args in
     let low : at-start-of .result < length (at-args .masks .now) = omega (arith, at-start-of .ensures .1, at-pre .2) in
-    handing-one (at-args .starts .now) (at-args .ends .now) (at-args .masks .now) (at-args .j) (at-start-of .result) (at-end-of .result) (at-with .result) (c .both .result)
-    (at-start-of .ensures .0) (at-end-of .ensures .0) (at-pre .1) low (at-with .ensures) (c .both .ensures)
+    handing-one (at-args .starts .now) (at-args .ends .now) (at-args .masks .now) (at-args .j) (at-start-of .result) (at-end-of .result) (at-with .result) (c .either .result)
+    (at-start-of .ensures .0) (at-end-of .ensures .0) (at-pre .1) low (at-with .ensures) (c .either .ensures)
 
 pub hand-spec : {M : Type 1} → statement M
 hand-spec =
@@ -67,7 +67,7 @@ hand-spec =
     slice-read-with
     cast-with
     with-requires
-    both-requires
+    either-requires
     mul-masks
     slice-write-masks
     same-length

@@ -44,14 +44,14 @@ cast-with c = search needs
 with-requires : tie.Need-with-requires Inv-loop μ-loop
 with-requires c κs = search needs
 
-mul-both : tie.Need-mul-both Inv-loop μ-loop
-mul-both c = search needs
+mul-either : tie.Need-mul-either Inv-loop μ-loop
+mul-either c = search needs
 
-shared-slice-read-both : tie.Need-shared-slice-read-both Inv-loop μ-loop
-shared-slice-read-both c = search needs
+shared-slice-read-either : tie.Need-shared-slice-read-either Inv-loop μ-loop
+shared-slice-read-either c = search needs
 
-both-requires : tie.Need-both-requires Inv-loop μ-loop
-both-requires c κs = search needs
+either-requires : tie.Need-either-requires Inv-loop μ-loop
+either-requires c κs = search needs
 
 mul-seen : tie.Need-mul-seen Inv-loop μ-loop
 mul-seen c = search needs
@@ -80,10 +80,10 @@ loop-again c =
     let t = at-loop .t in
     let a = at-nth .result in
     let s = at-start-of .result in
-    let v = c .both .result in
+    let v = c .either .result in
     let Then = Gathering starts onward (at-args .down) (t + 1) (set seen s v) in
-    let fork = gathering-fork starts onward (at-args .down) t seen (at-loop .forks) (at-loop .inv) (at-loop-test .taken) a s (at-nth .ensures .0) (at-start-of .ensures .0) (at-start-of .ensures .1) v (c .both .ensures) in
-    let keep = gathering-keep starts onward (at-args .down) t seen (at-loop .forks) (at-loop .inv) (at-loop-test .taken) a s (at-nth .ensures .0) (at-start-of .ensures .0) (at-start-of .ensures .1) v (c .both .ensures) in
+    let fork = gathering-fork starts onward (at-args .down) t seen (at-loop .forks) (at-loop .inv) (at-loop-test .taken) a s (at-nth .ensures .0) (at-start-of .ensures .0) (at-start-of .ensures .1) v (c .either .ensures) in
+    let keep = gathering-keep starts onward (at-args .down) t seen (at-loop .forks) (at-loop .inv) (at-loop-test .taken) a s (at-nth .ensures .0) (at-start-of .ensures .0) (at-start-of .ensures .1) v (c .either .ensures) in
     ⊎-elim
     (λ w. subst Then (sym (w .2)) (fork (w .1 .result) (sym (at-meet .ensures) ∙ w .0 .taken) (w .1 .ensures)))
     (λ w. subst Then (sym (w .1)) (keep (sym (at-meet .ensures) ∙ w .0 .left)))
@@ -108,9 +108,9 @@ forking-spec =
     meet-requires
     cast-with
     with-requires
-    mul-both
-    shared-slice-read-both
-    both-requires
+    mul-either
+    shared-slice-read-either
+    either-requires
     mul-seen
     array-write-seen
     add-t

@@ -40,8 +40,8 @@ slice-aggregate-forking-2 c = search needs
 forking-requires-2 : tie.Need-forking-requires-2
 forking-requires-2 c κs = search needs
 
-both-requires : tie.Need-both-requires
-both-requires c κs = search needs
+either-requires : tie.Need-either-requires
+either-requires c κs = search needs
 
 slice-aggregate-first-doubling : tie.Need-slice-aggregate-first-doubling
 slice-aggregate-first-doubling c = search needs
@@ -55,7 +55,7 @@ first-doubling-requires c κs = search needs
 returns-3 : tie.Need-returns-3
 returns-3 c =
     let at-starts-of = c .before .starts-of in
-    let at-both = c .before .before .before .both in
+    let at-either = c .before .before .before .either in
     let at-forking2 = c .before .before .before .before .forking2 in
     let at-if2 = c .before .before .before .before .before .before .if2 in
     let at-forking = c .before .before .before .before .before .before .before .forking in
@@ -64,7 +64,7 @@ returns-3 c =
     let at-fill = c .before .before .before .before .before .before .before .before .before .before .before .before .before .fill in
     let at-pre = c .before .before .before .before .before .before .before .before .before .before .before .before .before .before .before .before .before .pre in
     let by = doubling-by _ _ _ (at-fill .ensures .led) _ (at-first-loop .ensures) (at-if1 .left) _ (at-forking .ensures) (at-if2 .left) at-pre in
-    by _ _ _ _ (at-forking2 .ensures) (at-both .ensures) (at-starts-of .ensures) (c .first-doubling .ensures)
+    by _ _ _ _ (at-forking2 .ensures) (at-either .ensures) (at-starts-of .ensures) (c .first-doubling .ensures)
 
 pub judge-numbered-spec : {M : Type 1} → statement M
 judge-numbered-spec =
@@ -80,7 +80,7 @@ judge-numbered-spec =
     returns-2
     slice-aggregate-forking-2
     forking-requires-2
-    both-requires
+    either-requires
     slice-aggregate-first-doubling
     starts-of-requires
     first-doubling-requires

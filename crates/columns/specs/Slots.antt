@@ -1,0 +1,14 @@
+-- The slots that `distinct` marks as it passes identifiers: how it works, and no promise. Assumes nothing: these are definitions.
+use Prim.Native.Nat.{ℕ, _%_}
+
+-- how many slots there are
+abbrev pub slotCount : ℕ
+slotCount = 256
+
+-- the largest prime below their count
+abbrev pub slotPrime : ℕ
+slotPrime = 251
+
+-- the slot of an identifier: its remainder, so that neighbours fall into different ones
+abbrev pub slotOf : ℕ → ℕ
+slotOf identifier = identifier % slotPrime
