@@ -4,7 +4,7 @@
    bench list: the names of the cases. */
 #include "made_text.h"
 #include "plain.h"
-#include "plain_catalogue.h"
+#include "plain_signals.h"
 #include <stdio.h>
 #include <stdlib.h>
 #include <string.h>
@@ -65,9 +65,9 @@ static const struct face *face;
 static struct made_text text;
 static uint32_t book[PC_BOOK_WORDS], message, first_signal, signal_count;
 static uint8_t frame[PC_FRAME_BYTES];
-static uint32_t values[64], raws[64], places[64], counts[27];
-static uint8_t classes[64];
-static int64_t thousandths[64];
+static uint32_t values[PC_MOST_READINGS], raws[PC_MOST_READINGS], places[PC_MOST_ROUTES], counts[27];
+static uint8_t classes[PC_MOST_READINGS];
+static int64_t thousandths[PC_MOST_READINGS];
 
 /* The first book that chance makes of this size. */
 static void make_book(uint32_t messages, uint32_t signals, uint32_t routes) {
@@ -99,22 +99,25 @@ static void make_refused(uint32_t last_from, uint32_t last_to, uint32_t refusal)
         exit(3);
 }
 
+static uint32_t read_frame(const struct face *by) {
+    size_t count;
+    return by->frame_read(book, message, frame, sizeof frame, raws, PC_MOST_READINGS, classes, PC_MOST_READINGS, thousandths, PC_MOST_READINGS, &count);
+}
+
 /* The last message of the book that has as many signals as any, a frame for it and values. */
 static void choose_message(void) {
     uint32_t first = 0;
-    size_t count;
     for (uint32_t m = 0; m < book[PC_BOOK_MESSAGES]; first = book[PC_BOOK_ENDS + m], m++)
         if (book[PC_BOOK_ENDS + m] - first >= signal_count) {
             message = book[PC_BOOK_IDENTIFIERS + m];
             first_signal = first;
             signal_count = book[PC_BOOK_ENDS + m] - first;
         }
-    for (uint32_t i = 0; i < signal_count; i++)
-        for (int row = 0; row < PLAIN_ROWS; row++)
-            if (plain_catalogue[row].number == book[PC_BOOK_NUMBERS + first_signal + i])
-                values[i] = plain_catalogue[row].mark_count ? 1 : plain_catalogue[row].highest;
-    if (plain_frame_pack(book, message, values, signal_count, frame, sizeof frame) != 0 ||
-        plain_frame_read(book, message, frame, sizeof frame, raws, 64, classes, 64, thousandths, 64, &count) != 0)
+    for (uint32_t i = 0; i < signal_count; i++) {
+        const struct plain_row *row = plain_row_of(book[PC_BOOK_NUMBERS + first_signal + i]);
+        values[i] = row->mark_count ? 1 : row->highest;
+    }
+    if (plain_frame_pack(book, message, values, signal_count, frame, sizeof frame) != 0 || read_frame(&plain) != 0)
         exit(3);
 }
 
@@ -166,9 +169,8 @@ static uint32_t call_class(uint32_t turn) {
 }
 
 static uint32_t call_frame_read(uint32_t turn) {
-    size_t count;
     (void)turn;
-    return face->frame_read(book, message, frame, sizeof frame, raws, 64, classes, 64, thousandths, 64, &count);
+    return read_frame(face);
 }
 
 static uint32_t call_frame_pack(uint32_t turn) {
@@ -180,7 +182,7 @@ static uint32_t call_frame_pack(uint32_t turn) {
 static uint32_t call_spread(uint32_t turn) {
     size_t count;
     uint32_t place = book[PC_BOOK_FROM + turn % book[PC_BOOK_ROUTES]];
-    return face->spread(book, PC_BUS(place), PC_IDENTIFIER(place), places, 64, &count);
+    return face->spread(book, PC_BUS(place), PC_IDENTIFIER(place), places, PC_MOST_ROUTES, &count);
 }
 
 static uint32_t call_fault_sum(uint32_t turn) {

@@ -34,7 +34,6 @@ static void count_refusal(const char *call, uint32_t refusal) {
 
 /* ---- The gateway's state: the book in force, what was last seen, and the two monitors. */
 
-enum { MOST_READINGS = 64 };
 static uint32_t book[PC_BOOK_WORDS];
 static struct pc_observation seen = { 1, 1, 1, 0, 0, 20000, 0, 0 };
 static uint32_t power = PC_POWER_START, last_wake, asleep;
@@ -72,11 +71,11 @@ static uint32_t first_of(uint32_t identifier) {
 /* The receive handler: reads the frame, and hands it on to every place it spreads to. A frame that is only handed on needs no
    message in the book: reading it gives 22, and it has a spread all the same. */
 static void on_receive(uint32_t bus, uint32_t identifier, const uint8_t *bytes, size_t length) {
-    uint32_t raws[MOST_READINGS], places[PC_MOST_ROUTES], refusal;
+    uint32_t raws[PC_MOST_READINGS], places[PC_MOST_ROUTES], refusal;
     size_t count = 0;
-    uint8_t classes[MOST_READINGS];
-    int64_t thousandths[MOST_READINGS];
-    refusal = pc_frame_read(book, identifier, bytes, length, raws, MOST_READINGS, classes, MOST_READINGS, thousandths, MOST_READINGS, &count);
+    uint8_t classes[PC_MOST_READINGS];
+    int64_t thousandths[PC_MOST_READINGS];
+    refusal = pc_frame_read(book, identifier, bytes, length, raws, PC_MOST_READINGS, classes, PC_MOST_READINGS, thousandths, PC_MOST_READINGS, &count);
     if (refusal != PC_DONE && refusal != PC_UNKNOWN_IDENTIFIER) {
         count_refusal("pc_frame_read", refusal);
         return;

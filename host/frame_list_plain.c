@@ -1,12 +1,11 @@
 /* frame_list in plain C: reads the book from book.txt and frame lines from standard input, and prints each signal's reading.
    Input and output go through fixed buffers; numbers are written by hand, since printf would be most of the time. */
 #include "face.h"
-#include <inttypes.h>
 #include <stdio.h>
 #include <string.h>
 #include <unistd.h>
 
-enum { FRAME_LINE_ILL_FORMED = 20, MOST_LINE = 25, MOST_SIGNALS_OF_FRAME = 64 };
+enum { FRAME_LINE_ILL_FORMED = 20, MOST_LINE = 25 };
 
 static uint8_t text[PC_MOST_TEXT + 1], input[1 << 16], output[1 << 16];
 static uint32_t book[PC_BOOK_WORDS];
@@ -99,15 +98,15 @@ static uint32_t first_signal(uint32_t identifier) {
 }
 
 static void list_line(const uint8_t *line, size_t length) {
-    uint32_t identifier, raws[MOST_SIGNALS_OF_FRAME];
-    uint8_t frame[8], classes[MOST_SIGNALS_OF_FRAME];
-    int64_t thousandths[MOST_SIGNALS_OF_FRAME];
+    uint32_t identifier, raws[PC_MOST_READINGS];
+    uint8_t frame[8], classes[PC_MOST_READINGS];
+    int64_t thousandths[PC_MOST_READINGS];
     size_t bytes, count;
     if (!parse(line, length, &identifier, frame, &bytes)) {
         put_refusal(FRAME_LINE_ILL_FORMED);
         return;
     }
-    uint32_t refusal = plain_frame_read_tested(book, identifier, frame, bytes, raws, classes, thousandths, MOST_SIGNALS_OF_FRAME, &count);
+    uint32_t refusal = plain_frame_read_tested(book, identifier, frame, bytes, raws, classes, thousandths, PC_MOST_READINGS, &count);
     if (refusal) {
         put(line, 9);
         put_refusal(refusal);

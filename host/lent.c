@@ -1,17 +1,17 @@
 #include "lent.h"
 #include <string.h>
 
-void *lent_new(struct lent *block, struct chance *c, const char *name, size_t bytes) {
-    size_t words = (bytes + 2 * LENT_GUARD + 7) / 8;
-    block->name = name;
-    block->bytes = bytes;
-    for (size_t i = 0; i < words; i++)
-        block->was[i] = chance_word(c);
-    return (uint8_t *)block->was + LENT_GUARD;
-}
-
+/* Its bytes and those around it, to whole words. */
 static size_t whole(const struct lent *block) {
     return (block->bytes + 2 * LENT_GUARD + 7) / 8 * 8;
+}
+
+void *lent_new(struct lent *block, struct chance *c, const char *name, size_t bytes) {
+    block->name = name;
+    block->bytes = bytes;
+    for (size_t i = 0; i < whole(block) / 8; i++)
+        block->was[i] = chance_word(c);
+    return (uint8_t *)block->was + LENT_GUARD;
 }
 
 void lent_out(struct lent *block) {

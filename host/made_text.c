@@ -5,7 +5,7 @@
 #include <stdio.h>
 #include <string.h>
 
-enum { LINES = 512, PLACES = 80 };
+enum { PLACES = 80 };
 
 static void append(struct made_text *text, const char *form, ...) {
     char line[128];
@@ -29,9 +29,9 @@ static uint32_t append_message(struct made_text *text, struct chance *c, uint32_
     uint64_t placed = 0;
     append(text, "M\t%08" PRIX32 "\n", identifier);
     for (uint32_t attempt = 0; attempt < 8 * signals && count < signals; attempt++) {
-        uint32_t number = one_in(c, 12) ? 503 : one_in(c, 12) ? 504 : any_signal(c), again = 0;
+        uint32_t number = one_in(c, 12) ? CHECKSUM : one_in(c, 12) ? COUNTER : any_signal(c), again = 0;
         const struct plain_row *row = plain_row_of(number);
-        uint32_t start = number == 503 ? 60 : number == 504 ? 56 : chance_below(c, 65 - row->bits);
+        uint32_t start = number == CHECKSUM ? CHECKSUM_START : number == COUNTER ? COUNTER_START : chance_below(c, 65 - row->bits);
         uint64_t bits = (((uint64_t)1 << row->bits) - 1) << start;
         for (uint32_t i = 0; i < count; i++)
             again |= used[i] == number;
@@ -55,7 +55,7 @@ static uint32_t any_place(struct map *map, struct chance *c) {
 
 static uint32_t new_place(struct map *map, struct chance *c) {
     uint32_t bus = chance_below(c, 8), identifier = one_in(c, 16) ? 0x18FF21F3 : 0x18FF0000 + chance_below(c, 0x10000);
-    uint32_t place = (bus << 29) | identifier;
+    uint32_t place = PC_PLACE(bus, identifier);
     if (map->count < PLACES)
         map->places[map->count++] = place;
     return place;
@@ -65,7 +65,7 @@ static uint32_t new_place(struct map *map, struct chance *c) {
 static void append_route(struct made_text *text, struct map *map, struct chance *c) {
     uint32_t from = one_in(c, 6) ? new_place(map, c) : any_place(map, c);
     uint32_t to = one_in(c, 32) ? any_place(map, c) : new_place(map, c);
-    append(text, "R\t%" PRIu32 "\t%08" PRIX32 "\t%" PRIu32 "\t%08" PRIX32 "\n", from >> 29, from & 0x1FFFFFFF, to >> 29, to & 0x1FFFFFFF);
+    append(text, "R\t%" PRIu32 "\t%08" PRIX32 "\t%" PRIu32 "\t%08" PRIX32 "\n", PC_BUS(from), PC_IDENTIFIER(from), PC_BUS(to), PC_IDENTIFIER(to));
 }
 
 void make_text(struct made_text *text, struct chance *c, uint32_t messages, uint32_t signals, uint32_t routes) {

@@ -3,8 +3,6 @@
 #include "plain_signals.h"
 #include <string.h>
 
-enum { CHECKSUM = 503, CHECKSUM_START = 60, COUNTER = 504, COUNTER_START = 56 };
-
 struct part {
     const uint8_t *bytes;
     size_t length;

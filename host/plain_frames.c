@@ -2,8 +2,6 @@
 #include "plain.h"
 #include "plain_signals.h"
 
-enum { CHECKSUM = 503, CHECKSUM_START = 60 };
-
 /* Frame bit k is bit k mod 8 of byte k div 8: the frame as one number has it at weight 2^k. */
 static uint64_t load(const uint8_t *frame) {
     uint64_t word = 0;

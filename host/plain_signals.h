@@ -4,6 +4,9 @@
 
 #include "plain_catalogue.h"
 
+/* The two signals that have a place of their own. */
+enum { CHECKSUM = 503, CHECKSUM_START = 60, COUNTER = 504, COUNTER_START = 56 };
+
 /* The row of the signal with this number, or a null pointer. Tables 2 to 13 and 15 to 19 have rows 1, 2, .. without gaps. */
 static inline const struct plain_row *plain_row_of(uint32_t number) {
     static const uint8_t first_of_table[20] = { 199, 199, 0, 10, 39, 47, 62, 67, 77, 85, 92, 95, 100, 126, 199, 133, 139, 145, 158, 172 };

@@ -239,15 +239,14 @@ static void try_class(void) {
     judge(CLASS, library, plain, 0);
 }
 
-/* The index of a message of the book with this record's counts, or of none. */
-static uint32_t any_message(const uint32_t book[PC_BOOK_WORDS], uint32_t *identifier, uint32_t *first, uint32_t *end) {
+/* A message of the book, its identifier and where its signals begin and end; at times an identifier that it has not. */
+static void any_message(const uint32_t book[PC_BOOK_WORDS], uint32_t *identifier, uint32_t *first, uint32_t *end) {
     uint32_t messages = book[0] <= 64 ? book[0] : 64, m = messages ? below(messages) : 0;
     *identifier = once_in(12) ? any_number() : once_in(20) ? 0 : book[PC_BOOK_IDENTIFIERS + m];
     *first = m == 0 ? 0 : book[PC_BOOK_ENDS + m - 1];
     *end = book[PC_BOOK_ENDS + m];
     if (*end > 256 || *first > *end)
         *first = *end = 0;
-    return m;
 }
 
 /* Puts the right check into byte 7 for this identifier. */
@@ -258,10 +257,11 @@ static void put_check(uint8_t frame[8], uint32_t identifier) {
     frame[7] = (uint8_t)((frame[7] & 15) | (((sum >> 6 & 3) + (sum >> 3) + sum) & 7) << 4);
 }
 
+/* What is needed or a little more, at times one too few, or any. */
 static uint32_t any_room(uint32_t needed) {
-    if (once_in(8))
+    if (once_in(8) || needed > 200)
         return below(70);
-    return needed + (once_in(10) ? 0xFFFFFFFFu : 0) + below(3) > 200 ? 0 : needed + (once_in(10) && needed ? (uint32_t)-1 : below(3));
+    return once_in(10) && needed ? needed - 1 : needed + below(3);
 }
 
 static void try_frame_read(void) {
@@ -306,7 +306,7 @@ static void try_frame_pack(void) {
     uint32_t count = once_in(12) ? any_room(end - first) : end - first, careless = once_in(3);
     for (uint32_t i = 0; i < count; i++) {
         uint32_t number = first + i < 256 ? book[PC_BOOK_NUMBERS + first + i] : 0;
-        values[i] = number == 503 || (careless && once_in(4)) ? any_raw(number) : sent_raw(number);
+        values[i] = number == CHECKSUM || (careless && once_in(4)) ? any_raw(number) : sent_raw(number);
     }
     struct lent *b = lend("book", book, sizeof book), *v = lend("values", values, 4 * count), *frame = lend("frame", 0, length);
     uint32_t library = pc_frame_pack(L(b, uint32_t), identifier, L(v, uint32_t), count, L(frame, uint8_t), length);
@@ -357,7 +357,7 @@ static struct pc_observation any_observation(void) {
     seen.command = once_in(40) ? any_number() : below(4);
     seen.emergency_off = once_in(40) ? any_number() : once_in(3) ? below(4) : 0;
     seen.current = once_in(40) ? any_number() : once_in(2) ? 19899 + below(203) : once_in(2) ? 20099 + below(3) : below(65536);
-    seen.inside = once_in(40) ? any_number() : once_in(8) ? below(3) + (once_in(2) ? 65533 : 0) : below(8000);
+    seen.inside = once_in(40) ? any_number() : once_in(3) ? below(3) + (once_in(2) ? 65533 : 0) : below(8000);
     seen.outside = once_in(40) ? any_number() : once_in(8) ? 65535 : outside_for(seen.inside);
     return seen;
 }

@@ -67,7 +67,14 @@ enum {
     PC_BOOK_FROM = 643,           /* 64: of each route, its from place */
     PC_BOOK_TO = 707              /* 64: of each route, its to place */
 };
-enum { PC_MOST_MESSAGES = 64, PC_MOST_SIGNALS = 256, PC_MOST_ROUTES = 64, PC_MOST_TEXT = 32768, PC_FRAME_BYTES = 8 };
+enum {
+    PC_MOST_MESSAGES = 64,
+    PC_MOST_SIGNALS = 256,
+    PC_MOST_ROUTES = 64,          /* and places that a frame reaches */
+    PC_MOST_READINGS = 64,        /* of one frame: no message has more signals */
+    PC_MOST_TEXT = 32768,
+    PC_FRAME_BYTES = 8
+};
 
 /* A place is one number: bus x 2^29 + identifier. */
 #define PC_PLACE(bus, identifier) (((uint32_t)(bus) << 29) | (uint32_t)(identifier))
@@ -84,7 +91,7 @@ uint32_t pc_class(uint32_t number, uint32_t raw, uint32_t *class_code, int64_t *
 
 /* Reads a frame: for each signal of the message, in the book's order, its raw count, its class (enum pc_class) and its
    thousandths, 0 where the class is no value. *count is how many there are. Refusals 12, 21, 22, 23, 24, where the room is
-   the least of the three lengths. */
+   the least of the three lengths; PC_MOST_READINGS is always enough. */
 uint32_t pc_frame_read(const uint32_t book[PC_BOOK_WORDS], uint32_t identifier, const uint8_t *frame, size_t frame_length,
                        uint32_t *raws, size_t raws_length, uint8_t *classes, size_t classes_length,
                        int64_t *thousandths, size_t thousandths_length, size_t *count);
@@ -95,8 +102,8 @@ uint32_t pc_frame_read(const uint32_t book[PC_BOOK_WORDS], uint32_t identifier, 
 uint32_t pc_frame_pack(const uint32_t book[PC_BOOK_WORDS], uint32_t identifier, const uint32_t *values, size_t values_length,
                        uint8_t *frame, size_t frame_length);
 
-/* Gives every place that a frame from this place reaches, in the order of the spread; *count is how many, at most 64.
-   Refusals 12, 61, 62. */
+/* Gives every place that a frame from this place reaches, in the order of the spread; *count is how many, at most
+   PC_MOST_ROUTES. Refusals 12, 61, 62. */
 uint32_t pc_spread(const uint32_t book[PC_BOOK_WORDS], uint32_t bus, uint32_t identifier, uint32_t *places,
                    size_t places_length, size_t *count);
 

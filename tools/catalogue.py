@@ -21,9 +21,6 @@ class Row:
     def of_json(cls, entry):
         return cls(*(entry[field] for field in cls.FIELDS))
 
-    def __repr__(self):
-        return "Row" + repr(self.as_json())
-
 
 def load():
     """{signal number: Row}, from the rows that tools/catalogue_vectors.py took from document 001."""

@@ -33,7 +33,7 @@ def good_frames(chance, identifier, placements):
     return [with_checksum(identifier, placements, frame) for frame in frames]
 
 
-def wrong_checksums(identifier, frame):
+def wrong_checksums(frame):
     """The frame with every wrong check, 8 to 15 among them, and with one wrong byte under the right check."""
     right = take_bits(frame, 60, 4)
     yield from (place_bits(frame, 60, 4, check) for check in range(16) if check != right)
@@ -53,7 +53,7 @@ def cases_of_message(chance, identifier, placements):
     for length in range(17) if count == 2 else chance.sample(range(17), 4):
         yield identifier, chance.choice([0, count]), (frame + stray_bytes(chance, 8))[:length]
     if 503 in dict(placements):
-        for wrong in wrong_checksums(identifier, frame):
+        for wrong in wrong_checksums(frame):
             yield identifier, chance.choice([0, count]), wrong  # 23 before 24
 
 

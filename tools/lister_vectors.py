@@ -2,8 +2,8 @@
 """A book, frame lines and the listing that the frame lister prints, for the program `frame_list`.
 
     python3 tools/lister_vectors.py DIR            writes DIR/data/book.txt, DIR/stdin and DIR/stdout
-    python3 tools/lister_vectors.py DIR refused    the same lines under a book that is refused
-    python3 tools/lister_vectors.py DIR empty      the same lines under an empty book (a missing one counts as empty)
+    python3 tools/lister_vectors.py DIR refused    the same lines under a book that is refused, for host/check
+    python3 tools/lister_vectors.py DIR empty      the same lines under an empty book (a missing one counts as empty), for host/check
 
 The lines have every shape that document 01 names, good and ill formed, and there are enough of them, of enough
 different lengths, that whatever buffer a program reads with, lines lie across its edges.

@@ -1,6 +1,6 @@
 #!/usr/bin/env python3
-"""Holds the tree against itself: every name that a file brings in by a `use` line it uses, and every law is cited by another one or
-named in docs/PROMISES.md."""
+"""Holds the tree against itself: a file uses every name that it brings in, and every definition and law is cited: by another one
+of its file, by a file that brings it in, or by a line of docs/PROMISES.md that names its crate too. (A function's `-spec` is its proof.)"""
 
 import re
 import sys
@@ -8,20 +8,22 @@ from pathlib import Path
 
 ROOT = Path(__file__).parent.parent
 FILES = [path for kind in ("antt", "rt") for path in sorted((ROOT / "crates").rglob(f"*.{kind}"))]
-USE = re.compile(r"^(?:ghost )?use\s+[^\s;{]+\.\{([^}]*)\};?[ \t]*\n", re.M)
 WORD = r"[^\s(){}\[\].,;·⌜⌝&*!←]"
+USE = re.compile(r"^(?:ghost )?use\s+[^\s;{]+\.\{([^}]*)\};?[ \t]*\n", re.M)
+DECLARED = re.compile(rf"( *)(?:abbrev |unfoldable |pub )*(?:(?:record|data) ({WORD}+)|({WORD}+)(?: {{.*}})? :)")
 
 
 def bare(path):
     """The text without its comments."""
     mark = "//" if path.suffix == ".rt" else "--"
-    return re.sub(rf"(?m)(^|\s){re.escape(mark)}(\s.*|-.*)?$", "", path.read_text())
+    return re.sub(rf"(?m)(^|\s){mark}(\s.*|-.*)?$", "", path.read_text())
 
 
 def has(text, name):
+    """Whether the text has the name, other than as a field that is asked for."""
     if "_" in (name[0], name[-1]):
         return all(part in text for part in name.split("_") if part)
-    return re.search(rf"(?<!{WORD}){re.escape(name)}(?!{WORD})", text)
+    return re.search(rf"(?<!{WORD})(?<! \.){re.escape(name)}(?!{WORD})", text)
 
 
 def unused(text):
@@ -30,39 +32,39 @@ def unused(text):
     return [name for name in names if not has(body, name)]
 
 
-def laws(path, text):
-    """The names of a file of laws, without the fields of its records."""
-    if "proofs" not in path.parts or path.name == "Proof.antt":
-        return
-    block = ""
-    for line in text.split("\n"):
+def uncited_at_home(text):
+    """What a file declares, but the fields of records, and cites nowhere but in the declaration itself."""
+    lines, record = text.split("\n"), False
+    for first, line in enumerate(lines):
         if line[:1].strip():
-            block = line
-        found = re.match(r"(?:  )?(?:pub )?(\S+) :", line)
-        if found and not re.match(r"(pub )?record ", block):
-            yield found[1]
+            record = re.match(r"(pub )?record ", line)
+        if not (found := DECLARED.match(line)) or (record and found[1]):
+            continue
+        name, end = found[2] or found[3], first + 1
+        while end < len(lines) and re.match(rf"\s*$|{found[1]}(\s|unfolding |{re.escape(name)}(?!{WORD}))", lines[end]):
+            end += 1
+        if not has("\n".join(lines[:first] + lines[end:]), name):
+            yield name
 
 
-def cited_at_home(text, name):
-    """Whether a line of the law's own file cites it: one that does not begin with it."""
-    return any(has(line, name) for line in text.split("\n") if not re.match(rf" *(pub )?{re.escape(name)}(?!{WORD})", line))
+def cites(texts, promises, crate, module):
+    """What may cite a module's names: the files that bring it in, and what the promises' lines on its crate have in backquotes."""
+    bringing = re.compile(rf"Rattle.{crate}(·\w+)?\.{re.escape(module)}[.\s]")
+    quoted = (re.findall(r"`([^`]+)`", line) for line in promises)
+    of_crate = [" ".join(spans) for spans in quoted if any(re.match(rf"{crate}(:|$)", span) for span in spans)]
+    return [text for text in texts if bringing.search(text)] + of_crate
 
 
 def main():
-    texts = {path: bare(path) for path in FILES}
-    words = {path: set(re.findall(f"{WORD}+", text)) for path, text in texts.items()}
-    promises = (ROOT / "docs/PROMISES.md").read_text()
+    texts = {path.relative_to(ROOT): bare(path) for path in FILES}
+    promises = (ROOT / "docs/PROMISES.md").read_text().split("\n")
     faults = []
     for path, text in texts.items():
-        where = path.relative_to(ROOT)
-        faults += [f"{where}: {name} is brought in and not used" for name in unused(text)]
-        faults += [
-            f"{where}: nothing cites {name}"
-            for name in laws(path, text)
-            if not any(name in words[other] for other in FILES if other != path)
-            and not cited_at_home(text, name)
-            and not re.search(rf"(?<![\w-]){re.escape(name)}(?![\w-])", promises)
-        ]
+        faults += [f"{path}: {name} is brought in and not used" for name in unused(text)]
+        names = [name for name in uncited_at_home(text) if not name.endswith("-spec")] if path.suffix == ".antt" else []
+        if names:
+            citing = cites(texts.values(), promises, path.parts[1], ".".join(path.with_suffix("").parts[2:]))
+            faults += [f"{path}: nothing cites {name}" for name in names if not any(has(text, name) for text in citing)]
     print("\n".join(faults) if faults else "names: all are used")
     sys.exit(bool(faults))
 

@@ -18,7 +18,10 @@ def source(crate):
 
 
 def declares(text, name):
-    return re.search(rf"(?<![\w-]){re.escape(name)}(?![\w-])", text)
+    """Whether a line begins with the declaration of this name, in specs/ and proofs/ or in src/."""
+    name = re.escape(name)
+    kind = r"(?:record|data|fn|struct|enum|const)"
+    return re.search(rf"(?m)^ *(?:abbrev |unfoldable |pub )*(?:{kind} {name}(?![\w-])|{name}(?: {{.*}})? :)", text)
 
 
 def missing(reference):
@@ -35,7 +38,7 @@ def missing(reference):
     text = "".join(path.read_text() for path in files) or source(crate)
     for name in ([first] if first else []) + items[1:] if files else items:
         other_file = (ROOT / f"crates/{crate}/specs/{name}.antt").exists()
-        if not other_file and not declares(text if files else source(crate), name.removesuffix("()").split("::")[-1]):
+        if not other_file and not declares(text, name.removesuffix("()").split("::")[-1]):
             yield name
 
 

@@ -1,6 +1,6 @@
 #!/usr/bin/env python3
-"""Calls on a lent book record, sound and damaged: the spread with 61 and 62, and 12 before any other refusal, for the
-program `record_vectors`.
+"""Calls on a lent book record, sound and damaged: the spread with 61 and 62, and 12 before any other refusal. host/check runs
+them, in C, by the library and by the plain implementation.
 
     python3 tools/record_vectors.py DIR
 
