@@ -1,10 +1,10 @@
 -- Counts put into a word: each is read back, every bit outside them stays, and the checksum touches none of them.
 -- Assumes nothing.
-use mathlib.Core.Path.{_≡_, refl, _∙_}
+use mathlib.Core.Path.{_≡_, refl, ap, _∙_}
 use mathlib.Core.Bool.{Bool, true, false, cond}
 use mathlib.Core.Logic.{_⊎_, inl, inr, ⊎-elim}
 use mathlib.Core.List.{List, [], _∷_}
-use Prim.Native.Nat.{ℕ, _+_, _^_, _≤_, _<_}
+use Prim.Native.Nat.{ℕ, suc, _+_, _^_, _≤_, _<_}
 use native.Mathlib.Omega.{arith}
 use lib.Dec.{eqb, leb}
 use lib.ListN.{length}
@@ -17,7 +17,8 @@ use Rattle.catalogue.specs.Class.{classOf}
 use Rattle.framing.specs.declared.Packing.{Packing}
 use Rattle.framing.specs.declared.Packing.the-variants.{Packed, TooWide, ReservedOrOutside}
 use Rattle.framing.specs.Messages.{checksumNumber}
-use Rattle.framing.specs.Packing.{packable, judged, put}
+use Rattle.framing.specs.Packing.{packable, judged}
+use Rattle.framing.specs.Putting.{put}
 use Rattle.framing.proofs.Sound.{BesideAll, Sound}
 
 -- ---- values that are judged good
@@ -52,6 +53,11 @@ accepted (p ∷ ps) [] n e = absurd (omega arith)
 accepted (p ∷ ps) (v ∷ vs) n e =
     accept p ps v vs (eqb (p .number) checksumNumber) (leb (2 ^ bitsOf (p .number)) v) (packable (classOf (p .number) (record { 0 = v }))) refl refl refl
     (accepted ps vs (omega arith)) e
+
+pub accepted-many : {ps : List Placement} {vs : List ℕ} → Accepted ps vs → length vs ≡ length ps
+accepted-many Accepted.none = refl
+accepted-many (Accepted.skip e a) = ap suc (accepted-many a)
+accepted-many (Accepted.fine n h k a) = ap suc (accepted-many a)
 
 passes : (a b c : Bool) (rest : Packing) → a ≡ false → b ≡ false → c ≡ true → cond a rest (cond b TooWide (cond c rest ReservedOrOutside)) ≡ rest
 passes a b c rest x y z = rw (x, y, z) refl

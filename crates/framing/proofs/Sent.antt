@@ -1,6 +1,6 @@
--- A packed frame holds every count at its place, the checksum where the message places it, and 1 in every other bit.
--- Assumes nothing.
-use mathlib.Core.Path.{_≡_, refl, sym, ap, _∙_}
+-- The frame that putting makes holds every count at its place, the checksum where the message places it, and 1 in every other bit:
+-- so it is the packed frame (`put-sent`). Assumes nothing.
+use mathlib.Core.Path.{_≡_, refl, sym, ap, _∙_, subst}
 use mathlib.Core.Bool.{Bool, true, false, _||_}
 use mathlib.Core.Logic.{_⊎_, inl, inr, ⊎-elim}
 use mathlib.Core.List.{List, [], _∷_}
@@ -16,12 +16,17 @@ use Rattle.bits.proofs.Weights.{read-bytes, bytes-bit, of-bytes}
 use Rattle.books.specs.Book.{Placement, Message, numbers}
 use Rattle.books.specs.Lines.{isIn}
 use Rattle.catalogue.specs.Find.{bitsOf}
+use Rattle.framing.specs.declared.Packing.{Packing}
+use Rattle.framing.specs.declared.Packing.the-variants.{Packed, NotABook, UnknownIdentifier, WrongCountOfValues, NotEightBytes, TooWide, ReservedOrOutside}
 use Rattle.framing.specs.Messages.{checksumNumber, checksumStart, checksumBits, placesChecksum}
-use Rattle.framing.specs.Packing.{allOnes, put, summed, packedFrame}
+use Rattle.framing.specs.Packing.{judged, packedFrame, packedOr}
+use Rattle.framing.specs.Putting.{allOnes, put, summed, putFrame}
 use Rattle.framing.specs.Packed.{Carries, Summed, Unplaced, IsPacked}
 use Rattle.framing.proofs.Sound.{Sound}
-use Rattle.framing.proofs.Putting.{Accepted, Off, put-keeps, put-lt, Has, put-has}
+use Rattle.framing.proofs.Putting.{Accepted, accepted, accepted-many, Off, put-keeps, put-lt, Has, put-has}
 use Rattle.framing.proofs.Summing.{check-bits, clear, placed-there, summed-lt, summed-keeps, summed-sum, summed-has}
+use Rattle.framing.proofs.PackedOnce.{packed-frame}
+use lib.ListN.{length}
 
 -- what a word has, its bytes carry
 carries : (w : ℕ) → w < 2 ^ 64 → {ps : List Placement} {vs : List ℕ} → Sound ps → Has w ps vs → Carries (bytesOf w) ps vs
@@ -90,9 +95,9 @@ module _ (m : Message) (vs : List ℕ) (s : Sound (m .placements)) (a : Accepted
       ∙ put-keeps allOnes k 1 a (unplaced-off k (m .placements) u)
       ∙ ones k 1 (omega arith)
 
-  pub is-packed : IsPacked m vs (packedFrame m vs)
-  unfolding packedFrame
-  is-packed =
+  put-packed : IsPacked m vs (putFrame m vs)
+  unfolding putFrame
+  put-packed =
       record {
         bytes = of-bytes Whole .many;
         small = of-bytes Whole .small;
@@ -101,7 +106,31 @@ module _ (m : Message) (vs : List ℕ) (s : Sound (m .placements)) (a : Accepted
         ones = bit-one;
       }
 
+  -- what putting makes is the frame that is sent
+  pub put-sent : putFrame m vs ≡ packedFrame m vs
+  put-sent = packed-frame m vs s (accepted-many a) (putFrame m vs) put-packed
+
+  pub is-packed : IsPacked m vs (packedFrame m vs)
+  is-packed = subst (IsPacked m vs) put-sent put-packed
+
+  put-checksum : placesChecksum (m .placements) ≡ true → countAt (putFrame m vs) checksumStart checksumBits ≡ checksumOf (m .identifier) (putFrame m vs)
+  unfolding putFrame
+  put-checksum e = read-bytes Whole checksumStart checksumBits whole-lt (lit≤ tt) ∙ summed-sum (m .identifier) Filled (m .placements) e
+
   -- the field at 503's place is the checksum of the frame
   pub own-checksum : placesChecksum (m .placements) ≡ true → countAt (packedFrame m vs) checksumStart checksumBits ≡ checksumOf (m .identifier) (packedFrame m vs)
-  unfolding packedFrame
-  own-checksum e = read-bytes Whole checksumStart checksumBits whole-lt (lit≤ tt) ∙ summed-sum (m .identifier) Filled (m .placements) e
+  own-checksum e = subst (λ (f : List ℕ). countAt f checksumStart checksumBits ≡ checksumOf (m .identifier) f) put-sent (put-checksum e)
+
+-- a good judgement or a refusal, the lent frame is left the same
+pub put-or : (m : Message) (vs lent : List ℕ) → Sound (m .placements) → length vs ≡ length (m .placements)
+    → packedOr (judged (m .placements) vs) (putFrame m vs) lent ≡ packedOr (judged (m .placements) vs) (packedFrame m vs) lent
+put-or m vs lent s n = go (judged (m .placements) vs) refl
+  where
+    go : (r : Packing) → judged (m .placements) vs ≡ r → packedOr r (putFrame m vs) lent ≡ packedOr r (packedFrame m vs) lent
+    go Packed e = put-sent m vs s (accepted (m .placements) vs n e)
+    go NotABook e = refl
+    go UnknownIdentifier e = refl
+    go WrongCountOfValues e = refl
+    go NotEightBytes e = refl
+    go TooWide e = refl
+    go ReservedOrOutside e = refl

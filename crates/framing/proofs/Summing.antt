@@ -18,7 +18,7 @@ use Rattle.books.specs.Lines.{isIn}
 use Rattle.catalogue.specs.Find.{bitsOf, rowOf}
 use Rattle.rows.specs.Rows.{rows}
 use Rattle.framing.specs.Messages.{checksumNumber, checksumStart, checksumBits, placesChecksum}
-use Rattle.framing.specs.Packing.{summed}
+use Rattle.framing.specs.Putting.{summed}
 use Rattle.framing.proofs.Sound.{Sits, Beside, BesideAll, Sound}
 use Rattle.framing.proofs.Putting.{Has}
 
