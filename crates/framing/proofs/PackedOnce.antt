@@ -1,4 +1,4 @@
--- What `IsPacked` says of a frame, bit by bit, holds of the packed frame and of no other. Assumes nothing.
+-- A frame of which `IsPacked` holds is the packed frame, bit by bit: so it holds of no other. Assumes nothing.
 use mathlib.Core.Path.{_≡_, refl, sym, ap, _∙_}
 use mathlib.Core.Bool.{Bool, true, false, cond, _&&_}
 use mathlib.Core.Logic.{_⊎_, inl, inr}

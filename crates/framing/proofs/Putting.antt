@@ -12,6 +12,7 @@ use borrow.Author.Tests.{eqb-true, eqb-false, eq-eqb, ne-eqb, lt-leb, leb-false}
 use Rattle.bits.specs.Word.{fieldOf, placed}
 use Rattle.bits.proofs.Placing.{read-back, beside, placed-lt}
 use Rattle.books.specs.Book.{Placement}
+use Rattle.books.specs.Lines.{frameBits}
 use Rattle.catalogue.specs.Find.{bitsOf}
 use Rattle.catalogue.specs.Class.{classOf}
 use Rattle.framing.specs.declared.Packing.{Packing}
@@ -91,14 +92,14 @@ put-keeps w t c (Accepted.fine {p} {ps} {v} {vs} n h k a) (Off.more o os) =
     rw (ne-eqb (p .number) checksumNumber n)
     (put-keeps (placed w (p .start) (bitsOf (p .number)) v) t c a os ∙ beside w (p .start) (bitsOf (p .number)) v h t c (o n))
 
--- and a word of 64 bits stays one
-pub put-lt : (w : ℕ) {ps : List Placement} {vs : List ℕ} → Sound ps → Accepted ps vs → w < 2 ^ 64 → put w ps vs < 2 ^ 64
+-- and a word of as many bits as a frame stays one
+pub put-lt : (w : ℕ) {ps : List Placement} {vs : List ℕ} → Sound ps → Accepted ps vs → w < 2 ^ frameBits → put w ps vs < 2 ^ frameBits
 unfolding put
 put-lt w s Accepted.none hw = hw
 put-lt w (Sound.more sits b s) (Accepted.skip {p} {ps} {v} {vs} e a) hw = rw (eq-eqb (p .number) checksumNumber e) (put-lt w s a hw)
 put-lt w (Sound.more sits b s) (Accepted.fine {p} {ps} {v} {vs} n h k a) hw =
     rw (ne-eqb (p .number) checksumNumber n)
-    (put-lt (placed w (p .start) (bitsOf (p .number)) v) s a (placed-lt w (p .start) (bitsOf (p .number)) v h 64 (sits .fits .inside) hw))
+    (put-lt (placed w (p .start) (bitsOf (p .number)) v) s a (placed-lt w (p .start) (bitsOf (p .number)) v h frameBits (sits .fits .inside) hw))
 
 -- ---- each count is read back
 

@@ -1,7 +1,7 @@
 -- Packing a frame by a book: refusals 12, 22, 25, 21, then the first bad position, 26 before 27 (503 is skipped), each leaving the lent
--- frame as it was; otherwise every count at its place, the checksum last, and 1 in every other bit. specs/Packed.antt says bit by bit
--- what that frame is; proofs/Sent.antt and proofs/PackedOnce.antt show that it is this one and no other. Assumes nothing: these are
--- definitions.
+-- frame as it was; otherwise each frame bit is the bit of the value placed there, that of 503 being the checksum, and 1 where no signal
+-- is placed. specs/Packed.antt says the same as what holds of a frame; proofs/Sent.antt and proofs/PackedOnce.antt show that it holds
+-- of this one and no other. specs/Putting.antt is how the code goes about it. Assumes nothing: these are definitions.
 use mathlib.Core.Bool.{Bool, true, false, cond, _&&_}
 use mathlib.Core.List.{List, [], _∷_, map}
 use mathlib.Core.Option.{Option, none, some}
@@ -81,6 +81,7 @@ byteOf bit i = weighed (λ j. bit (8 * i + j)) 8
 abbrev pub frameOf : (ℕ → ℕ) → List ℕ
 frameOf bit = map (byteOf bit) (0 ∷ 1 ∷ 2 ∷ 3 ∷ 4 ∷ 5 ∷ 6 ∷ 7 ∷ [])
 
+-- the frame that is sent of these values, with this checksum
 abbrev pub frameSent : ℕ → List Placement → List ℕ → List ℕ
 frameSent checksum ps vs = frameOf (bitSent checksum ps vs)
 

@@ -41,6 +41,6 @@ pub record Packable (ns ss vs : List ℕ) : Type 0 where
   pub many : length vs ≡ length ns
   pub fit : AllFit (placed ns ss)
 
--- values put into a frame of 8 bytes, as many as the message has placements, of which nothing says here that they lie apart
+-- values put into a frame of 8 bytes, as many as the message has placements, which need not lie apart
 abbrev pub packInto : Message → List ℕ → List ℕ → Packing × List ℕ
 packInto m vs lent = (judged (m .placements) vs, packedOr (judged (m .placements) vs) (putFrame m vs) lent)
