@@ -137,19 +137,6 @@ pub word-bytes : (frame : List ℕ) → Bytes 8 frame → bytesOf (wordOf frame)
 unfolding wordOf
 word-bytes frame b = back 8 frame b
 
-from-lt : (frame : List ℕ) → ((k : ℕ) → getD frame k 0 < 256) → (n i : ℕ) → wordFrom frame i n < 256 ^ n
-unfolding wordFrom
-from-lt frame small zero i = lit< tt
-from-lt frame small (suc n) i =
-    let h = from-lt frame small n (suc i) in
-    let h' = small i in
-    rw (pow-succ' 256 n) (omega arith)
-
--- a word has 64 bits
-pub word-lt : (frame : List ℕ) → ((k : ℕ) → getD frame k 0 < 256) → wordOf frame < 2 ^ 64
-unfolding wordOf
-word-lt frame small = from-lt frame small 8 0
-
 pub of-bytes : (w : ℕ) → Bytes 8 (bytesOf w)
 unfolding bytesFrom
 of-bytes w = record { many = refl; small = bytes-small 8 w }

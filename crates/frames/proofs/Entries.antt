@@ -10,6 +10,7 @@ use Rattle.bits.specs.Frame.{frameBytes}
 use Rattle.bits.specs.Word.{wordOf, bytesOf}
 use Rattle.bits.proofs.Weights.{word-bytes}
 use Rattle.books.specs.Book.{Message}
+use Rattle.books.specs.Good.{good}
 use Rattle.books.specs.Words.{placed, messagesOf, messagesTaken}
 use Rattle.framing.specs.declared.Reading.{Reading}
 use Rattle.framing.specs.declared.Reading.the-variants as Read
@@ -17,7 +18,9 @@ use Rattle.framing.specs.declared.Packing.{Packing}
 use Rattle.framing.specs.declared.Packing.the-variants as Pack
 use Rattle.framing.specs.Messages.{messageOf}
 use Rattle.framing.specs.Reading.{Slices, readByMessage, readByMessages, reading}
-use Rattle.framing.specs.Packing.{packByMessage, packing}
+use Rattle.framing.specs.Packing.{judged, packByMessage, packing}
+use Rattle.framing.proofs.Sound.{sound-message}
+use Rattle.framing.proofs.Sent.{put-or}
 use Rattle.record.specs.Columns.{numbersOf, startsOf}
 use Rattle.messages.specs.Signals.{AllFit, messageFrom, Readable}
 use Rattle.messages.specs.Put.{Packable, packInto}
@@ -64,9 +67,12 @@ module _ (ms : List Message) (identifier : ℕ) (vs lent : List ℕ) where
     unfolding packByMessage
     pack-short e n = rw (f, eq-eqb (length vs) (length (m .placements)) e, ne-eqb (length lent) frameBytes n) refl
 
-    pub pack-known : length vs ≡ length (m .placements) → length lent ≡ frameBytes → (out : Packing × List ℕ) → out ≡ packInto m vs lent → out ≡ packByMessage (messageOf identifier ms) vs lent
+    -- the message of a taken book: what is put is what is sent
+    pub pack-known : good ms ≡ true → length vs ≡ length (m .placements) → length lent ≡ frameBytes → (out : Packing × List ℕ) → out ≡ packInto m vs lent → out ≡ packByMessage (messageOf identifier ms) vs lent
     unfolding packByMessage
-    pack-known e n out h = rw (f, eq-eqb (length vs) (length (m .placements)) e, eq-eqb (length lent) frameBytes n) h
+    pack-known g e n out h =
+        rw (f, eq-eqb (length vs) (length (m .placements)) e, eq-eqb (length lent) frameBytes n)
+        (h ∙ ap (λ (x : List ℕ). (judged (m .placements) vs, x)) (put-or m vs lent (sound-message identifier ms m g f) e))
 
 -- ---- the test of the book
 

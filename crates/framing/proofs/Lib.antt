@@ -1,9 +1,10 @@
 pub mod Sound
 pub mod Classes
+pub mod FrameBits
+pub mod PackedOnce
 pub mod Putting
 pub mod Summing
 pub mod Sent
 pub mod Answers
 pub mod ReadBack
 pub mod PackAgain
-pub mod PackedOnce

@@ -1,10 +1,10 @@
 -- Counts put into a word: each is read back, every bit outside them stays, and the checksum touches none of them.
 -- Assumes nothing.
-use mathlib.Core.Path.{_≡_, refl, _∙_}
+use mathlib.Core.Path.{_≡_, refl, ap, _∙_}
 use mathlib.Core.Bool.{Bool, true, false, cond}
 use mathlib.Core.Logic.{_⊎_, inl, inr, ⊎-elim}
 use mathlib.Core.List.{List, [], _∷_}
-use Prim.Native.Nat.{ℕ, _+_, _^_, _≤_, _<_}
+use Prim.Native.Nat.{ℕ, suc, _+_, _^_, _≤_, _<_}
 use native.Mathlib.Omega.{arith}
 use lib.Dec.{eqb, leb}
 use lib.ListN.{length}
@@ -12,12 +12,14 @@ use borrow.Author.Tests.{eqb-true, eqb-false, eq-eqb, ne-eqb, lt-leb, leb-false}
 use Rattle.bits.specs.Word.{fieldOf, placed}
 use Rattle.bits.proofs.Placing.{read-back, beside, placed-lt}
 use Rattle.books.specs.Book.{Placement}
+use Rattle.books.specs.Lines.{frameBits}
 use Rattle.catalogue.specs.Find.{bitsOf}
 use Rattle.catalogue.specs.Class.{classOf}
 use Rattle.framing.specs.declared.Packing.{Packing}
 use Rattle.framing.specs.declared.Packing.the-variants.{Packed, TooWide, ReservedOrOutside}
 use Rattle.framing.specs.Messages.{checksumNumber}
-use Rattle.framing.specs.Packing.{packable, judged, put}
+use Rattle.framing.specs.Packing.{packable, judged}
+use Rattle.framing.specs.Putting.{put}
 use Rattle.framing.proofs.Sound.{BesideAll, Sound}
 
 -- ---- values that are judged good
@@ -53,6 +55,11 @@ accepted (p ∷ ps) (v ∷ vs) n e =
     accept p ps v vs (eqb (p .number) checksumNumber) (leb (2 ^ bitsOf (p .number)) v) (packable (classOf (p .number) (record { 0 = v }))) refl refl refl
     (accepted ps vs (omega arith)) e
 
+pub accepted-many : {ps : List Placement} {vs : List ℕ} → Accepted ps vs → length vs ≡ length ps
+accepted-many Accepted.none = refl
+accepted-many (Accepted.skip e a) = ap suc (accepted-many a)
+accepted-many (Accepted.fine n h k a) = ap suc (accepted-many a)
+
 passes : (a b c : Bool) (rest : Packing) → a ≡ false → b ≡ false → c ≡ true → cond a rest (cond b TooWide (cond c rest ReservedOrOutside)) ≡ rest
 passes a b c rest x y z = rw (x, y, z) refl
 
@@ -85,14 +92,14 @@ put-keeps w t c (Accepted.fine {p} {ps} {v} {vs} n h k a) (Off.more o os) =
     rw (ne-eqb (p .number) checksumNumber n)
     (put-keeps (placed w (p .start) (bitsOf (p .number)) v) t c a os ∙ beside w (p .start) (bitsOf (p .number)) v h t c (o n))
 
--- and a word of 64 bits stays one
-pub put-lt : (w : ℕ) {ps : List Placement} {vs : List ℕ} → Sound ps → Accepted ps vs → w < 2 ^ 64 → put w ps vs < 2 ^ 64
+-- and a word of as many bits as a frame stays one
+pub put-lt : (w : ℕ) {ps : List Placement} {vs : List ℕ} → Sound ps → Accepted ps vs → w < 2 ^ frameBits → put w ps vs < 2 ^ frameBits
 unfolding put
 put-lt w s Accepted.none hw = hw
 put-lt w (Sound.more sits b s) (Accepted.skip {p} {ps} {v} {vs} e a) hw = rw (eq-eqb (p .number) checksumNumber e) (put-lt w s a hw)
 put-lt w (Sound.more sits b s) (Accepted.fine {p} {ps} {v} {vs} n h k a) hw =
     rw (ne-eqb (p .number) checksumNumber n)
-    (put-lt (placed w (p .start) (bitsOf (p .number)) v) s a (placed-lt w (p .start) (bitsOf (p .number)) v h 64 (sits .fits .inside) hw))
+    (put-lt (placed w (p .start) (bitsOf (p .number)) v) s a (placed-lt w (p .start) (bitsOf (p .number)) v h frameBits (sits .fits .inside) hw))
 
 -- ---- each count is read back
 

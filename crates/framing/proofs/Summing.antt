@@ -14,11 +14,11 @@ use Rattle.bits.specs.Checksum.{checksumOf}
 use Rattle.bits.proofs.Placing.{read-back, beside, placed-lt}
 use Rattle.bits.proofs.Summing.{checksum-kept}
 use Rattle.books.specs.Book.{Placement, numbers}
-use Rattle.books.specs.Lines.{isIn}
+use Rattle.books.specs.Lines.{isIn, frameBits}
 use Rattle.catalogue.specs.Find.{bitsOf, rowOf}
 use Rattle.rows.specs.Rows.{rows}
 use Rattle.framing.specs.Messages.{checksumNumber, checksumStart, checksumBits, placesChecksum}
-use Rattle.framing.specs.Packing.{summed}
+use Rattle.framing.specs.Putting.{summed}
 use Rattle.framing.proofs.Sound.{Sits, Beside, BesideAll, Sound}
 use Rattle.framing.proofs.Putting.{Has}
 
@@ -90,16 +90,16 @@ module _ (identifier w : ℕ) where
   sum-kept : checksumOf identifier (bytesOf (placed w checksumStart checksumBits Sum)) ≡ Sum
   sum-kept = checksum-kept identifier w Sum sum-lt
 
-  pub summed-lt : (ps : List Placement) → w < 2 ^ 64 → summed identifier ps w < 2 ^ 64
+  pub summed-lt : (ps : List Placement) → w < 2 ^ frameBits → summed identifier ps w < 2 ^ frameBits
   unfolding summed
   summed-lt ps hw = go (placesChecksum ps)
     where
-      go : (t : Bool) → cond t (placed w checksumStart checksumBits Sum) w < 2 ^ 64
-      go true = placed-lt w checksumStart checksumBits Sum sum-lt 64 (lit≤ tt) hw
+      go : (t : Bool) → cond t (placed w checksumStart checksumBits Sum) w < 2 ^ frameBits
+      go true = placed-lt w checksumStart checksumBits Sum sum-lt frameBits (lit≤ tt) hw
       go false = hw
 
   -- a field that ends below it stays, and every field where the message does not place it
-  pub summed-keeps : (ps : List Placement) (t c : ℕ) → (placesChecksum ps ≡ true → (t + c ≤ checksumStart) ⊎ (64 ≤ t)) → fieldOf (summed identifier ps w) t c ≡ fieldOf w t c
+  pub summed-keeps : (ps : List Placement) (t c : ℕ) → (placesChecksum ps ≡ true → (t + c ≤ checksumStart) ⊎ (frameBits ≤ t)) → fieldOf (summed identifier ps w) t c ≡ fieldOf w t c
   unfolding summed
   summed-keeps ps t c h = go (placesChecksum ps) refl
     where

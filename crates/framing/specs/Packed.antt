@@ -1,4 +1,5 @@
--- What a packed frame is, bit by bit. Assumes nothing: these are definitions.
+-- What holds of a packed frame and of no other (proofs/Sent.antt, proofs/PackedOnce.antt): its counts, its checksum, its other bits.
+-- Assumes nothing: these are definitions.
 use mathlib.Core.Path.{_≡_}
 use mathlib.Core.Logic.{_⊎_}
 use mathlib.Core.List.{List, [], _∷_}

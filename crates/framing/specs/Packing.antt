@@ -1,18 +1,16 @@
 -- Packing a frame by a book: refusals 12, 22, 25, 21, then the first bad position, 26 before 27 (503 is skipped), each leaving the lent
--- frame as it was; otherwise every count at its place, the checksum last, and 1 in every other bit. specs/Packed.antt says bit by bit
--- what that frame is; proofs/Sent.antt and proofs/PackedOnce.antt show that it is this one and no other. Assumes nothing: these are
--- definitions.
-use mathlib.Core.Bool.{Bool, true, false, cond}
-use mathlib.Core.List.{List, [], _∷_}
+-- frame as it was; otherwise each frame bit is the bit of the value placed there, that of 503 being the checksum, and 1 where no signal
+-- is placed. specs/Packed.antt says the same as what holds of a frame; proofs/Sent.antt and proofs/PackedOnce.antt show that it holds
+-- of this one and no other. specs/Putting.antt is how the code goes about it. Assumes nothing: these are definitions.
+use mathlib.Core.Bool.{Bool, true, false, cond, _&&_}
+use mathlib.Core.List.{List, [], _∷_, map}
 use mathlib.Core.Option.{Option, none, some}
-use Prim.Native.Nat.{ℕ, _-_, _^_}
-use lib.Dec.{eqb, leb}
+use Prim.Native.Nat.{ℕ, zero, suc, _+_, _-_, _*_, _/_, _%_, _^_}
+use lib.Dec.{eqb, leb, ltb}
 use lib.ListN.{length}
 use Rattle.books.specs.Book.{Placement, Message}
-use Rattle.books.specs.Lines.{frameBits}
 use Rattle.books.specs.Words.{messagesOf, messagesTaken}
 use Rattle.bits.specs.Frame.{frameBytes}
-use Rattle.bits.specs.Word.{bytesOf, placed}
 use Rattle.bits.specs.Checksum.{checksumOf}
 use Rattle.catalogue.specs.Find.{bitsOf}
 use Rattle.catalogue.specs.Class.{classOf}
@@ -20,7 +18,7 @@ use Rattle.catalogue.specs.declared.Class.{Class}
 use Rattle.catalogue.specs.declared.Class.the-variants as Of
 use Rattle.framing.specs.declared.Packing.{Packing}
 use Rattle.framing.specs.declared.Packing.the-variants.{Packed, NotABook, UnknownIdentifier, WrongCountOfValues, NotEightBytes, TooWide, ReservedOrOutside}
-use Rattle.framing.specs.Messages.{checksumNumber, checksumStart, checksumBits, messageOf, placesChecksum}
+use Rattle.framing.specs.Messages.{checksumNumber, messageOf}
 
 -- document 01's number for each answer; 0 is no refusal
 abbrev pub packingNumber : Packing → ℕ
@@ -53,28 +51,43 @@ judged (p ∷ ps) (v ∷ vs) =
     (cond (packable (classOf (p .number) (record { 0 = v }))) (judged ps vs)
     ReservedOrOutside))
 
--- the word of a frame whose every bit is 1
-abbrev pub allOnes : ℕ
-allOnes = 2 ^ frameBits - 1
+-- ---- the frame that is sent, bit by bit
 
--- the word w with each value but that of 503 at its place
-unfoldable pub put : ℕ → List Placement → List ℕ → ℕ
-put w [] vs = w
-put w (p ∷ ps) [] = w
-put w (p ∷ ps) (v ∷ vs) =
-    cond (eqb (p .number) checksumNumber) (put w ps vs)
-    (put (placed w (p .start) (bitsOf (p .number)) v) ps vs)
+-- the placement has frame bit k: its weight 2^j is at frame bit start + j
+abbrev pub holds : Placement → ℕ → Bool
+holds p k = leb (p .start) k && ltb k (p .start + bitsOf (p .number))
 
--- and with the checksum, where the message places it
-unfoldable pub summed : ℕ → List Placement → ℕ → ℕ
-summed identifier ps w =
-    cond (placesChecksum ps)
-    (placed w checksumStart checksumBits (checksumOf identifier (bytesOf w)))
-    w
+-- the value that is sent: of 503 the checksum, whatever is given
+abbrev pub valueSent : ℕ → Placement → ℕ → ℕ
+valueSent checksum p v = cond (eqb (p .number) checksumNumber) checksum v
 
--- the frame that is sent: every count put into a frame of ones, the checksum last
+-- what is sent at frame bit k: the bit of the value placed there, and 1 where none is placed
+unfoldable pub bitSent : ℕ → List Placement → List ℕ → ℕ → ℕ
+bitSent checksum [] vs k = 1
+bitSent checksum (p ∷ ps) [] k = 1
+bitSent checksum (p ∷ ps) (v ∷ vs) k =
+    cond (holds p k) (valueSent checksum p v / 2 ^ (k - p .start) % 2)
+    (bitSent checksum ps vs k)
+
+-- the number of these n bits, bit j by its weight 2^j
+unfoldable pub weighed : (ℕ → ℕ) → ℕ → ℕ
+weighed bit zero = 0
+weighed bit (suc j) = weighed bit j + bit j * 2 ^ j
+
+-- the frame of these frame bits: bit j of byte i is frame bit 8 i + j
+abbrev pub byteOf : (ℕ → ℕ) → ℕ → ℕ
+byteOf bit i = weighed (λ j. bit (8 * i + j)) 8
+
+abbrev pub frameOf : (ℕ → ℕ) → List ℕ
+frameOf bit = map (byteOf bit) (0 ∷ 1 ∷ 2 ∷ 3 ∷ 4 ∷ 5 ∷ 6 ∷ 7 ∷ [])
+
+-- the frame that is sent of these values, with this checksum
+abbrev pub frameSent : ℕ → List Placement → List ℕ → List ℕ
+frameSent checksum ps vs = frameOf (bitSent checksum ps vs)
+
+-- 503 is filled last, with the checksum of the frame, which does not look at 503's own bits: they are 0 till then
 unfoldable pub packedFrame : Message → List ℕ → List ℕ
-packedFrame m vs = bytesOf (summed (m .identifier) (m .placements) (put allOnes (m .placements) vs))
+packedFrame m vs = frameSent (checksumOf (m .identifier) (frameSent 0 (m .placements) vs)) (m .placements) vs
 
 -- values that are judged good are packed, others leave the frame as lent
 abbrev pub packedOr : Packing → List ℕ → List ℕ → List ℕ

@@ -18,7 +18,8 @@ use Rattle.catalogue.specs.Class.{classOf}
 use Rattle.framing.specs.declared.Packing.{Packing}
 use Rattle.framing.specs.declared.Packing.the-variants as Answer
 use Rattle.framing.specs.Messages.{checksumNumber, checksumStart, checksumBits}
-use Rattle.framing.specs.Packing.{packable, allOnes, judged, put, summed, packedFrame}
+use Rattle.framing.specs.Packing.{packable, judged}
+use Rattle.framing.specs.Putting.{allOnes, put, summed, putFrame}
 use Rattle.messages.specs.Signals.{summedWord, messageFrom}
 use Rattle.messages.specs.declared.packing.Put.{Put}
 use Rattle.messages.specs.declared.packing.Put.the-variants.{Word, TooWide, ReservedOrOutside}
@@ -146,7 +147,7 @@ module _ (identifier : ℕ) (ns ss vs lent : List ℕ) where
 
   pub was-packed : length ss ≡ length ns → (word : ℕ) → putAll (Word allOnes) (placed ns ss) vs ≡ Word word → (frame : List ℕ) → frame ≡ bytesOf (summedWord identifier word ns)
       → _≡_ {A = Packing × List ℕ} (Answer.Packed, frame) (packInto M vs lent)
-  unfolding packedFrame summed summedWord
+  unfolding putFrame summed summedWord
   was-packed same word e frame f =
       let h : judged (placed ns ss) vs ≡ Answer.Packed = sym (judged-all (placed ns ss) vs allOnes) ∙ ap judgement e in
       let w : word ≡ put allOnes (placed ns ss) vs = word-all (placed ns ss) vs word allOnes e in

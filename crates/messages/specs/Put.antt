@@ -1,5 +1,5 @@
 -- Packing as the code goes through it: one signal after another, until one is refused. proofs/Packs.antt says that this is what
--- crate `framing` calls judged and put. Assumes nothing: these are definitions.
+-- crate `framing` calls judged and, on its working side, put. Assumes nothing: these are definitions.
 use mathlib.Core.Path.{_≡_}
 use mathlib.Core.Bool.{cond}
 use mathlib.Core.List.{List, [], _∷_}
@@ -13,7 +13,8 @@ use Rattle.catalogue.specs.Find.{bitsOf}
 use Rattle.catalogue.specs.Class.{classOf}
 use Rattle.framing.specs.declared.Packing.{Packing}
 use Rattle.framing.specs.Messages.{checksumNumber}
-use Rattle.framing.specs.Packing.{packable, judged, packedFrame, packedOr}
+use Rattle.framing.specs.Packing.{packable, judged, packedOr}
+use Rattle.framing.specs.Putting.{putFrame}
 use Rattle.messages.specs.Signals.{AllFit}
 use Rattle.messages.specs.declared.packing.Put.{Put}
 use Rattle.messages.specs.declared.packing.Put.the-variants.{Word, TooWide, ReservedOrOutside}
@@ -40,6 +41,6 @@ pub record Packable (ns ss vs : List ℕ) : Type 0 where
   pub many : length vs ≡ length ns
   pub fit : AllFit (placed ns ss)
 
--- values packed into a frame of 8 bytes, as many as the message has placements
+-- values put into a frame of 8 bytes, as many as the message has placements, which need not lie apart
 abbrev pub packInto : Message → List ℕ → List ℕ → Packing × List ℕ
-packInto m vs lent = (judged (m .placements) vs, packedOr (judged (m .placements) vs) (packedFrame m vs) lent)
+packInto m vs lent = (judged (m .placements) vs, packedOr (judged (m .placements) vs) (putFrame m vs) lent)

@@ -3,6 +3,7 @@
 use mathlib.Core.Path.{sym, subst, _∙_}
 use native.Mathlib.Omega.{arith}
 use Rattle.books.specs.Words.{messagesOf}
+use Rattle.books.proofs.Columns.{taken-stands}
 use Rattle.frames.specs.Lookup.{Finds, Spans}
 use Rattle.frames.specs.declared.lookup.Found.{Found}
 use Rattle.frames.proofs.Entries.{found, packable, many, pack-unknown, pack-count, pack-short, pack-known}
@@ -81,6 +82,7 @@ returns-4 c = let a = c .before .before .before .before .before .before .before 
     let s = spans (c .before .before .before .before .before .before .before .before .before .before .before) in
     pack-known (messagesOf (a .book .now)) (a .identifier) (a .values .now) (a .frame .now) _
     (found _ _ _ _ s _ _ (c .before .before .before .before .before .before .before .numbers .ensures .0) (c .before .before .before .before .before .before .starts .ensures .0))
+    (taken-stands (a .book .now) (c .before .before .before .before .before .before .before .before .before .before .before .before .before .before .before .before .pre) .1)
     (c .before .before .before .before .before .before .before .before .before .if1 .left ∙ sym (many _ _ _ _ s _ _ (c .before .before .before .before .before .before .before .numbers .ensures .0) (c .before .before .before .before .before .before .starts .ensures .0))) (c .before .before .before .before .before .before .before .before .if2 .left) _ (c .before .before .pack-message .ensures)
 
 pub pack-tested-spec : {M : Type 1} → statement M

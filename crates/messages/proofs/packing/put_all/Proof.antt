@@ -7,7 +7,7 @@ use native.Mathlib.Omega.{arith}
 use lib.ListN.{length, drop}
 use borrow.Author.Needs.{needs}
 use Rattle.books.specs.Words.{placed}
-use Rattle.framing.specs.Packing.{allOnes}
+use Rattle.framing.specs.Putting.{allOnes}
 use Rattle.messages.specs.Signals.{AllFit}
 use Rattle.messages.specs.declared.packing.Put.{Put}
 use Rattle.messages.specs.declared.packing.Put.the-variants.{Word}
