@@ -60,6 +60,10 @@ same-bits : (o : Option Row) → bitsIn o ≡ bitsIn (forget o)
 same-bits none = refl
 same-bits (some r) = refl
 
-pub bits-by-shape : (n : ℕ) → bitsOf n ≡ bitsIn (rowShaped (shapeOf n))
+bits-by-shape : (n : ℕ) → bitsIn (rowShaped (shapeOf n)) ≡ bitsOf n
 unfolding bitsOf
-bits-by-shape n = same-bits (rowOf n) ∙ ap bitsIn (by-shape n)
+bits-by-shape n = sym (same-bits (rowOf n) ∙ ap bitsIn (by-shape n))
+
+-- the bits of a signal's shape are its own
+pub shaped-bits : (n s : ℕ) {b : ℕ} → s ≡ shapeOf n → b ≡ bitsIn (rowShaped s) → b ≡ bitsOf n
+shaped-bits n s e h = h ∙ ap (λ (m : ℕ). bitsIn (rowShaped m)) e ∙ bits-by-shape n

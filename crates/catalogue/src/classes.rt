@@ -179,7 +179,7 @@ fn no_mark(bits: u32, resolution: u16, offset: i32, lowest: u32, highest: u32, r
 }
 
 // The class of a count by the signal's shape. Each arm is a shape of specs/Shapes.antt.
-fn class_by(shape: u8, raw: Raw) -> Class
+pub fn class_shaped(shape: usize, raw: Raw) -> Class
     ensures { λ r. ⌜ r ≡ classFor (rowShaped shape) raw ⌝ }
 {
     match shape {
@@ -257,5 +257,5 @@ fn class_by(shape: u8, raw: Raw) -> Class
 pub fn class_of(number: u32, raw: Raw) -> Class
     ensures { λ r. ⌜ r ≡ classOf number raw ⌝ }
 {
-    class_by(shape_of(number), raw)
+    class_shaped(shape_of(number), raw)
 }

@@ -1,11 +1,15 @@
 // The signal catalogue of the 199 signals of QC/T 1201.5-2023: by a signal's number, how many bits it has and what a raw
-// count of it stands for. No function here has a `requires`; a number that no signal has is answered too.
+// count of it stands for. No function here has a `requires`; a number that no signal has is answered too. Who asks for both takes
+// the signal's shape once and goes on by that.
 mod classes;
 mod shapes;
 mod widths;
 
 pub use classes::class_of;
+pub use classes::class_shaped;
+pub use shapes::shape_of;
 pub use widths::bits_of;
+pub use widths::bits_shaped;
 
 // A raw count, as a frame carries it.
 pub struct Raw(pub u32);

@@ -1,10 +1,11 @@
 // The shape of a signal: rows that differ in the number alone have the same. A const array is built anew at every read,
-// so what is asked for each signal goes by `match`, which becomes a jump; the contracts tie it to the catalogue.
+// so what is asked for each signal goes by `match`, which becomes a jump; the contracts tie it to the catalogue. This is the
+// one list of the signals' numbers; bits and class go by the shape.
 ghost use mathlib.Core.Path.{_≡_};
 ghost use Rattle.catalogue.specs.Shapes.{shapeOf};
 
 // The shape of a signal: 37 where the catalogue has no such signal.
-pub fn shape_of(number: u32) -> u8
+pub fn shape_of(number: u32) -> usize
     ensures { λ r. ⌜ r ≡ shapeOf number ⌝ }
 {
     match number {

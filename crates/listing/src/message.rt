@@ -38,8 +38,9 @@ fn put_signals(
     let mut i: usize = 0;
     while i < numbers.len() {
         let number = numbers[i];
-        let raw = bits::take(word, starts[i], catalogue::bits_of(number));
-        let class = catalogue::class_of(number, Raw(raw));
+        let shape = catalogue::shape_of(number);
+        let raw = bits::take(word, starts[i], catalogue::bits_shaped(shape));
+        let class = catalogue::class_shaped(shape, Raw(raw));
         next = put_signal(&mut *out, next, identifier, number, class);
         i += 1;
     }

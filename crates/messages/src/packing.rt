@@ -58,11 +58,12 @@ fn put_one(word: u64, number: u32, start: u32, value: u32) -> Put
     if number == CHECKSUM {
         return Put::Word(word);
     }
-    let bits = catalogue::bits_of(number);
+    let shape = catalogue::shape_of(number);
+    let bits = catalogue::bits_shaped(shape);
     if is_too_wide(bits, value) {
         return Put::TooWide;
     }
-    if is_packable(catalogue::class_of(number, Raw(value))) {
+    if is_packable(catalogue::class_shaped(shape, Raw(value))) {
         return Put::Word(bits::place(word, start, bits, value));
     }
     Put::ReservedOrOutside

@@ -32,9 +32,9 @@ pub fn read_signals(
 {
     let mut i: usize = 0;
     while i < numbers.len() {
-        let number = numbers[i];
-        let raw = bits::take(word, starts[i], catalogue::bits_of(number));
-        let class = catalogue::class_of(number, Raw(raw));
+        let shape = catalogue::shape_of(numbers[i]);
+        let raw = bits::take(word, starts[i], catalogue::bits_shaped(shape));
+        let class = catalogue::class_shaped(shape, Raw(raw));
         raws[i] = raw;
         classes[i] = code_of(class);
         thousandths[i] = thousandths_of(class);

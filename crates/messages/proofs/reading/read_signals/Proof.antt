@@ -1,6 +1,3 @@
-use Rattle.catalogue.specs.Class.{classOf}
-use Rattle.framing.specs.Reading.{classCode, thousandthsOf}
-use Rattle.bits.specs.Word.{Fits, fieldOf}
 -- `messages::reading::read_signals` meets its contract: at each turn, writing what is left gives the final lists.
 -- Assumes nothing.
 use mathlib.Core.Path.{_≡_, refl, ap, _∙_, subst⁻¹}
@@ -12,6 +9,11 @@ use mir.ValLaws.{toZ-ofZ}
 use lib.ListN.{length, getD}
 use lib.IntN.{ℤ}
 use borrow.Author.Needs.{needs}
+use Rattle.bits.specs.Word.{Fits, fieldOf}
+use Rattle.catalogue.specs.Class.{classOf}
+use Rattle.framing.specs.Reading.{classCode, thousandthsOf}
+use Rattle.catalogue.proofs.Shaped.{shaped-bits}
+use Rattle.catalogue.proofs.Classing.{shaped-class}
 use Rattle.messages.specs.Signals.{AllFit, rawIn, classFrom, codeIn, readingIn}
 use Rattle.messages.proofs.Steps.{rest, placementAt, fits-at, fits-on, Writing, write-more, write-none, write-length}
 use Rattle.messages.proofs.reading.read_signals.Statement.{statement}
@@ -33,11 +35,11 @@ abbrev μ-loop : tie.MeasureT-loop
 loop-holds : tie.Need-loop-holds Inv-loop μ-loop
 loop-holds c = record { bound = omega arith; fit = c .before .before .before .before .pre .fit; in-raws = refl; in-classes = refl; in-thousandths = refl }
 
-mul-number : tie.Need-mul-number Inv-loop μ-loop
-mul-number c = search needs
+mul-shape-of : tie.Need-mul-shape-of Inv-loop μ-loop
+mul-shape-of c = search needs
 
-shared-slice-read-number : tie.Need-shared-slice-read-number Inv-loop μ-loop
-shared-slice-read-number c = search needs
+shared-slice-read-shape-of : tie.Need-shared-slice-read-shape-of Inv-loop μ-loop
+shared-slice-read-shape-of c = search needs
 
 mul-take : tie.Need-mul-take Inv-loop μ-loop
 mul-take c = search needs
@@ -45,26 +47,29 @@ mul-take c = search needs
 shared-slice-read-take : tie.Need-shared-slice-read-take Inv-loop μ-loop
 shared-slice-read-take c = omega arith
 
-bits-of-requires : tie.Need-bits-of-requires Inv-loop μ-loop
-bits-of-requires c κs = search needs
+shape-of-requires : tie.Need-shape-of-requires Inv-loop μ-loop
+shape-of-requires c κs = search needs
+
+bits-shaped-requires : tie.Need-bits-shaped-requires Inv-loop μ-loop
+bits-shaped-requires c κs = search needs
 
 take-requires : tie.Need-take-requires Inv-loop μ-loop
-take-requires c κs = subst⁻¹ (λ (b : ℕ). Fits (getD (c .before .before .before .before .before .before .before .before .before .args .starts .now) (c .before .before .before .before .loop .i) 0) b) (c .bits-of .ensures) (fits-at (c .before .before .before .before .before .before .before .before .before .args .numbers .now) (c .before .before .before .before .before .before .before .before .before .args .starts .now) (c .before .before .before .before .loop .i) (c .before .before .before .loop-test .taken) (c .before .before .before .before .before .before .before .before .before .pre .same) (c .before .before .before .before .loop .inv .fit))
+take-requires c κs = subst⁻¹ (λ (b : ℕ). Fits (getD (c .before .before .before .before .before .before .before .before .before .before .args .starts .now) (c .before .before .before .before .before .loop .i) 0) b) (shaped-bits _ _ (c .before .before .shape-of .ensures) (c .bits-shaped .ensures)) (fits-at (c .before .before .before .before .before .before .before .before .before .before .args .numbers .now) (c .before .before .before .before .before .before .before .before .before .before .args .starts .now) (c .before .before .before .before .before .loop .i) (c .before .before .before .before .loop-test .taken) (c .before .before .before .before .before .before .before .before .before .before .pre .same) (c .before .before .before .before .before .loop .inv .fit))
 
-class-of-requires : tie.Need-class-of-requires Inv-loop μ-loop
-class-of-requires c κs = search needs
+class-shaped-requires : tie.Need-class-shaped-requires Inv-loop μ-loop
+class-shaped-requires c κs = search needs
 
 mul-raws : tie.Need-mul-raws Inv-loop μ-loop
 mul-raws c = search needs
 
 slice-write-raws : tie.Need-slice-write-raws Inv-loop μ-loop
-slice-write-raws c = omega (arith, c .before .before .before .before .before .before .before .before .before .before .before .pre .raw-room, write-length (rawIn (c .before .before .before .before .before .before .before .before .before .before .before .args .word)) (c .before .before .before .before .before .before .before .before .before .before .before .args .raws .now) (c .before .before .before .before .before .before .before .before .before .before .before .args .numbers .now) (c .before .before .before .before .before .before .before .before .before .before .before .args .starts .now) (c .before .before .before .before .before .before .loop .raws) (c .before .before .before .before .before .before .loop .i) (c .before .before .before .before .before .before .loop .inv .in-raws))
+slice-write-raws c = omega (arith, c .before .before .before .before .before .before .before .before .before .before .before .before .pre .raw-room, write-length (rawIn (c .before .before .before .before .before .before .before .before .before .before .before .before .args .word)) (c .before .before .before .before .before .before .before .before .before .before .before .before .args .raws .now) (c .before .before .before .before .before .before .before .before .before .before .before .before .args .numbers .now) (c .before .before .before .before .before .before .before .before .before .before .before .before .args .starts .now) (c .before .before .before .before .before .before .before .loop .raws) (c .before .before .before .before .before .before .before .loop .i) (c .before .before .before .before .before .before .before .loop .inv .in-raws))
 
 code-of-requires : tie.Need-code-of-requires Inv-loop μ-loop
 code-of-requires c κs = search needs
 
 slice-write-classes : tie.Need-slice-write-classes Inv-loop μ-loop
-slice-write-classes c = omega (arith, c .before .before .before .before .before .before .before .before .before .before .before .before .pre .class-room, write-length (codeIn (c .before .before .before .before .before .before .before .before .before .before .before .before .args .word)) (c .before .before .before .before .before .before .before .before .before .before .before .before .args .classes .now) (c .before .before .before .before .before .before .before .before .before .before .before .before .args .numbers .now) (c .before .before .before .before .before .before .before .before .before .before .before .before .args .starts .now) (c .before .before .before .before .before .before .before .loop .classes) (c .before .before .before .before .before .before .before .loop .i) (c .before .before .before .before .before .before .before .loop .inv .in-classes))
+slice-write-classes c = omega (arith, c .before .before .before .before .before .before .before .before .before .before .before .before .before .pre .class-room, write-length (codeIn (c .before .before .before .before .before .before .before .before .before .before .before .before .before .args .word)) (c .before .before .before .before .before .before .before .before .before .before .before .before .before .args .classes .now) (c .before .before .before .before .before .before .before .before .before .before .before .before .before .args .numbers .now) (c .before .before .before .before .before .before .before .before .before .before .before .before .before .args .starts .now) (c .before .before .before .before .before .before .before .before .loop .classes) (c .before .before .before .before .before .before .before .before .loop .i) (c .before .before .before .before .before .before .before .before .loop .inv .in-classes))
 
 thousandths-of-requires : tie.Need-thousandths-of-requires Inv-loop μ-loop
 thousandths-of-requires c κs = search needs
@@ -73,7 +78,7 @@ mul-t11 : tie.Need-mul-t11 Inv-loop μ-loop
 mul-t11 c = search needs
 
 slice-set-from-thousandths : tie.Need-slice-set-from-thousandths Inv-loop μ-loop
-slice-set-from-thousandths c = omega (arith, c .before .before .before .before .before .before .before .before .before .before .before .before .before .pre .thousandth-room, write-length (readingIn (c .before .before .before .before .before .before .before .before .before .before .before .before .before .args .word)) (c .before .before .before .before .before .before .before .before .before .before .before .before .before .args .thousandths .now) (c .before .before .before .before .before .before .before .before .before .before .before .before .before .args .numbers .now) (c .before .before .before .before .before .before .before .before .before .before .before .before .before .args .starts .now) (c .before .before .before .before .before .before .before .before .loop .thousandths) (c .before .before .before .before .before .before .before .before .loop .i) (c .before .before .before .before .before .before .before .before .loop .inv .in-thousandths))
+slice-set-from-thousandths c = omega (arith, c .before .before .before .before .before .before .before .before .before .before .before .before .before .before .pre .thousandth-room, write-length (readingIn (c .before .before .before .before .before .before .before .before .before .before .before .before .before .before .args .word)) (c .before .before .before .before .before .before .before .before .before .before .before .before .before .before .args .thousandths .now) (c .before .before .before .before .before .before .before .before .before .before .before .before .before .before .args .numbers .now) (c .before .before .before .before .before .before .before .before .before .before .before .before .before .before .args .starts .now) (c .before .before .before .before .before .before .before .before .before .loop .thousandths) (c .before .before .before .before .before .before .before .before .before .loop .i) (c .before .before .before .before .before .before .before .before .before .loop .inv .in-thousandths))
 
 add-i : tie.Need-add-i Inv-loop μ-loop
 add-i c = search needs
@@ -82,14 +87,14 @@ loop-less : tie.Need-loop-less Inv-loop μ-loop
 loop-less c = omega arith
 
 loop-again : tie.Need-loop-again Inv-loop μ-loop
-loop-again c = let a = c .before .before .before .before .before .before .before .before .before .before .before .before .before .args in
-    let l = c .before .before .before .before .before .before .before .before .loop in
+loop-again c = let a = c .before .before .before .before .before .before .before .before .before .before .before .before .before .before .args in
+    let l = c .before .before .before .before .before .before .before .before .before .loop in
     let ns = a .numbers .now in
     let ss = a .starts .now in
-    let h = c .before .before .before .before .before .before .before .loop-test .taken in
-    let e = c .before .before .before .before .before .before .before .before .before .before .before .before .before .pre .same in
-    let raw : c .before .before .before .take .result ≡ rawIn (a .word) (placementAt ns ss (l .i)) = c .before .before .before .take .ensures ∙ ap (λ (b : ℕ). fieldOf (a .word) (getD ss (l .i) 0) b) (c .before .before .before .before .bits-of .ensures) in
-    let class : c .before .before .class-of .result ≡ classFrom (a .word) (placementAt ns ss (l .i)) = c .before .before .class-of .ensures ∙ ap (λ (x : ℕ). classOf (getD ns (l .i) 0) (record { 0 = x })) raw in
+    let h = c .before .before .before .before .before .before .before .before .loop-test .taken in
+    let e = c .before .before .before .before .before .before .before .before .before .before .before .before .before .before .pre .same in
+    let raw : c .before .before .before .take .result ≡ rawIn (a .word) (placementAt ns ss (l .i)) = c .before .before .before .take .ensures ∙ ap (λ (b : ℕ). fieldOf (a .word) (getD ss (l .i) 0) b) (shaped-bits _ _ (c .before .before .before .before .before .before .shape-of .ensures) (c .before .before .before .before .bits-shaped .ensures)) in
+    let class : c .before .before .class-shaped .result ≡ classFrom (a .word) (placementAt ns ss (l .i)) = shaped-class _ _ _ (c .before .before .before .before .before .before .shape-of .ensures) (c .before .before .class-shaped .ensures) ∙ ap (λ (x : ℕ). classOf (getD ns (l .i) 0) (record { 0 = x })) raw in
     record {
       bound = omega arith;
       fit = fits-on ns ss (l .i) h e (l .inv .fit);
@@ -121,13 +126,14 @@ read-signals-spec =
     Inv-loop
     μ-loop
     loop-holds
-    mul-number
-    shared-slice-read-number
+    mul-shape-of
+    shared-slice-read-shape-of
+    shape-of-requires
     mul-take
     shared-slice-read-take
-    bits-of-requires
+    bits-shaped-requires
     take-requires
-    class-of-requires
+    class-shaped-requires
     mul-raws
     slice-write-raws
     code-of-requires

@@ -1,30 +1,27 @@
--- `catalogue::classes::class_by` meets its contract: each arm does the work on the row of its shape, and what is left for
+-- `catalogue::classes::class_shaped` meets its contract: each arm does the work on the row of its shape, and what is left for
 -- `_` is no shape. Assumes nothing.
 use mathlib.Core.Path.{_≡_, sym, ap, subst}
-use mathlib.Core.Option.{Option, none, some}
-use mathlib.Core.List.{map}
+use mathlib.Core.Option.{Option}
 use Prim.Native.Nat.{ℕ}
 use borrow.Author.Needs.{needs}
 use Rattle.rows.specs.declared.Row.{Row}
 use Rattle.catalogue.specs.declared.Raw.{Raw}
 use Rattle.catalogue.specs.declared.Class.{Class}
-use Rattle.catalogue.specs.Shapes.{shapes, noShape, rowShaped}
+use Rattle.catalogue.specs.Shapes.{rowShaped}
 use Rattle.catalogue.specs.Class.{classFor}
-use Rattle.catalogue.proofs.Arms.{beyond, past}
-use Rattle.catalogue.proofs.classes.class_by.Statement.{statement}
-use Rattle.catalogue.proofs.classes.class_by.Tie as tie
+use Rattle.catalogue.proofs.Arms.{no-shape}
+use Rattle.catalogue.proofs.classes.class_shaped.Statement.{statement}
+use Rattle.catalogue.proofs.classes.class_shaped.Tie as tie
 
 -- the class in the row of the arm's shape is that in the row of the shape, which is the same
 arm : (k s : ℕ) (raw : Raw) (r : Class) → s ≡ k → r ≡ classFor (rowShaped k) raw → r ≡ classFor (rowShaped s) raw
 arm k s raw r e h = subst (λ (m : ℕ). r ≡ classFor (rowShaped m) raw) (sym e) h
 
-no-shape : tie.Need-returns-38
-no-shape c =
-    let s = c .before .args .shape in
-    sym (ap (λ (o : Option Row). classFor o (c .before .args .raw)) (past (map some shapes) s none (beyond noShape s (c .match .rest))))
+left : tie.Need-returns-38
+left c = ap (λ (o : Option Row). classFor o (c .before .args .raw)) (no-shape (c .before .args .shape) (c .match .rest))
 
-pub class-by-spec : {M : Type 1} → statement M
-class-by-spec =
+pub class-shaped-spec : {M : Type 1} → statement M
+class-shaped-spec =
     tie.close
     (tie.spec
     (λ c κs. search needs)
@@ -101,4 +98,4 @@ class-by-spec =
     (λ c. arm 34 _ _ _ (c .before .match .keys35) (c .no-mark15 .ensures))
     (λ c. arm 35 _ _ _ (c .before .match .keys36) (c .no-mark16 .ensures))
     (λ c. arm 36 _ _ _ (c .before .match .keys37) (c .no-mark17 .ensures))
-    no-shape)
+    left)
