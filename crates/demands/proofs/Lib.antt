@@ -1,5 +1,9 @@
+pub mod LineNumbers
+pub mod LineRefusals
+pub mod LowestLines
 pub mod Refusals
+pub mod OneRoute
 pub mod RouteTables
 pub mod Spreading
-pub mod LineNumbers
+pub mod Frames
 pub mod StandIns

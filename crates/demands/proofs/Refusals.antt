@@ -1,27 +1,29 @@
 -- Demand 3: a book is refused for a loop exactly when some chain of routes returns to the place it left, for doubling exactly when none does
--- but two different chains join the same two places, otherwise taken. Over every text whose lines pass. Assumes nothing.
+-- but two different chains join the same two places, otherwise taken. Over every text: its routes are those of its R lines, and where its
+-- lines don't pass, exactly there, the refusal is one of 1 to 9. Assumes nothing.
 use mathlib.Core.Path.{_≡_, refl, sym, _∙_, subst}
 use Prim.Native.Nat.{ℕ}
 use native.Mathlib.Omega.{arith}
 use mathlib.Core.List.{List}
 use lib.ListN.{getD}
 use Rattle.chains.specs.Chain.{OnClosed, LoopFree, BeginsDoubling, Single}
-use Rattle.answers.specs.Numbers.{Said, taken, refused}
+use Rattle.answers.specs.Numbers.{Said}
 use Rattle.books.specs.Book.{Book, Route}
 use Rattle.reading.specs.Reading.{Outcome, passed}
 use Rattle.reading.specs.Reading as lines
 use Rattle.reading.specs.Taken.{froms, tos}
 use Rattle.book.specs.Answered.{Passes, Answered, too-long, bad-line, closed-chain, two-chains, taken-with}
-use Rattle.demands.specs.Loops.{Returns, Doubles, RefusedWith, IsTaken}
+use Rattle.demands.specs.Text.{textRoutes}
+use Rattle.demands.specs.Loops.{Returns, Doubles, LinesPass, Loops, OnlyDoubles, Otherwise, RefusedWith, RefusedBefore, IsTaken}
+use Rattle.demands.proofs.LineNumbers.{routes-of-text}
+use Rattle.demands.proofs.LineRefusals.{line-low, apart, not-taken}
 
--- what the answer to a text whose lines pass is, by its routes
-pub data Answer (b : Book) (s : Said) : Type 0 where
-  loop : Returns (b .routes) → RefusedWith 10 s → Answer b s
-  doubling : LoopFree (froms (b .routes)) (tos (b .routes)) → Doubles (b .routes) → RefusedWith 11 s → Answer b s
-  sound : LoopFree (froms (b .routes)) (tos (b .routes)) → Single (froms (b .routes)) (tos (b .routes)) → IsTaken s → Answer b s
-
-same-book : {b c : Book} {at to : List ℕ} {o : Outcome} → o ≡ passed b at → o ≡ passed c to → b ≡ c
-same-book e f = cc
+-- what a text is answered with, by its lines and its routes
+data Answer (text : List ℕ) (s : Said) : Type 0 where
+  before : (LinesPass text → ⊥) → RefusedBefore s → Answer text s
+  loop : Loops text → RefusedWith 10 s → Answer text s
+  doubling : OnlyDoubles text → RefusedWith 11 s → Answer text s
+  sound : Otherwise text → IsTaken s → Answer text s
 
 not-refused : {b : Book} {at : List ℕ} {why n : ℕ} {o : Outcome} → o ≡ passed b at → o ≡ lines.refused why n → ⊥
 not-refused e f = let z : _≡_ {A = ℕ} 0 1 = cc in omega arith
@@ -29,66 +31,127 @@ not-refused e f = let z : _≡_ {A = ℕ} 0 1 = cc in omega arith
 returns : (rs : List Route) (i : ℕ) → OnClosed (froms rs) (tos rs) i → Returns rs
 returns rs i (p, c, h, m) = record { place = p; chain = c; closed = h }
 
+none-returns : (rs : List Route) → LoopFree (froms rs) (tos rs) → Returns rs → ⊥
+none-returns rs free r = free (r .place) (r .chain) (r .closed)
+
 doubles : (rs : List Route) (i : ℕ) → BeginsDoubling (froms rs) (tos rs) i → Doubles rs
 doubles rs i (p, q, c, d, h) = record { start = p; end = q; chain = _; another = d; both = h }
 
-pub answer : (text : List ℕ) (b : Book) (at : List ℕ) (s : Said) (w : List ℕ) → Passes text b at → Answered text s w → Answer b s
-answer text b at s w p (too-long h) = absurd (omega (arith, p .short, h))
-answer text b at s w p (bad-line h e) = absurd (not-refused (p .read) e)
-answer text b at s w p (closed-chain {b = c} {at = to} {i = i} q l) =
-    subst (λ (x : Book). Answer x (refused 10 (getD to i 0))) (same-book (q .read) (p .read)) (loop (returns (c .routes) i (l .0)) (record { line = getD to i 0; is = refl }))
-answer text b at s w p (two-chains {b = c} {at = to} {i = i} q free l) =
-    subst (λ (x : Book). Answer x (refused 11 (getD to i 0))) (same-book (q .read) (p .read)) (doubling free (doubles (c .routes) i (l .0)) (record { line = getD to i 0; is = refl }))
-answer text b at s w p (taken-with {b = c} t) =
-    subst (λ (x : Book). Answer x s) (same-book (t .read) (p .read)) (sound (t .sound .loop-free) (t .sound .single) (record { messages = _; signals = _; routes = _; is = refl }))
+none-doubles : (rs : List Route) → Single (froms rs) (tos rs) → Doubles rs → ⊥
+none-doubles rs single d = single (d .start) (d .end) (d .chain) (d .another) (d .both)
 
--- the three answers are different
-apart : (a b m n : ℕ) → (a ≡ b → ⊥) → refused a m ≡ refused b n → ⊥
-apart a b m n ne e = let z : a ≡ b = cc in ne z
+-- what holds of the routes that the reader keeps holds of the text's
+of-text : (text : List ℕ) {b : Book} {at : List ℕ} (P : List Route → Type 0) → Passes text b at → P (b .routes) → P (textRoutes text)
+of-text text P p h = subst P (routes-of-text text (p .read)) h
 
-never-both : (a m x y z : ℕ) → refused a m ≡ taken x y z → ⊥
-never-both a m x y z e = let o : _≡_ {A = ℕ} 0 1 = cc in omega arith
+answer : (text : List ℕ) (s : Said) (w : List ℕ) → Answered text s w → Answer text s
+answer text s w (too-long h) =
+    before (λ l. omega (arith, l .passes .short, h)) (record { why = 1; some = omega arith; low = omega arith; refused = record { line = 0; is = refl } })
+answer text s w (bad-line {why = why} {n = n} h e) =
+    let l = line-low text why n e in
+    before (λ p. not-refused (p .passes .read) e) (record { why = why; some = omega (arith, l .least); low = l .most; refused = record { line = n; is = refl } })
+answer text s w (closed-chain {b = b} {at = at} {i = i} p l) =
+    loop
+    (record { passes = record { book = b; at = at; passes = p }; returns = of-text text Returns p (returns (b .routes) i (l .0)) })
+    (record { line = getD at i 0; is = refl })
+answer text s w (two-chains {b = b} {at = at} {i = i} p free l) =
+    doubling
+    (record {
+      passes = record { book = b; at = at; passes = p };
+      none-returns = of-text text (λ (rs : List Route). Returns rs → ⊥) p (none-returns (b .routes) free);
+      doubles = of-text text Doubles p (doubles (b .routes) i (l .0));
+    })
+    (record { line = getD at i 0; is = refl })
+answer text s w (taken-with {b = b} t) =
+    let p : Passes text b (t .at) = record { short = t .short; read = t .read } in
+    sound
+    (record {
+      passes = record { book = b; at = t .at; passes = p };
+      none-returns = of-text text (λ (rs : List Route). Returns rs → ⊥) p (none-returns (b .routes) (t .sound .loop-free));
+      none-doubles = of-text text (λ (rs : List Route). Doubles rs → ⊥) p (none-doubles (b .routes) (t .sound .single));
+    })
+    (record { messages = _; signals = _; routes = _; is = refl })
 
-module _ (text : List ℕ) (b : Book) (at : List ℕ) (s : Said) (w : List ℕ) (p : Passes text b at) (a : Answered text s w) where
+-- no two of them are one answer
+not-both : {a b : ℕ} {s : Said} → (a ≡ b → ⊥) → RefusedWith a s → RefusedWith b s → ⊥
+not-both ne x y = apart ne (sym (x .is) ∙ y .is)
+
+not-and-taken : {a : ℕ} {s : Said} → RefusedWith a s → IsTaken s → ⊥
+not-and-taken x y = not-taken (sym (y .is) ∙ x .is)
+
+module _ (text : List ℕ) (s : Said) (w : List ℕ) (a : Answered text s w) where
   -- for a loop, exactly when some chain returns to the place it left
-  pub loop-refused : Returns (b .routes) → RefusedWith 10 s
-  loop-refused r = go (answer text b at s w p a)
+  pub loop-refused : Loops text → RefusedWith 10 s
+  loop-refused l = go (answer text s w a)
     where
-      go : Answer b s → RefusedWith 10 s
-      go (loop _ h) = h
-      go (doubling free _ _) = absurd (free (r .place) (r .chain) (r .closed))
-      go (sound free _ _) = absurd (free (r .place) (r .chain) (r .closed))
+      go : Answer text s → RefusedWith 10 s
+      go (before none _) = absurd (none (l .passes))
+      go (loop _ r) = r
+      go (doubling h _) = absurd (h .none-returns (l .returns))
+      go (sound h _) = absurd (h .none-returns (l .returns))
 
-  pub refused-loop : RefusedWith 10 s → Returns (b .routes)
-  refused-loop r = go (answer text b at s w p a)
+  pub refused-loop : RefusedWith 10 s → Loops text
+  refused-loop r = go (answer text s w a)
     where
-      go : Answer b s → Returns (b .routes)
+      go : Answer text s → Loops text
+      go (before _ x) = absurd (not-both (λ e. omega (arith, x .low, e)) (x .refused) r)
       go (loop h _) = h
-      go (doubling _ _ h) = absurd (apart 10 11 (r .line) (h .line) (λ e. omega arith) (sym (r .is) ∙ h .is))
-      go (sound _ _ h) = absurd (never-both 10 (r .line) (h .messages) (h .signals) (h .routes) (sym (r .is) ∙ h .is))
+      go (doubling _ x) = absurd (not-both (λ e. omega arith) r x)
+      go (sound _ x) = absurd (not-and-taken r x)
 
   -- for doubling, exactly when none does but two different chains join the same two places
-  pub doubling-refused : (Returns (b .routes) → ⊥) → Doubles (b .routes) → RefusedWith 11 s
-  doubling-refused none d = go (answer text b at s w p a)
+  pub doubling-refused : OnlyDoubles text → RefusedWith 11 s
+  doubling-refused f = go (answer text s w a)
     where
-      go : Answer b s → RefusedWith 11 s
-      go (loop h _) = absurd (none h)
-      go (doubling _ _ h) = h
-      go (sound _ single _) = absurd (single (d .start) (d .end) (d .chain) (d .another) (d .both))
+      go : Answer text s → RefusedWith 11 s
+      go (before none _) = absurd (none (f .passes))
+      go (loop h _) = absurd (f .none-returns (h .returns))
+      go (doubling _ r) = r
+      go (sound h _) = absurd (h .none-doubles (f .doubles))
 
-  pub refused-doubling : RefusedWith 11 s → (Returns (b .routes) → ⊥) × Doubles (b .routes)
-  refused-doubling r = go (answer text b at s w p a)
+  pub refused-doubling : RefusedWith 11 s → OnlyDoubles text
+  refused-doubling r = go (answer text s w a)
     where
-      go : Answer b s → (Returns (b .routes) → ⊥) × Doubles (b .routes)
-      go (loop _ h) = absurd (apart 10 11 (h .line) (r .line) (λ e. omega arith) (sym (h .is) ∙ r .is))
-      go (doubling free h _) = (λ c. free (c .place) (c .chain) (c .closed), h)
-      go (sound _ _ h) = absurd (never-both 11 (r .line) (h .messages) (h .signals) (h .routes) (sym (r .is) ∙ h .is))
+      go : Answer text s → OnlyDoubles text
+      go (before _ x) = absurd (not-both (λ e. omega (arith, x .low, e)) (x .refused) r)
+      go (loop _ x) = absurd (not-both (λ e. omega arith) x r)
+      go (doubling h _) = h
+      go (sound _ x) = absurd (not-and-taken r x)
 
-  -- otherwise taken
-  pub otherwise-taken : (Returns (b .routes) → ⊥) → (Doubles (b .routes) → ⊥) → IsTaken s
-  otherwise-taken none single = go (answer text b at s w p a)
+  -- otherwise taken, and only then
+  pub otherwise-taken : Otherwise text → IsTaken s
+  otherwise-taken o = go (answer text s w a)
     where
-      go : Answer b s → IsTaken s
-      go (loop h _) = absurd (none h)
-      go (doubling _ h _) = absurd (single h)
-      go (sound _ _ h) = h
+      go : Answer text s → IsTaken s
+      go (before none _) = absurd (none (o .passes))
+      go (loop h _) = absurd (o .none-returns (h .returns))
+      go (doubling h _) = absurd (o .none-doubles (h .doubles))
+      go (sound _ r) = r
+
+  pub taken-otherwise : IsTaken s → Otherwise text
+  taken-otherwise t = go (answer text s w a)
+    where
+      go : Answer text s → Otherwise text
+      go (before _ x) = absurd (not-and-taken (x .refused) t)
+      go (loop _ x) = absurd (not-and-taken x t)
+      go (doubling _ x) = absurd (not-and-taken x t)
+      go (sound h _) = h
+
+  -- where the lines of the text don't pass, exactly there, it is refused with one of 1 to 9
+  pub before-refused : (LinesPass text → ⊥) → RefusedBefore s
+  before-refused none = go (answer text s w a)
+    where
+      go : Answer text s → RefusedBefore s
+      go (before _ r) = r
+      go (loop h _) = absurd (none (h .passes))
+      go (doubling h _) = absurd (none (h .passes))
+      go (sound h _) = absurd (none (h .passes))
+
+  pub refused-before : RefusedBefore s → LinesPass text → ⊥
+  refused-before r p = go (answer text s w a)
+    where
+      go : Answer text s → ⊥
+      go (before none _) = none p
+      go (loop _ x) = not-both (λ e. omega (arith, r .low, e)) (r .refused) x
+      go (doubling _ x) = not-both (λ e. omega (arith, r .low, e)) (r .refused) x
+      go (sound _ x) = not-and-taken (r .refused) x

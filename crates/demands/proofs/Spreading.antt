@@ -1,4 +1,5 @@
--- Demand 3: from any place, the spread by a taken book lists every place that a chain reaches, each once, nothing else. Assumes nothing.
+-- Demand 3: from any place, the spread by the book of a taken text lists every place that a chain of the text's routes reaches, each once,
+-- nothing else. Assumes nothing.
 use mathlib.Core.Path.{_≡_, refl, sym, ap, _∙_, subst}
 use Prim.Native.Nat.{ℕ, _≤_}
 use native.Mathlib.Omega.{arith}
@@ -18,7 +19,9 @@ use Rattle.reading.proofs.Passing.{read-built}
 use Rattle.reading.proofs.Counts.{Routed, text-routed}
 use Rattle.routes.specs.Listed.{Lists}
 use Rattle.routes.proofs.Listed.{listed}
+use Rattle.demands.specs.Text.{textRoutes}
 use Rattle.demands.specs.Loops.{Spread}
+use Rattle.demands.proofs.LineNumbers.{routes-of-text}
 use Rattle.demands.proofs.RouteTables.{starts-are, ends-are, stand-taken, words-routes, words-long}
 
 module _ (text : List ℕ) (b : Book) (t : TakenWith text b) where
@@ -51,11 +54,12 @@ module _ (text : List ℕ) (b : Book) (t : TakenWith text b) where
       (subst (λ (fs : List ℕ). Lists fs (endPlaces (wordsOf b)) (placeKey bus identifier) (take n after)) (starts-are (wordsOf b) (b .routes) (routed .few) stands)
       (listed (wordsOf b) (words-long b (built-good (read-built text (t .read))) (routed .few)) bus identifier room n after a))
 
-  -- with room enough the call refuses nothing
-  pub spread-of-taken : (bus identifier : ℕ) → IsPlace bus identifier → (room : List ℕ) → length (b .routes) ≤ length room
-      → (s : Sent) (after : List ℕ) → Answer (wordsOf b) bus identifier room s after → Spread (b .routes) (placeKey bus identifier) s after
+  -- with room for as many places as the text has routes the call refuses nothing
+  pub spread-of-taken : (bus identifier : ℕ) → IsPlace bus identifier → (room : List ℕ) → length (textRoutes text) ≤ length room
+      → (s : Sent) (after : List ℕ) → Answer (wordsOf b) bus identifier room s after → Spread (textRoutes text) (placeKey bus identifier) s after
   spread-of-taken bus identifier p room h sent.NotABook after a = absurd (a .0 is-taken)
   spread-of-taken bus identifier p room h sent.NoSuchPlace after a = absurd (a .1 p)
-  spread-of-taken bus identifier p room h sent.NoRoom after a = absurd (omega (arith, a .2, spread-small (placeKey bus identifier)))
+  spread-of-taken bus identifier p room h sent.NoRoom after a = absurd (omega (arith, a .2, spread-small (placeKey bus identifier), ap length (routes-of-text text (t .read))))
   spread-of-taken bus identifier p room h (sent.Places n) after a =
-      record { count = n; is = refl; lists = by-routes bus identifier room n after a }
+      subst (λ (rs : List Route). Spread rs (placeKey bus identifier) (sent.Places n) after) (routes-of-text text (t .read))
+      (record { count = n; is = refl; lists = by-routes bus identifier room n after a })

@@ -1,20 +1,43 @@
--- "under 10 A either way": the raw counts 19,901 to 20,099 are those whose reading, raw x 100 - 2,000,000 thousandths, is nearer to 0 than 10,000. Assumes nothing.
+-- "under 10 A either way": the raw counts 19,901 to 20,099 are those that the catalogue, as counts of 203, reads to a value nearer to 0 than
+-- 10,000 thousandths. Assumes nothing.
 use mathlib.Core.Path.{_≡_, refl}
-use mathlib.Core.Bool.{Bool, true, false, _&&_}
-use Prim.Native.Nat.{ℕ, _*_, _+_, _-_}
+use mathlib.Core.Bool.{Bool, true, false, cond, _&&_}
+use Prim.Native.Nat.{ℕ, suc, _*_, _-_}
 use native.Mathlib.Omega.{arith}
-use borrow.Author.Tests.{leb-true, leb-false, lt-ltb, le-ltb}
+use borrow.Author.Tests.{leb-true, leb-false, ltb-true, ltb-false, lt-ltb, le-ltb}
 use lib.Dec.{leb, ltb}
+use lib.IntN.{pos, negsuc, negℤ}
+use lib.Signed.{ltZ}
+use Rattle.catalogue.specs.declared.Class.{Class}
+use Rattle.catalogue.specs.declared.Class.the-variants.{Value, Invalid, Absent, Error, Reserved, Outside, NotInCatalogue, TooWide}
+use Rattle.catalogue.specs.Class.{classOf}
 use Rattle.power.specs.Observed.{under10A}
+use Rattle.power.proofs.Readings.{count, current-203}
 
--- raw x 100 lies between -10 A and 10 A, 2,000,000 being 0 A
-abbrev within : ℕ → Bool
-within scaled = ltb (2000000 - 10000) scaled && ltb scaled (2000000 + 10000)
+-- the class is a value, of more than -10 A and less than 10 A
+abbrev pub valueUnder10A : Class → Bool
+valueUnder10A (Value t) = ltZ (negℤ (pos 10000)) (t .0) && ltZ (t .0) (pos 10000)
+valueUnder10A (Invalid raw) = false
+valueUnder10A (Absent raw) = false
+valueUnder10A (Error raw) = false
+valueUnder10A (Reserved raw) = false
+valueUnder10A (Outside raw) = false
+valueUnder10A NotInCatalogue = false
+valueUnder10A TooWide = false
 
-pub either-way : (raw : ℕ) → under10A raw ≡ within (raw * 100)
-either-way raw = go (leb 19901 raw) (leb raw 20099) refl refl
+pub either-way : (raw : ℕ) → under10A raw ≡ valueUnder10A (classOf 203 (count raw))
+either-way raw = rw (current-203 raw) (go (ltb raw 65535) (ltb (raw * 100) 2000000) (leb 65536 raw) (leb 19901 raw) (leb raw 20099) refl refl refl refl)
   where
-    go : (low high : Bool) → leb 19901 raw ≡ low → leb raw 20099 ≡ high → low && high ≡ within (raw * 100)
-    go true true p q = simp (lt-ltb 1990000 (raw * 100) (omega (arith, leb-true 19901 raw p)), lt-ltb (raw * 100) 2010000 (omega (arith, leb-true raw 20099 q)))
-    go true false p q = simp (lt-ltb 1990000 (raw * 100) (omega (arith, leb-true 19901 raw p)), le-ltb (raw * 100) 2010000 (omega (arith, leb-false raw 20099 q)))
-    go false high p q = simp (le-ltb 1990000 (raw * 100) (omega (arith, leb-false 19901 raw p)))
+    go : (value negative wide low high : Bool) → ltb raw 65535 ≡ value → ltb (raw * 100) 2000000 ≡ negative → leb 19901 raw ≡ low → leb raw 20099 ≡ high
+        → low && high ≡ valueUnder10A (cond value (Value (record { 0 = cond negative (negsuc (2000000 - suc (raw * 100))) (pos (raw * 100 - 2000000)) })) (cond wide TooWide (Invalid (count raw))))
+    go true true w true true v n l h = simp (lt-ltb (2000000 - suc (raw * 100)) 9999 (omega (arith, ltb-true (raw * 100) 2000000 n, leb-true 19901 raw l)))
+    go true true w false true v n l h = simp (le-ltb (2000000 - suc (raw * 100)) 9999 (omega (arith, ltb-true (raw * 100) 2000000 n, leb-false 19901 raw l)))
+    go true true w l false v n e h = absurd (omega (arith, ltb-true (raw * 100) 2000000 n, leb-false raw 20099 h))
+    go true false w true true v n l h = simp (lt-ltb (raw * 100 - 2000000) 10000 (omega (arith, ltb-false (raw * 100) 2000000 n, leb-true raw 20099 h)))
+    go true false w true false v n l h = simp (le-ltb (raw * 100 - 2000000) 10000 (omega (arith, ltb-false (raw * 100) 2000000 n, leb-false raw 20099 h)))
+    go true false w false h v n l e = absurd (omega (arith, ltb-false (raw * 100) 2000000 n, leb-false 19901 raw l))
+    go false n w l true v e f h = absurd (omega (arith, ltb-false raw 65535 v, leb-true raw 20099 h))
+    go false n true true false v e f h = refl
+    go false n true false false v e f h = refl
+    go false n false true false v e f h = refl
+    go false n false false false v e f h = refl

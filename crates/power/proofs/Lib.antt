@@ -3,6 +3,6 @@ pub mod Numbers
 pub mod Answers
 pub mod Leading
 pub mod Urgent
-pub mod Currents
 pub mod Readings
+pub mod Currents
 pub mod Worked

@@ -1,4 +1,5 @@
--- "both voltages valid": a count of 201 or 202 is valid where the catalogue classes it as a value. Assumes nothing.
+-- What the catalogue makes of the counts of 201, 202 and 203. "both voltages valid": a count of 201 or 202 is valid where it is classed
+-- as a value. Assumes nothing.
 use mathlib.Core.Path.{_≡_, refl}
 use mathlib.Core.Bool.{Bool, true, false, cond, _&&_}
 use mathlib.Core.Option.{some}
@@ -6,26 +7,26 @@ use Prim.Native.Nat.{ℕ, _*_}
 use native.Mathlib.Omega.{arith}
 use borrow.Author.Tests.{ltb-true, ltb-false, leb-true, leb-false, le-leb, lt-leb}
 use lib.Dec.{leb, ltb}
-use lib.IntN.{pos, _+ℤ_}
+use lib.IntN.{ℤ, pos, _+ℤ_}
 use Rattle.rows.specs.declared.Row.{Row}
 use Rattle.catalogue.specs.declared.Raw.{Raw}
 use Rattle.catalogue.specs.declared.Class.{Class}
 use Rattle.catalogue.specs.declared.Class.the-variants.{Value, Invalid, TooWide}
-use Rattle.rows.specs.Rows.{rows, row, plus, invalid, unmarked}
+use Rattle.rows.specs.Rows.{rows, row, plus, minus, invalid, unmarked}
 use Rattle.catalogue.specs.Find.{rowOf}
 use Rattle.catalogue.specs.Class.{classOf, classFor, between}
 use Rattle.power.specs.Observed.{highestReading, invalidVoltage, valid}
 
-abbrev count : ℕ → Raw
+abbrev pub count : ℕ → Raw
 count raw = record { 0 = raw }
 
--- the row of both voltages but for its number: 16 bits of 0.1 V each, and 65,535 the mark invalid
-abbrev voltage : ℕ → Row
-voltage n = row n 16 100 (plus 0) 0 highestReading (invalid invalidVoltage invalidVoltage) unmarked unmarked
+-- the rows of the three but for number and offset: 16 bits of 0.1 V or 0.1 A each, and 65,535 the mark invalid
+abbrev measured : ℕ → ℤ → Row
+measured n offset = row n 16 100 offset 0 highestReading (invalid invalidVoltage invalidVoltage) unmarked unmarked
 
 -- what a count of such a signal stands for
-abbrev pub voltageClass : ℕ → Class
-voltageClass raw = cond (valid raw) (Value (record { 0 = pos (raw * 100) +ℤ plus 0 })) (cond (leb 65536 raw) TooWide (Invalid (count raw)))
+abbrev pub measuredClass : ℤ → ℕ → Class
+measuredClass offset raw = cond (valid raw) (Value (record { 0 = pos (raw * 100) +ℤ offset })) (cond (leb 65536 raw) TooWide (Invalid (count raw)))
 
 no-mark : (raw : ℕ) → leb 1 raw && leb raw 0 ≡ false
 no-mark raw = go (leb 1 raw) refl
@@ -34,21 +35,25 @@ no-mark raw = go (leb 1 raw) refl
     go true e = lt-leb raw 0 (omega (arith, leb-true 1 raw e))
     go false e = refl
 
-class-of : (n raw : ℕ) → classFor (some (voltage n)) (count raw) ≡ voltageClass raw
+class-of : (n : ℕ) (offset : ℤ) (raw : ℕ) → classFor (some (measured n offset)) (count raw) ≡ measuredClass offset raw
 unfolding between
-class-of n raw = go (ltb raw 65535) (leb 65536 raw) refl refl
+class-of n offset raw = go (ltb raw 65535) (leb 65536 raw) refl refl
   where
-    go : (v w : Bool) → ltb raw 65535 ≡ v → leb 65536 raw ≡ w → classFor (some (voltage n)) (count raw) ≡ cond v (Value (record { 0 = pos (raw * 100) +ℤ plus 0 })) (cond w TooWide (Invalid (count raw)))
+    go : (v w : Bool) → ltb raw 65535 ≡ v → leb 65536 raw ≡ w → classFor (some (measured n offset)) (count raw) ≡ cond v (Value (record { 0 = pos (raw * 100) +ℤ offset })) (cond w TooWide (Invalid (count raw)))
     go true w e f =
         simp (lt-leb 65536 raw (omega (arith, ltb-true raw 65535 e)), lt-leb 65535 raw (omega (arith, ltb-true raw 65535 e)), no-mark raw, le-leb 0 raw (omega arith), le-leb raw 65535 (omega (arith, ltb-true raw 65535 e)))
     go false true e f = simp f
     go false false e f =
         simp (f, le-leb 65535 raw (ltb-false raw 65535 e), le-leb raw 65535 (omega (arith, leb-false 65536 raw f)))
 
-pub inside-201 : (raw : ℕ) → classOf 201 (count raw) ≡ voltageClass raw
+pub inside-201 : (raw : ℕ) → classOf 201 (count raw) ≡ measuredClass (plus 0) raw
 unfolding classOf rowOf rows
-inside-201 raw = class-of 201 raw
+inside-201 raw = class-of 201 (plus 0) raw
 
-pub outside-202 : (raw : ℕ) → classOf 202 (count raw) ≡ voltageClass raw
+pub outside-202 : (raw : ℕ) → classOf 202 (count raw) ≡ measuredClass (plus 0) raw
 unfolding classOf rowOf rows
-outside-202 raw = class-of 202 raw
+outside-202 raw = class-of 202 (plus 0) raw
+
+pub current-203 : (raw : ℕ) → classOf 203 (count raw) ≡ measuredClass (minus 2000000) raw
+unfolding classOf rowOf rows
+current-203 raw = class-of 203 (minus 2000000) raw

@@ -1,4 +1,4 @@
--- What lines that pass are counted to: the book's counts are counts of lines, and each route has the number of its R line. Assumes nothing.
+-- What lines that pass are counted to: the book's counts are counts of lines, and the line numbers kept are those of the R lines. Assumes nothing.
 use mathlib.Core.Path.{_≡_, sym, ap, _∙_, subst}
 use Prim.Native.Nat.{ℕ, suc, _+_, _≤_, _<_}
 use native.Mathlib.Omega.{arith}
