@@ -4,19 +4,12 @@ use faults::Answer;
 use faults::FaultSum;
 use libc::STDIN_FILENO;
 use libc::STDOUT_FILENO;
-use numerals::Number;
+use numerals::identifier_or_0;
 
 const MOST_LINES: u32 = 1000000;
 
 // The most counts on a line.
 const MOST: usize = 32;
-
-fn hex(digits: &[u8]) -> u32 {
-    match numerals::read_identifier(digits) {
-        Number::Is(n) => n,
-        Number::Not => 0,
-    }
-}
 
 fn print(n: u32) {
     io::write_all(STDOUT_FILENO, b"\t");
@@ -58,7 +51,7 @@ fn counts_on(line: [u8; 257]) -> [u32; 32] {
     while i < MOST {
         let at = 8 * i;
         let end = at + 8;
-        counts[i] = hex(&line[at..end]);
+        counts[i] = identifier_or_0(&line[at..end]);
         i += 1;
     }
     counts
@@ -85,7 +78,7 @@ fn main() {
         if io::read_full(STDIN_FILENO, &mut head) < 2 {
             return;
         }
-        let n = hex(&[b'0', b'0', b'0', b'0', b'0', b'0', head[0], head[1]]) as usize;
+        let n = identifier_or_0(&[b'0', b'0', b'0', b'0', b'0', b'0', head[0], head[1]]) as usize;
         if MOST < n {
             return;
         }

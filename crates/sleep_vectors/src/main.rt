@@ -3,18 +3,11 @@
 // watch after it, or `no` and the refusal.
 use libc::STDIN_FILENO;
 use libc::STDOUT_FILENO;
-use numerals::Number;
+use numerals::identifier_or_0;
 use sleep::Answer;
 use sleep::Watch;
 
 const MOST_LINES: u32 = 1000000;
-
-fn hex(digits: &[u8]) -> u32 {
-    match numerals::read_identifier(digits) {
-        Number::Is(n) => n,
-        Number::Not => 0,
-    }
-}
 
 fn print(watch: Watch) {
     if watch.asleep {
@@ -47,7 +40,7 @@ fn main() {
         if io::read_full(STDIN_FILENO, &mut line) < 10 {
             return;
         }
-        let time = hex(&line[1..9]);
+        let time = identifier_or_0(&line[1..9]);
         let letter = line[0];
         if letter == b'N' {
             watch = Watch::new(time);
