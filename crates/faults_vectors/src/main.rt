@@ -11,6 +11,9 @@ const MOST_LINES: u32 = 1000000;
 // The most counts on a line.
 const MOST: usize = 32;
 
+// The longest line after its count: 32 counts and the newline.
+const LINE: usize = 257;
+
 fn print(n: u32) {
     io::write_all(STDOUT_FILENO, b"\t");
     io::print_decimal(STDOUT_FILENO, n as u64);
@@ -45,8 +48,8 @@ fn sum(counts: &[u32]) {
 }
 
 // The counts of a line, eight digits each. Past the last stands what an earlier line left.
-fn counts_on(line: [u8; 257]) -> [u32; 32] {
-    let mut counts = [0u32; 32];
+fn counts_on(line: [u8; LINE]) -> [u32; MOST] {
+    let mut counts = [0u32; MOST];
     let mut i: usize = 0;
     while i < MOST {
         let at = 8 * i;
@@ -71,7 +74,7 @@ fn sum_first(counts: &[u32], n: usize) {
 
 fn main() {
     let mut head = [0u8; 2];
-    let mut line = [0u8; 257];
+    let mut line = [0u8; LINE];
     let mut lines: u32 = 0;
     while lines < MOST_LINES {
         lines += 1;
