@@ -11,7 +11,7 @@ ghost use Prim.Native.Nat.{_<_};
 ghost use Rattle.numerals.specs.Numeral.{identifierDigits, identifier, zeroByte, decimal};
 ghost use Rattle.fields.specs.Front.{ofDigits, numberBefore};
 
-// No other number of a book has more.
+// A number of a book that is no identifier has at most so many digits.
 const DECIMAL_DIGITS: usize = 5;
 
 // A number with how many digits it has, or none.
