@@ -15,10 +15,10 @@ use Rattle.answers.specs.declared.Refusal.{Refusal}
 use Rattle.answers.specs.declared.Answer.{Answer}
 use Rattle.answers.specs.declared.Answer.the-variants as answer
 use Rattle.answers.specs.Numbers.{number, said}
-use Rattle.answer_line.specs.Printed.{ok, no, takenLine, refusedLine, answerLine, printed}
+use Rattle.answer_line.specs.Printed.{ok, no, takenLine, refusedLine, answerLine, fieldRoom, lineRoom, printed}
 
--- a field has at most 21 bytes
-pub field-few : {old new : List ℕ} {at n next : ℕ} → Put old at (9 ∷ naturalText n) new next → n < 4294967296 → next ≤ at + 21
+-- a field is no longer than its room
+pub field-few : {old new : List ℕ} {at n next : ℕ} → Put old at (9 ∷ naturalText n) new next → n < 4294967296 → next ≤ at + fieldRoom
 field-few {old} {new} {at} {n} p h = omega (arith, p .now-at, natural-long n, count-few n (omega arith))
 
 module _ {old a b new : List ℕ} {word first second next : ℕ} where
@@ -38,18 +38,18 @@ module _ {old a b new : List ℕ} {word first second next : ℕ} where
       shape : (ok ++ 9 ∷ (naturalText m ++ 9 ∷ (naturalText s ++ 9 ∷ naturalText r))) ++ 10 ∷ [] ≡ ((((ok ++ 9 ∷ naturalText m) ++ 9 ∷ naturalText s) ++ 9 ∷ naturalText r) ++ 10 ∷ [])
       shape = simp append-assoc
 
-pub no-room : (out text : List ℕ) → length out < 80 → _≡_ {A = ℕ × List ℕ} (0, out) (printed out text)
+pub no-room : (out text : List ℕ) → length out < lineRoom → _≡_ {A = ℕ × List ℕ} (0, out) (printed out text)
 unfolding printed
 no-room out text h = rw (lt-ltb _ _ h)
 
-with-room : {out new : List ℕ} {r : ℕ} (text : List ℕ) → 80 ≤ length out → Put out 0 text new r → _≡_ {A = ℕ × List ℕ} (r, new) (printed out text)
+with-room : {out new : List ℕ} {r : ℕ} (text : List ℕ) → lineRoom ≤ length out → Put out 0 text new r → _≡_ {A = ℕ × List ℕ} (r, new) (printed out text)
 unfolding printed
 with-room {out} {new} {r} text h p =
     let e : r ≡ length text = omega (arith, p .now-at) in
     rw (le-ltb _ _ h) (λ i. (e i, p .now-there i))
 
 -- the line of an answer by its case
-module _ {out new : List ℕ} {r : ℕ} (h : 80 ≤ length out) {a : Answer} where
+module _ {out new : List ℕ} {r : ℕ} (h : lineRoom ≤ length out) {a : Answer} where
   pub taken-printed : (m s n : ℕ) → a ≡ answer.Taken m s n → Put out 0 (takenLine m s n) new r → _≡_ {A = ℕ × List ℕ} (r, new) (printed out (answerLine (said a)))
   taken-printed m s n e p = rw e (with-room (takenLine m s n) h p)
 

@@ -1,6 +1,6 @@
 -- "The book checker .. prints `ok`, M count, S count, R count, or `no`, refusal, line, tab-parted." Every printed line ends with a
 -- newline. Assumes nothing: these are definitions.
-use Prim.Native.Nat.{ℕ}
+use Prim.Native.Nat.{ℕ, suc}
 use mathlib.Core.Bool.{cond}
 use mathlib.Core.List.{List, [], _∷_}
 use lib.Dec.{ltb}
@@ -8,7 +8,7 @@ use lib.ListN.{length}
 use lib.Seq.{sets}
 use Rattle.parts.specs.Parts.{tab}
 use Rattle.parts.specs.Joined.{join, textOfLines}
-use Rattle.printing.specs.Decimal.{naturalText}
+use Rattle.printing.specs.Decimal.{naturalText, naturalRoom}
 use Rattle.answers.specs.Numbers.{Said, taken, refused}
 
 -- the words, in bytes
@@ -27,6 +27,10 @@ refusedLine n line = textOfLines (join tab (no ∷ naturalText n ∷ naturalText
 abbrev pub answerLine : Said → List ℕ
 answerLine (taken m s r) = takenLine m s r
 answerLine (refused n line) = refusedLine n line
+
+-- no tab with a number is longer
+abbrev pub fieldRoom : ℕ
+fieldRoom = suc naturalRoom
 
 -- no line of an answer is longer
 abbrev pub lineRoom : ℕ

@@ -1,7 +1,6 @@
 // The line that the book checker prints: an answer of the book reader in bytes. `print` is the call for users; it has no
 // `requires`, and says for every answer and every lent slice what is written and what stays.
 use answers::Answer;
-use answers::Refusal;
 use printing::put_byte;
 use printing::put_bytes;
 use printing::put_natural;
@@ -12,8 +11,8 @@ ghost use lib.ListN.{length};
 ghost use Rattle.parts.specs.Parts.{tab};
 ghost use Rattle.printing.specs.Put.{Put};
 ghost use Rattle.printing.specs.Decimal.{naturalText};
-ghost use Rattle.answers.specs.Numbers.{number, said};
-ghost use Rattle.answer_line.specs.Printed.{takenLine, refusedLine, answerLine, printed};
+ghost use Rattle.answers.specs.Numbers.{said};
+ghost use Rattle.answer_line.specs.Printed.{takenLine, refusedLine, answerLine, fieldRoom, lineRoom, printed};
 
 // No line of an answer is longer.
 pub const LINE_ROOM: usize = 80;
@@ -22,28 +21,9 @@ const TAB: u8 = b'\t';
 
 const NEWLINE: u8 = b'\n';
 
-// Document 01's number of a refusal.
-fn number_of(why: Refusal) -> u32
-    ensures { λ r. ⌜ r ≡ number why ⌝ }
-{
-    match why {
-        Refusal::TooLong => 1,
-        Refusal::IllFormed => 2,
-        Refusal::OverLimit => 3,
-        Refusal::BeforeAnyMessage => 4,
-        Refusal::MessageRepeated => 5,
-        Refusal::SignalRepeated => 6,
-        Refusal::Misplaced => 7,
-        Refusal::BitsMeet => 8,
-        Refusal::Full => 9,
-        Refusal::ClosedChain => 10,
-        Refusal::TwoChains => 11,
-    }
-}
-
 // A tab and a number.
 fn put_field(out: &mut [u8], at: usize, n: u32) -> usize
-    requires { ⌜ at + 21 ≤ length (now out) ⌝ }
+    requires { ⌜ at + fieldRoom ≤ length (now out) ⌝ }
     ensures { λ r. ⌜ Put (now (out .entry)) at (tab ∷ naturalText n) (now (out .exit)) r ⌝ }
 {
     let number = put_byte(&mut *out, at, TAB);
@@ -51,7 +31,7 @@ fn put_field(out: &mut [u8], at: usize, n: u32) -> usize
 }
 
 fn put_taken(out: &mut [u8], messages: u32, signals: u32, routes: u32) -> usize
-    requires { ⌜ 80 ≤ length (now out) ⌝ }
+    requires { ⌜ lineRoom ≤ length (now out) ⌝ }
     ensures { λ r. ⌜ Put (now (out .entry)) 0 (takenLine messages signals routes) (now (out .exit)) r ⌝ }
 {
     let word = put_bytes(&mut *out, 0, b"ok");
@@ -62,7 +42,7 @@ fn put_taken(out: &mut [u8], messages: u32, signals: u32, routes: u32) -> usize
 }
 
 fn put_refused(out: &mut [u8], refusal: u32, line: u32) -> usize
-    requires { ⌜ 80 ≤ length (now out) ⌝ }
+    requires { ⌜ lineRoom ≤ length (now out) ⌝ }
     ensures { λ r. ⌜ Put (now (out .entry)) 0 (refusedLine refusal line) (now (out .exit)) r ⌝ }
 {
     let word = put_bytes(&mut *out, 0, b"no");
@@ -81,6 +61,6 @@ pub fn print(answer: Answer, out: &mut [u8]) -> usize
     }
     match answer {
         Answer::Taken(messages, signals, routes) => put_taken(out, messages, signals, routes),
-        Answer::Refused(why, line) => put_refused(out, number_of(why), line),
+        Answer::Refused(why, line) => put_refused(out, why.number(), line),
     }
 }

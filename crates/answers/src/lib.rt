@@ -1,5 +1,7 @@
-// What the reader of a route book answers. specs/Numbers.antt gives document 01's number and values for each case; nothing else in
-// the library turns one into the other.
+// What the reader of a route book answers. specs/Numbers.antt gives document 01's number and values for each case, and
+// `Refusal::number` is that number in code: nothing else in the library turns a refusal of a book into its number.
+ghost use mathlib.Core.Path.{_≡_};
+ghost use Rattle.answers.specs.Numbers.{number};
 
 // Why a text is refused.
 pub enum Refusal {
@@ -25,6 +27,27 @@ pub enum Refusal {
     ClosedChain,
     // two different chains that join the same two places
     TwoChains,
+}
+
+impl Refusal {
+    // Document 01's number.
+    pub fn number(self) -> u32
+        ensures { λ r. ⌜ r ≡ number self ⌝ }
+    {
+        match self {
+            Refusal::TooLong => 1,
+            Refusal::IllFormed => 2,
+            Refusal::OverLimit => 3,
+            Refusal::BeforeAnyMessage => 4,
+            Refusal::MessageRepeated => 5,
+            Refusal::SignalRepeated => 6,
+            Refusal::Misplaced => 7,
+            Refusal::BitsMeet => 8,
+            Refusal::Full => 9,
+            Refusal::ClosedChain => 10,
+            Refusal::TwoChains => 11,
+        }
+    }
 }
 
 // A text is taken, with its counts of M, S and R lines; or it is refused, at a line.

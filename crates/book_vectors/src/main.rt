@@ -2,7 +2,7 @@
 // and a newline. Each gives the book checker's line.
 use libc::STDIN_FILENO;
 use libc::STDOUT_FILENO;
-use numerals::Number;
+use numerals::identifier_or_0;
 use parts::part_before;
 
 const MOST_BOOKS: u32 = 1000000;
@@ -10,19 +10,12 @@ const MOST_BOOKS: u32 = 1000000;
 // Room for the longest text, some bytes over the limit, and its newline.
 const ROOM: usize = 32801;
 
-fn hex(digits: &[u8]) -> u32 {
-    match numerals::read_identifier(digits) {
-        Number::Is(n) => n,
-        Number::Not => 0,
-    }
-}
-
 // The length that a book's first line says; none for a line that is too short.
 fn size_in(head: &[u8]) -> usize {
     if head.len() < 8 {
         return ROOM;
     }
-    hex(part_before(head, 8)) as usize
+    identifier_or_0(part_before(head, 8)) as usize
 }
 
 // The front of a line.

@@ -4,19 +4,15 @@ use faults::Answer;
 use faults::FaultSum;
 use libc::STDIN_FILENO;
 use libc::STDOUT_FILENO;
-use numerals::Number;
+use numerals::identifier_or_0;
 
 const MOST_LINES: u32 = 1000000;
 
 // The most counts on a line.
 const MOST: usize = 32;
 
-fn hex(digits: &[u8]) -> u32 {
-    match numerals::read_identifier(digits) {
-        Number::Is(n) => n,
-        Number::Not => 0,
-    }
-}
+// The longest line after its count: 32 counts and the newline.
+const LINE: usize = 257;
 
 fn print(n: u32) {
     io::write_all(STDOUT_FILENO, b"\t");
@@ -52,13 +48,13 @@ fn sum(counts: &[u32]) {
 }
 
 // The counts of a line, eight digits each. Past the last stands what an earlier line left.
-fn counts_on(line: [u8; 257]) -> [u32; 32] {
-    let mut counts = [0u32; 32];
+fn counts_on(line: [u8; LINE]) -> [u32; MOST] {
+    let mut counts = [0u32; MOST];
     let mut i: usize = 0;
     while i < MOST {
         let at = 8 * i;
         let end = at + 8;
-        counts[i] = hex(&line[at..end]);
+        counts[i] = identifier_or_0(&line[at..end]);
         i += 1;
     }
     counts
@@ -78,14 +74,14 @@ fn sum_first(counts: &[u32], n: usize) {
 
 fn main() {
     let mut head = [0u8; 2];
-    let mut line = [0u8; 257];
+    let mut line = [0u8; LINE];
     let mut lines: u32 = 0;
     while lines < MOST_LINES {
         lines += 1;
         if io::read_full(STDIN_FILENO, &mut head) < 2 {
             return;
         }
-        let n = hex(&[b'0', b'0', b'0', b'0', b'0', b'0', head[0], head[1]]) as usize;
+        let n = identifier_or_0(&[b'0', b'0', b'0', b'0', b'0', b'0', head[0], head[1]]) as usize;
         if MOST < n {
             return;
         }

@@ -10,7 +10,7 @@ use lib.Seq.{length-take-le, getD-take}
 use borrow.Author.Tests.{ne-eqb, eqb-true, eqb-false, lt-ltb, ltb-true}
 use Rattle.numerals.specs.declared.Number.{Number}
 use Rattle.numerals.specs.declared.Number.the-variants as number
-use Rattle.numerals.specs.Numeral.{identifier}
+use Rattle.numerals.specs.Numeral.{identifierDigits, identifier, zeroByte}
 use Rattle.numerals.proofs.Identifiers.{identifier-written}
 use Rattle.parts.specs.Parts.{indexOf}
 use Rattle.parts.specs.Joined.{Free}
@@ -39,13 +39,13 @@ module _ (text : List ℕ) (stop : ℕ) where
           rw (other-size (take (indexOf stop text) text) (λ e. n h (sym s ∙ e)))
       by false q = refl
 
-  pub too-short : length text < 9 → Nothing ≡ numberBefore identifier stop text
+  pub too-short : length text ≤ identifierDigits → Nothing ≡ numberBefore identifier stop text
   too-short h = elsewhere (λ i e. omega arith)
 
   pub not-there : (getD text 8 0 ≡ stop → ⊥) → Nothing ≡ numberBefore identifier stop text
   not-there n = elsewhere (λ i e. n (rw e at (index-at stop text i)))
 
-  module _ (low : stop < 48) (long : 9 ≤ length text) (here : getD text 8 0 ≡ stop) {part : List ℕ} (e : part ≡ take 8 text) where
+  module _ (low : stop < zeroByte) (long : identifierDigits < length text) (here : getD text 8 0 ≡ stop) {part : List ℕ} (e : part ≡ take 8 text) where
     -- a number has no such byte in it
     inside : indexOf stop text < 8 → indexOf stop text < length text → (n : Number) → identifier part ≡ n → n ≡ number.Not
     inside h i (number.Is n) q =

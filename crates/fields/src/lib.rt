@@ -1,14 +1,18 @@
 // The next field of a text: the number that stands before the first tab, or before the first newline. A field is read in one
 // pass, from the front, and the pass stops where it can be no such number. `stop`, the byte that ends the
 // field, is no digit.
+use numerals::IDENTIFIER_DIGITS;
 use numerals::Number;
 use numerals::digit;
 use numerals::read_identifier;
 use parts::part_before;
 ghost use mathlib.Core.Path.{_≡_};
 ghost use Prim.Native.Nat.{_<_};
-ghost use Rattle.numerals.specs.Numeral.{identifier, decimal};
+ghost use Rattle.numerals.specs.Numeral.{identifierDigits, identifier, zeroByte, decimal};
 ghost use Rattle.fields.specs.Front.{ofDigits, numberBefore};
+
+// A number of a book that is no identifier has at most so many digits.
+const DECIMAL_DIGITS: usize = 5;
 
 // A number with how many digits it has, or none.
 pub enum Front {
@@ -31,12 +35,12 @@ pub fn decimal_before(text: &[u8], stop: u8) -> Front
             if i == 1 {
                 return Front::Found(v as u32, 1);
             }
-            if text[0] == 48 {
+            if text[0] == b'0' {
                 return Front::Nothing;
             }
             return Front::Found(v as u32, i);
         }
-        if i == 5 {
+        if i == DECIMAL_DIGITS {
             return Front::Nothing;
         }
         let d = digit(b);
@@ -50,24 +54,24 @@ pub fn decimal_before(text: &[u8], stop: u8) -> Front
 }
 
 fn of_eight_digits(n: Number) -> Front
-    ensures { λ r. ⌜ r ≡ ofDigits n 8 ⌝ }
+    ensures { λ r. ⌜ r ≡ ofDigits n identifierDigits ⌝ }
 {
     match n {
-        Number::Is(v) => Front::Found(v, 8),
+        Number::Is(v) => Front::Found(v, IDENTIFIER_DIGITS),
         Number::Not => Front::Nothing,
     }
 }
 
 // Exactly 8 digits 0-9 A-F before the first `stop`.
 pub fn identifier_before(text: &[u8], stop: u8) -> Front
-    requires { ⌜ stop < 48 ⌝ }
+    requires { ⌜ stop < zeroByte ⌝ }
     ensures { λ r. ⌜ r ≡ numberBefore identifier stop (now (text .entry)) ⌝ }
 {
-    if text.len() < 9 {
+    if text.len() <= IDENTIFIER_DIGITS {
         return Front::Nothing;
     }
-    if text[8] != stop {
+    if text[IDENTIFIER_DIGITS] != stop {
         return Front::Nothing;
     }
-    of_eight_digits(read_identifier(part_before(text, 8)))
+    of_eight_digits(read_identifier(part_before(text, IDENTIFIER_DIGITS)))
 }

@@ -9,8 +9,8 @@ use lib.Dec.{eqb, ltb}
 use lib.ListN.{length, getD}
 use borrow.Author.Tests.{eq-eqb, ne-eqb, lt-ltb, le-ltb, ltb-true, ltb-false}
 use Rattle.numerals.specs.declared.Number.the-variants.{Is, Not}
-use Rattle.numerals.specs.Numeral.{numeralFrom, needlessZero, decimal}
-use Rattle.numerals.specs.Written.{digitByte, digitsOf, decimalWidth, decimalText}
+use Rattle.numerals.specs.Numeral.{numeralFrom, needlessZero, decimalDigits, decimal}
+use Rattle.numerals.specs.Written.{digitByte, digitsOf, decimalWidth, decimalLimit, decimalText}
 use Rattle.numerals.proofs.Digits.{length-digits, numeral-read, NumeralText, numeral-written}
 
 -- n has k + 1 decimal digits: it is below the next power, and not below its own unless it has one digit
@@ -54,7 +54,7 @@ pub record Some (n : ℕ) : Type 0 where
   pub k : ℕ
   pub wide : Wide n k
 
-some-width : (n : ℕ) → n < 100000 → Some n
+some-width : (n : ℕ) → n < decimalLimit → Some n
 some-width n h = go (ltb n 10) (ltb n 100) (ltb n 1000) (ltb n 10000) refl refl refl refl
   where
     go : (a b c d : Bool) → ltb n 10 ≡ a → ltb n 100 ≡ b → ltb n 1000 ≡ c → ltb n 10000 ≡ d → Some n
@@ -73,14 +73,15 @@ first k n l h =
     let high : n / 10 ^ k < 10 = div-lt-iff-lt-mul p .1 (rw pow-succ' at h) in
     rw (lt-ltb _ _ high) (ne-eqb (48 + n / 10 ^ k) 48 (λ e. omega arith))
 
-written-well : (n k : ℕ) → Wide n k → needlessZero (digitsOf 10 (suc k) n) ≡ false
+-- as many digits as a number has are written well
+pub written-well : (n k : ℕ) → n < 10 ^ suc k → (0 < k → 10 ^ k ≤ n) → needlessZero (digitsOf 10 (suc k) n) ≡ false
 unfolding needlessZero digitsOf
-written-well n zero w = refl
-written-well n (suc k) w =
+written-well n zero h l = refl
+written-well n (suc k) h l =
     let long : 1 < suc (suc (length (digitsOf 10 k (n % 10 ^ suc k % 10 ^ k)))) = omega arith in
-    rw (lt-ltb _ _ long) (first (suc k) n (w .above (omega arith)) (w .below))
+    rw (lt-ltb _ _ long) (first (suc k) n (l (omega arith)) h)
 
-pub decimal-read : (n : ℕ) → n < 100000 → decimal (decimalText n) ≡ Is n
+pub decimal-read : (n : ℕ) → n < decimalLimit → decimal (decimalText n) ≡ Is n
 unfolding decimal decimalText
 decimal-read n h = go (some-width n h)
   where
@@ -88,7 +89,7 @@ decimal-read n h = go (some-width n h)
     go s =
         let long : 1 ≤ length (digitsOf 10 (suc (s .k)) n) = omega (arith, length-digits 10 (suc (s .k)) n) in
         let short : length (digitsOf 10 (suc (s .k)) n) ≤ 5 = omega (arith, length-digits 10 (suc (s .k)) n, s .wide .few) in
-        rw (s .wide .width, le-ltb _ _ long, le-ltb _ _ short, written-well n (s .k) (s .wide)) (numeral-read 10 (omega arith) (omega arith) (suc (s .k)) n (s .wide .below))
+        rw (s .wide .width, le-ltb _ _ long, le-ltb _ _ short, written-well n (s .k) (s .wide .below) (s .wide .above)) (numeral-read 10 (omega arith) (omega arith) (suc (s .k)) n (s .wide .below))
 
 -- what the bounds say of the width
 wide-of : (k n : ℕ) → k < 5 → n < 10 ^ suc k → (0 < k → 10 ^ k ≤ n) → Wide n k
@@ -100,7 +101,7 @@ wide-of (suc (suc (suc (suc zero)))) n f h l = wide-5 n (l (omega arith)) h
 wide-of (suc (suc (suc (suc (suc k))))) n f h l = absurd (omega arith)
 
 -- a first digit of more than one that is not 0
-not-less : (b : ℕ) (t : List ℕ) (n : ℕ) → needlessZero (b ∷ t) ≡ false → b ≡ digitByte (n / 10 ^ length t) → 0 < length t → 10 ^ length t ≤ n
+pub not-less : (b : ℕ) (t : List ℕ) (n : ℕ) → needlessZero (b ∷ t) ≡ false → b ≡ digitByte (n / 10 ^ length t) → 0 < length t → 10 ^ length t ≤ n
 unfolding needlessZero digitByte
 not-less b t n z e h = go (ltb n (10 ^ length t)) refl
   where
@@ -114,7 +115,7 @@ not-less b t n z e h = go (ltb n (10 ^ length t)) refl
 
 -- what is read as n is what is written for n
 pub record DecimalWritten (l : List ℕ) (n : ℕ) : Type 0 where
-  pub small : n < 100000
+  pub small : n < decimalLimit
   pub text : l ≡ decimalText n
 
 of-wide : (l : List ℕ) (n k : ℕ) → Wide n k → l ≡ digitsOf 10 (suc k) n → DecimalWritten l n
@@ -146,9 +147,6 @@ decimal-written (b ∷ t) n e = go (ltb (suc (length t)) 1) (ltb 5 (suc (length 
         let few : suc (length t) ≤ 5 = ltb-false _ _ f in
         from-digits b t n few z (numeral-written 10 (omega arith) (omega arith) (b ∷ t) (suc (length t)) n refl e)
 
--- for a writer: at most 5 digits, which hold the number
-pub width-few : (n : ℕ) → n < 100000 → decimalWidth n ≤ 5
+-- no more digits are written than can be read
+pub width-few : (n : ℕ) → n < decimalLimit → decimalWidth n ≤ decimalDigits
 width-few n h = let s : Some n = some-width n h in omega (arith, s .wide .width, s .wide .few)
-
-pub width-holds : (n : ℕ) → n < 100000 → n < 10 ^ decimalWidth n
-width-holds n h = let s : Some n = some-width n h in rw (s .wide .width) (s .wide .below)

@@ -19,15 +19,30 @@ numeralFrom base v [] = Is v
 numeralFrom base v (b ∷ t) =
     cond (ltb (digitValue b) base) (numeralFrom base (v * base + digitValue b) t) Not
 
+abbrev pub identifierDigits : ℕ
+identifierDigits = 8
+
 -- exactly 8 digits 0-9 A-F
 unfoldable pub identifier : List ℕ → Number
-identifier l = cond (eqb (length l) 8) (numeralFrom 16 0 l) Not
+identifier l = cond (eqb (length l) identifierDigits) (numeralFrom 16 0 l) Not
+
+-- a number, and 0 for none
+abbrev pub orZero : Number → ℕ
+orZero (Is n) = n
+orZero Not = 0
+
+-- the byte of the digit 0; no byte below it is a digit
+abbrev pub zeroByte : ℕ
+zeroByte = 48
 
 -- more than one digit, and the first is 0
 unfoldable pub needlessZero : List ℕ → Bool
-needlessZero l = cond (ltb 1 (length l)) (eqb (getD l 0 0) 48) false
+needlessZero l = cond (ltb 1 (length l)) (eqb (getD l 0 0) zeroByte) false
+
+abbrev pub decimalDigits : ℕ
+decimalDigits = 5
 
 -- 1 to 5 decimal digits, no needless leading zero
 unfoldable pub decimal : List ℕ → Number
 decimal l =
-    cond (ltb (length l) 1) Not (cond (ltb 5 (length l)) Not (cond (needlessZero l) Not (numeralFrom 10 0 l)))
+    cond (ltb (length l) 1) Not (cond (ltb decimalDigits (length l)) Not (cond (needlessZero l) Not (numeralFrom 10 0 l)))

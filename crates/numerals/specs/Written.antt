@@ -3,6 +3,7 @@ use Prim.Native.Nat.{ℕ, zero, suc, _+_, _/_, _%_, _^_}
 use mathlib.Core.Bool.{cond}
 use mathlib.Core.List.{List, [], _∷_}
 use lib.Dec.{ltb}
+use Rattle.numerals.specs.Numeral.{identifierDigits}
 
 -- the byte of a digit below 16
 unfoldable pub digitByte : ℕ → ℕ
@@ -19,7 +20,7 @@ hexadecimalLimit = 4294967296
 
 -- an identifier: 8 digits 0-9 A-F
 unfoldable pub identifierText : ℕ → List ℕ
-identifierText n = digitsOf 16 8 n
+identifierText n = digitsOf 16 identifierDigits n
 
 -- how many decimal digits a number below 100,000 has
 unfoldable pub decimalWidth : ℕ → ℕ

@@ -1,9 +1,13 @@
-// The digits of a route book's numbers, and an identifier of exactly 8 of them. Both public functions answer for every input.
+// The digits of a route book's numbers, and an identifier of exactly 8 of them. All public functions answer for every input.
 // specs/ says what all numbers of a book are, as they are read and as they are written.
 ghost use mathlib.Core.Path.{_≡_};
 ghost use Prim.Native.Nat.{_≤_, _<_, _^_};
 ghost use lib.ListN.{length};
-ghost use Rattle.numerals.specs.Numeral.{digitValue, numeralFrom, identifier};
+ghost use Rattle.numerals.specs.Numeral.{digitValue, numeralFrom, identifier, orZero};
+ghost use Rattle.numerals.specs.Written.{hexadecimalLimit};
+
+// How many digits an identifier has.
+pub const IDENTIFIER_DIGITS: usize = 8;
 
 // What a field is read as: a number, or none.
 pub enum Number {
@@ -32,7 +36,7 @@ pub fn digit(b: u8) -> u64
 
 // The number that digits of a base write, where they are so few that it fits 32 bits.
 fn numeral(s: &[u8], base: u64) -> Number
-    requires { ⌜ (base ^ (length (now s)) ≤ 4294967296) × (0 < base) ⌝ }
+    requires { ⌜ (base ^ (length (now s)) ≤ hexadecimalLimit) × (0 < base) ⌝ }
     ensures { λ r. ⌜ r ≡ numeralFrom base 0 (now (s .entry)) ⌝ }
 {
     let mut v: u64 = 0;
@@ -52,8 +56,18 @@ fn numeral(s: &[u8], base: u64) -> Number
 pub fn read_identifier(s: &[u8]) -> Number
     ensures { λ r. ⌜ r ≡ identifier (now (s .entry)) ⌝ }
 {
-    if s.len() != 8 {
+    if s.len() != IDENTIFIER_DIGITS {
         return Number::Not;
     }
     numeral(s, 16)
+}
+
+// The same, and 0 for bytes that are no identifier.
+pub fn identifier_or_0(s: &[u8]) -> u32
+    ensures { λ r. ⌜ r ≡ orZero (identifier (now (s .entry))) ⌝ }
+{
+    match read_identifier(s) {
+        Number::Is(n) => n,
+        Number::Not => 0,
+    }
 }

@@ -3,20 +3,13 @@
 // or `no` and the refusal.
 use libc::STDIN_FILENO;
 use libc::STDOUT_FILENO;
-use numerals::Number;
+use numerals::identifier_or_0;
 use power::Answer;
 use power::Numbered;
 use power::Observation;
 use power::State;
 
 const MOST_LINES: u32 = 1000000;
-
-fn hex(digits: &[u8]) -> u32 {
-    match numerals::read_identifier(digits) {
-        Number::Is(n) => n,
-        Number::Not => 0,
-    }
-}
 
 fn digit(byte: u8) -> u32 {
     if byte < b'0' {
@@ -35,14 +28,14 @@ fn state_of(byte: u8) -> Numbered {
 
 fn observed(line: [u8; 66]) -> Observation {
     Observation {
-        main_negative: hex(&line[1..9]),
-        precharge: hex(&line[9..17]),
-        main_positive: hex(&line[17..25]),
-        command: hex(&line[25..33]),
-        emergency_off: hex(&line[33..41]),
-        current: hex(&line[41..49]),
-        inside: hex(&line[49..57]),
-        outside: hex(&line[57..65]),
+        main_negative: identifier_or_0(&line[1..9]),
+        precharge: identifier_or_0(&line[9..17]),
+        main_positive: identifier_or_0(&line[17..25]),
+        command: identifier_or_0(&line[25..33]),
+        emergency_off: identifier_or_0(&line[33..41]),
+        current: identifier_or_0(&line[41..49]),
+        inside: identifier_or_0(&line[49..57]),
+        outside: identifier_or_0(&line[57..65]),
     }
 }
 

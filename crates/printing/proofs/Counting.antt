@@ -1,12 +1,12 @@
--- How many digits a number has, one at a time; they hold it, and no u64 has more than 20. Assumes nothing.
+-- How many digits a number has, one at a time; they hold it, no fewer do, and no u64 has more than 20. Assumes nothing.
 use mathlib.Core.Path.{_≡_, refl, ap}
 use mathlib.Core.Bool.{Bool, true, false, cond}
 use Prim.Native.Nat.{ℕ, zero, suc, _*_, _/_, _^_, _≤_, _<_}
-use native.Mathlib.Nat.{pow-suc, lt-of-lt-of-le}
+use native.Mathlib.Nat.{pow-suc, pow-le-pow-right, lt-of-lt-of-le}
 use native.Mathlib.Omega.{arith}
 use lib.Dec.{ltb, lit≤}
 use borrow.Author.Tests.{lt-ltb, le-ltb, ltb-true, ltb-false}
-use Rattle.printing.specs.Decimal.{digitsWithin, digitCount}
+use Rattle.printing.specs.Decimal.{digitsWithin, digitCount, naturalRoom}
 
 -- any bound that is large enough gives the same count
 enough : (f g n : ℕ) → n ≤ f → n ≤ g → digitsWithin f n ≡ digitsWithin g n
@@ -61,6 +61,51 @@ few-within k (suc f) n h = go k (ltb n 10) refl (λ j. few-within j f (n / 10)) 
         let s : digitsWithin f (n / 10) ≤ suc k = few k (omega arith) in
         omega arith
 
-pub count-few : (n : ℕ) → n < 2 ^ 64 → digitCount n ≤ 20
+at-least-one : (f n : ℕ) → 1 ≤ digitsWithin f n
+unfolding digitsWithin
+at-least-one zero n = omega arith
+at-least-one (suc f) n = go (ltb n 10)
+  where
+    go : (b : Bool) → 1 ≤ cond b 1 (suc (digitsWithin f (n / 10)))
+    go true = omega arith
+    go false = omega arith
+
+pub count-some : (n : ℕ) → 1 ≤ digitCount n
+unfolding digitCount
+count-some n = at-least-one n n
+
+-- n has k + 1 digits: it is below the next power of ten, and not below its own unless it has one digit
+pub record Sized (n k : ℕ) : Type 0 where
+  pub below : n < 10 ^ suc k
+  pub above : 0 < k → 10 ^ k ≤ n
+
+pub count-sized : (n k : ℕ) → digitCount n ≡ suc k → Sized n k
+unfolding digitCount
+count-sized n k e = record { below = rw e at (count-holds n); above = above k e }
+  where
+    above : (k : ℕ) → digitsWithin n n ≡ suc k → 0 < k → 10 ^ k ≤ n
+    above zero e p = absurd (omega arith)
+    above (suc k) e p = go (ltb n (10 ^ suc k)) refl
+      where
+        go : (b : Bool) → ltb n (10 ^ suc k) ≡ b → 10 ^ suc k ≤ n
+        go true q = absurd (omega (arith, few-within k n n (ltb-true _ _ q)))
+        go false q = ltb-false _ _ q
+
+-- and no other count is so
+pub sized-count : (n k : ℕ) → Sized n k → digitCount n ≡ suc k
+unfolding digitCount
+sized-count n k s = omega (arith, few-within k n n (s .below), least k (s .above))
+  where
+    least : (k : ℕ) → (0 < k → 10 ^ k ≤ n) → k < digitsWithin n n
+    least zero above = count-some n
+    least (suc k) above = go (ltb (suc k) (digitsWithin n n)) refl
+      where
+        go : (b : Bool) → ltb (suc k) (digitsWithin n n) ≡ b → suc k < digitsWithin n n
+        go true q = ltb-true _ _ q
+        go false q =
+            let up : 10 ^ digitsWithin n n ≤ 10 ^ suc k = pow-le-pow-right {n = 10} (omega arith) {i = digitsWithin n n} {j = suc k} (ltb-false _ _ q) in
+            absurd (omega (arith, up, above (omega arith), holds-within n n (omega arith)))
+
+pub count-few : (n : ℕ) → n < 2 ^ 64 → digitCount n ≤ naturalRoom
 unfolding digitCount
 count-few n h = few-within 19 n n (lt-of-lt-of-le h (lit≤ tt))

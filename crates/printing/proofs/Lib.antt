@@ -2,3 +2,4 @@ pub mod Puts
 pub mod Counting
 pub mod Signs
 pub mod Spelling
+pub mod ReadBack

@@ -11,7 +11,7 @@ use mir.Val.{SFits}
 use Rattle.numerals.specs.Written.{digitsOf}
 use Rattle.numerals.proofs.Digits.{length-digits}
 use Rattle.printing.specs.Put.{Put}
-use Rattle.printing.specs.Decimal.{digitCount, naturalText, signedText, minusSign}
+use Rattle.printing.specs.Decimal.{digitCount, naturalText, naturalRoom, minusSign, signedText, signedRoom}
 use Rattle.printing.proofs.Puts.{and-then}
 use Rattle.printing.proofs.Counting.{count-few}
 use Rattle.printing.proofs.Signs.{Negative, Positive}
@@ -20,10 +20,10 @@ pub natural-long : (n : ℕ) → length (naturalText n) ≡ digitCount n
 unfolding naturalText
 natural-long n = length-digits 10 (digitCount n) n
 
-pub natural-few : (n : ℕ) → n < 2 ^ 64 → length (naturalText n) ≤ 20
+pub natural-few : (n : ℕ) → n < 2 ^ 64 → length (naturalText n) ≤ naturalRoom
 natural-few n h = omega (arith, natural-long n, count-few n h)
 
-pub signed-few : (z : ℤ) → SFits w64 z → length (signedText z) ≤ 21
+pub signed-few : (z : ℤ) → SFits w64 z → length (signedText z) ≤ signedRoom
 signed-few (pos n) f = omega (arith, natural-few n (omega (arith, f .sfits)))
 signed-few (negsuc n) f = omega (arith, natural-few (suc n) (omega (arith, f .sfits)))
 

@@ -6,18 +6,22 @@ use lib.Dec.{ltb}
 use lib.IntN.{ℤ, pos, negsuc}
 use Rattle.numerals.specs.Written.{digitsOf}
 
--- one digit, and one more for each ten that can be divided out; there are at most as many as the first number says
+-- one digit, and one more for each ten that can be divided out; the first number ends the recursion
 unfoldable pub digitsWithin : ℕ → ℕ → ℕ
 digitsWithin zero n = 1
 digitsWithin (suc most) n = cond (ltb n 10) 1 (suc (digitsWithin most (n / 10)))
 
--- how many decimal digits a number has
+-- how many decimal digits a number has: ten divides out of it less often than it is large
 unfoldable pub digitCount : ℕ → ℕ
 digitCount n = digitsWithin n n
 
--- a number in decimal, without a needless zero
+-- a number in decimal, without a needless zero: proofs/ReadBack.antt says that it is read as the number, and no other such text is
 unfoldable pub naturalText : ℕ → List ℕ
 naturalText n = digitsOf 10 (digitCount n) n
+
+-- no number of 64 bits has more digits
+abbrev pub naturalRoom : ℕ
+naturalRoom = 20
 
 abbrev pub minusSign : ℕ
 minusSign = 45
@@ -26,3 +30,7 @@ minusSign = 45
 abbrev pub signedText : ℤ → List ℕ
 signedText (pos n) = naturalText n
 signedText (negsuc n) = minusSign ∷ naturalText (suc n)
+
+-- nor more bytes with its sign
+abbrev pub signedRoom : ℕ
+signedRoom = suc naturalRoom

@@ -4,13 +4,13 @@ ghost use Prim.Native.Nat.{_+_, _≤_, _<_};
 ghost use lib.IntN.{natAbs};
 ghost use lib.ListN.{length};
 ghost use Rattle.printing.specs.Put.{Put};
-ghost use Rattle.printing.specs.Decimal.{digitCount, naturalText, signedText};
+ghost use Rattle.printing.specs.Decimal.{digitCount, naturalText, naturalRoom, signedText, signedRoom};
 use crate::bytes::put_byte;
 use writing::put_digits;
 
 const MINUS: u8 = b'-';
 
-// How many decimal digits a number has: at most 20.
+// How many decimal digits a number has.
 fn digit_count(n: u64) -> usize
     ensures { λ r. ⌜ r ≡ digitCount n ⌝ }
 {
@@ -24,7 +24,7 @@ fn digit_count(n: u64) -> usize
 }
 
 pub fn put_natural(out: &mut [u8], at: usize, n: u64) -> usize
-    requires { ⌜ at + 20 ≤ length (now out) ⌝ }
+    requires { ⌜ at + naturalRoom ≤ length (now out) ⌝ }
     ensures { λ r. ⌜ Put (now (out .entry)) at (naturalText n) (now (out .exit)) r ⌝ }
 {
     let count = digit_count(n);
@@ -43,7 +43,7 @@ fn magnitude(z: i64) -> u64
 }
 
 pub fn put_signed(out: &mut [u8], at: usize, z: i64) -> usize
-    requires { ⌜ at + 21 ≤ length (now out) ⌝ }
+    requires { ⌜ at + signedRoom ≤ length (now out) ⌝ }
     ensures { λ r. ⌜ Put (now (out .entry)) at (signedText z) (now (out .exit)) r ⌝ }
 {
     let n = magnitude(z);

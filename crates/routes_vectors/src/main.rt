@@ -3,13 +3,13 @@
 // `doubling` with the route's index, or `sound` with the count of the spread and its places.
 use libc::STDIN_FILENO;
 use libc::STDOUT_FILENO;
+use numerals::identifier_or_0;
 use record::BOOK_WORDS;
 use record::FROMS;
 use record::IDENTIFIER_LIMIT;
 use record::ROUTE_COUNT;
 use record::ROUTES;
 use record::TOS;
-use route_cases::hex;
 use route_cases::short_hex;
 use verdict::Verdict;
 
@@ -19,7 +19,7 @@ const MOST_LINES: u32 = 1000000;
 const LINE: usize = 1033;
 
 // The book that has the routes of the line, and nothing else.
-fn book_on(line: [u8; 1033], n: usize) -> [u32; 771] {
+fn book_on(line: [u8; LINE], n: usize) -> [u32; BOOK_WORDS] {
     let mut book = [0u32; BOOK_WORDS];
     if n > ROUTES {
         return book;
@@ -30,20 +30,20 @@ fn book_on(line: [u8; 1033], n: usize) -> [u32; 771] {
         let from = 16 * i;
         let to = from + 8;
         let end = from + 16;
-        book[FROMS + i] = hex(&line[from..to]);
-        book[TOS + i] = hex(&line[to..end]);
+        book[FROMS + i] = identifier_or_0(&line[from..to]);
+        book[TOS + i] = identifier_or_0(&line[to..end]);
         i += 1;
     }
     book
 }
 
-fn place_on(line: [u8; 1033], n: usize) -> u32 {
+fn place_on(line: [u8; LINE], n: usize) -> u32 {
     if n > ROUTES {
         return 0;
     }
     let at = 16 * n;
     let end = at + 8;
-    hex(&line[at..end])
+    identifier_or_0(&line[at..end])
 }
 
 fn print_index(word: &[u8], i: usize) {

@@ -5,11 +5,11 @@
 ghost use Prim.Native.Nat.{_≤_};
 ghost use Rattle.record.specs.Columns.{bookWords};
 use libc::STDIN_FILENO;
+use numerals::identifier_or_0;
 use record::BOOK_WORDS;
 use record::FROMS;
 use record::ROUTE_COUNT;
 use record::TOS;
-use route_cases::hex;
 use route_cases::short_hex;
 
 const MOST_LINES: u32 = 1000000;
@@ -31,7 +31,7 @@ fn set_entry(book: &mut [u32; BOOK_WORDS]) {
     let mut line = [0u8; 12];
     io::read_full(STDIN_FILENO, &mut line);
     let index = short_hex(line[1], line[2]);
-    let value = hex(&line[3..11]);
+    let value = identifier_or_0(&line[3..11]);
     let start = column(line[0]);
     if index < BOOK_WORDS - start {
         book[start + index] = value;
@@ -41,8 +41,8 @@ fn set_entry(book: &mut [u32; BOOK_WORDS]) {
 fn ask(book: &[u32; BOOK_WORDS]) {
     let mut line = [0u8; 19];
     io::read_full(STDIN_FILENO, &mut line);
-    let bus = hex(&line[0..8]);
-    let identifier = hex(&line[8..16]);
+    let bus = identifier_or_0(&line[0..8]);
+    let identifier = identifier_or_0(&line[8..16]);
     let size = short_hex(line[16], line[17]);
     route_cases::print_spread(b"spread\t", book, bus, identifier, size);
 }

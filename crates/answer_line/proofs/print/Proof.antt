@@ -5,7 +5,7 @@ use Rattle.answer_line.proofs.print.Statement.{statement}
 use Rattle.answer_line.proofs.print.Tie as tie
 use Rattle.answer_line.proofs.print.Reads as reads
 use Rattle.answer_line.proofs.print.Lts as lts
-use Rattle.answer_line.proofs.number_of.Reads as number-of-reads
+use Rattle.answers.proofs.Refusal.number.Reads as number-reads
 use Rattle.answer_line.proofs.put_refused.Reads as put-refused-reads
 use Rattle.answer_line.proofs.put_taken.Reads as put-taken-reads
 
@@ -21,8 +21,8 @@ put-taken-requires c κs = search needs
 enum-known-answer-2 : tie.Need-enum-known-answer-2
 enum-known-answer-2 c = search needs
 
-number-of-requires : tie.Need-number-of-requires
-number-of-requires c κs = search needs
+number-requires : tie.Need-number-requires
+number-requires c κs = search needs
 
 put-refused-requires : tie.Need-put-refused-requires
 put-refused-requires c κs = search needs
@@ -37,7 +37,7 @@ same-length-2 : tie.Need-same-length-2
 same-length-2 c = search needs
 
 returns-3 : tie.Need-returns-3
-returns-3 c = refused-printed (c .before .before .before .before .before .before .before .before .if1 .left) _ _ (c .before .before .before .before .before .before .answer2 .given .1) (c .before .before .before .number-of .ensures) (c .before .before .put-refused .ensures)
+returns-3 c = refused-printed (c .before .before .before .before .before .before .before .before .if1 .left) _ _ (c .before .before .before .before .before .before .answer2 .given .1) (c .before .before .before .number .ensures) (c .before .before .put-refused .ensures)
 
 pub print-spec : {M : Type 1} → statement M
 print-spec =
@@ -47,7 +47,7 @@ print-spec =
     enum-known-answer
     put-taken-requires
     enum-known-answer-2
-    number-of-requires
+    number-requires
     put-refused-requires
     same-length
     returns-2

@@ -33,17 +33,17 @@ add-to c = search needs
 add-end : tie.Need-add-end Inv-loop μ-loop
 add-end c = search needs
 
-sub-hex : tie.Need-sub-hex Inv-loop μ-loop
-sub-hex c = search needs
+sub-identifier-or-0 : tie.Need-sub-identifier-or-0 Inv-loop μ-loop
+sub-identifier-or-0 c = search needs
 
-part-hex-start : tie.Need-part-hex-start Inv-loop μ-loop
-part-hex-start c = search needs
+part-identifier-or-0-start : tie.Need-part-identifier-or-0-start Inv-loop μ-loop
+part-identifier-or-0-start c = search needs
 
-part-hex-end : tie.Need-part-hex-end Inv-loop μ-loop
-part-hex-end c = search needs
+part-identifier-or-0-end : tie.Need-part-identifier-or-0-end Inv-loop μ-loop
+part-identifier-or-0-end c = search needs
 
-hex-requires : tie.Need-hex-requires Inv-loop μ-loop
-hex-requires c κs = search needs
+identifier-or-0-requires : tie.Need-identifier-or-0-requires Inv-loop μ-loop
+identifier-or-0-requires c κs = search needs
 
 add-book : tie.Need-add-book Inv-loop μ-loop
 add-book c = search needs
@@ -54,17 +54,17 @@ mul-book c = search needs
 array-write-book-2 : tie.Need-array-write-book-2 Inv-loop μ-loop
 array-write-book-2 c = search needs
 
-sub-hex-2 : tie.Need-sub-hex-2 Inv-loop μ-loop
-sub-hex-2 c = search needs
+sub-identifier-or-0-2 : tie.Need-sub-identifier-or-0-2 Inv-loop μ-loop
+sub-identifier-or-0-2 c = search needs
 
-part-hex-start-2 : tie.Need-part-hex-start-2 Inv-loop μ-loop
-part-hex-start-2 c = search needs
+part-identifier-or-0-start-2 : tie.Need-part-identifier-or-0-start-2 Inv-loop μ-loop
+part-identifier-or-0-start-2 c = search needs
 
-part-hex-end-2 : tie.Need-part-hex-end-2 Inv-loop μ-loop
-part-hex-end-2 c = search needs
+part-identifier-or-0-end-2 : tie.Need-part-identifier-or-0-end-2 Inv-loop μ-loop
+part-identifier-or-0-end-2 c = search needs
 
-hex-requires-2 : tie.Need-hex-requires-2 Inv-loop μ-loop
-hex-requires-2 c κs = search needs
+identifier-or-0-requires-2 : tie.Need-identifier-or-0-requires-2 Inv-loop μ-loop
+identifier-or-0-requires-2 c κs = search needs
 
 add-book-2 : tie.Need-add-book-2 Inv-loop μ-loop
 add-book-2 c = search needs
@@ -100,17 +100,17 @@ book-on-spec =
     mul-from
     add-to
     add-end
-    sub-hex
-    part-hex-start
-    part-hex-end
-    hex-requires
+    sub-identifier-or-0
+    part-identifier-or-0-start
+    part-identifier-or-0-end
+    identifier-or-0-requires
     add-book
     mul-book
     array-write-book-2
-    sub-hex-2
-    part-hex-start-2
-    part-hex-end-2
-    hex-requires-2
+    sub-identifier-or-0-2
+    part-identifier-or-0-start-2
+    part-identifier-or-0-end-2
+    identifier-or-0-requires-2
     add-book-2
     mul-book-2
     array-write-book-3

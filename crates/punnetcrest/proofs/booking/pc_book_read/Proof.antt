@@ -13,16 +13,16 @@ enum-told c = search needs
 enum-known-answer : tie.Need-enum-known-answer
 enum-known-answer c = search needs
 
-number-of-requires : tie.Need-number-of-requires
-number-of-requires c κs = search needs
+number-requires : tie.Need-number-requires
+number-requires c κs = search needs
 
 returns : tie.Need-returns
 returns c = as-read (c .before .before .read .ensures) (c .enum-told .given .1)
 
 returns-2 : tie.Need-returns-2
-returns-2 c = rw (c .number-of .ensures) (as-read (c .before .before .before .before .read .ensures) (c .before .before .answer .given .1))
+returns-2 c = rw (c .number .ensures) (as-read (c .before .before .before .before .read .ensures) (c .before .before .answer .given .1))
 
 pub pc-book-read-spec : {M : Type 1} → statement M
 pc-book-read-spec =
     tie.close
-    (tie.spec read-requires enum-told enum-known-answer number-of-requires returns returns-2)
+    (tie.spec read-requires enum-told enum-known-answer number-requires returns returns-2)
