@@ -44,9 +44,6 @@ fn list_whole(book: &[u32; BOOK_WORDS], text: &[u8], out: &mut [u8]) -> usize
                 if more == 0 {
                     return used;
                 }
-                if more > rest.len() {
-                    return used;
-                }
                 used += more;
             }
             Listed::NotABook => return used,

@@ -193,7 +193,7 @@ module _ (w : List ℕ) (t : messagesTaken w ≡ true) where
   pub ids-are : take (messageCountOf w) (idsOf w) ≡ identifiers Ms
   ids-are =
       ap (λ (l : List ℕ). take (messageCountOf w) l) (ids-stand w Ms few roomy stand)
-      ∙ take-column 64 (messageCountOf w) (identifiers Ms) (length-map Ms (λ (m : Message). m .identifier) ∙ sym count-is)
+      ∙ take-column messageLimit (messageCountOf w) (identifiers Ms) (length-map Ms (λ (m : Message). m .identifier) ∙ sym count-is)
 
   -- what a search of the first entries finds
   pub first-is : (identifier at count : ℕ) (ids : List ℕ) → count ≡ messageCountOf w → ids ≡ idsOf w → at ≡ firstAt identifier (take count ids) → at ≡ firstAt identifier (identifiers Ms)
@@ -234,13 +234,13 @@ module _ (w : List ℕ) (t : messagesTaken w ≡ true) where
     numbers-are : part From To (numbersOf w) ≡ numbers Ps
     numbers-are =
         ap (λ (l : List ℕ). part From To l) (numbers-stand w Ms few roomy stand)
-        ∙ column-part (λ (p : Placement). p .number) 256 From To (allPlacements Ms) order inside
+        ∙ column-part (λ (p : Placement). p .number) signalLimit From To (allPlacements Ms) order inside
         ∙ ap numbers placements-are
 
     starts-are : part From To (startsOf w) ≡ starts Ps
     starts-are =
         ap (λ (l : List ℕ). part From To l) (starts-stand w Ms few roomy stand)
-        ∙ column-part (λ (p : Placement). p .start) 256 From To (allPlacements Ms) order inside
+        ∙ column-part (λ (p : Placement). p .start) signalLimit From To (allPlacements Ms) order inside
         ∙ ap starts placements-are
 
     here : messageOf identifier Ms ≡ some (record { identifier = identifier; placements = Ps })
@@ -255,12 +255,12 @@ module _ (w : List ℕ) (t : messagesTaken w ≡ true) where
     begins-so : getD (0 ∷ endsOf w) at 0 ≡ From
     begins-so =
         ap (λ (l : List ℕ). getD (0 ∷ l) at 0) (ends-stand w Ms few roomy stand)
-        ∙ column-before 64 at (endsAfter 0 Ms) (omega (arith, length-ends 0 Ms))
+        ∙ column-before messageLimit at (endsAfter 0 Ms) (omega (arith, length-ends 0 Ms))
 
     ends-so : getD (endsOf w) at 0 ≡ To
     ends-so =
         ap (λ (l : List ℕ). getD l at 0) (ends-stand w Ms few roomy stand)
-        ∙ column-at 64 at (endsAfter 0 Ms) (omega (arith, length-ends 0 Ms))
+        ∙ column-at messageLimit at (endsAfter 0 Ms) (omega (arith, length-ends 0 Ms))
 
     at-is : at ≡ before w identifier
     at-is = first ∙ sym (ap (firstAt identifier) ids-are)

@@ -1,6 +1,6 @@
 // Reading and packing a frame by a lent book. `read` and `pack` are the calls for users: they have no `requires`, and whatever book,
 // identifier, frame, values and room are lent, they say what they answer and what every lent entry holds then (framing's specs/Reading
-// and specs/Packing). The others are for callers in this repository that have tested the book themselves.
+// and specs/Packing). `find_message` is for a caller in this repository that has tested the book itself.
 mod lookup;
 mod tested;
 
@@ -9,9 +9,8 @@ use framing::Reading;
 pub use lookup::Found;
 pub use lookup::find_message;
 use record::BOOK_WORDS;
-pub use tested::pack_tested;
-pub use tested::read_tested;
-pub use tested::read_word;
+use tested::pack_tested;
+use tested::read_tested;
 ghost use mathlib.Core.Path.{_≡_};
 ghost use mathlib.Core.List.{List};
 ghost use Prim.Native.Nat.{ℕ};

@@ -1,4 +1,4 @@
-// Reading and packing by a book whose message and signal tables have been tested: for callers that use one book for many frames.
+// The work behind `read` and `pack`, by a book whose message and signal tables they have tested.
 use crate::lookup::Found;
 use crate::lookup::find_message;
 use framing::Packing;
@@ -20,9 +20,8 @@ ghost use Rattle.framing.specs.Packing.{packByMessage};
 
 const FRAME_BYTES: usize = 8;
 
-// A frame of 8 bytes, given as its word (byte 0 lowest), read by a book whose messages have been tested: for a caller that reads
-// many frames by one book.
-pub fn read_word(
+// A frame of 8 bytes, given as its word (byte 0 lowest).
+fn read_word(
     book: &[u32; BOOK_WORDS],
     identifier: u32,
     word: u64,
@@ -53,7 +52,7 @@ pub fn read_word(
     }
 }
 
-// A frame read by a book whose messages have been tested.
+// A frame of any length.
 pub fn read_tested(
     book: &[u32; BOOK_WORDS],
     identifier: u32,
@@ -80,7 +79,7 @@ pub fn read_tested(
     )
 }
 
-// Values packed by a book whose messages have been tested.
+// Values into a frame of any length.
 pub fn pack_tested(
     book: &[u32; BOOK_WORDS],
     identifier: u32,

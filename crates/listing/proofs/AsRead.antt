@@ -1,5 +1,5 @@
--- What the lister prints is what reading answers: the number of a refusal, or a line for each reading, of the same class.
--- Assumes nothing.
+-- What the lister prints is what reading answers: the number of a refusal, or a line for each reading, of the same class. And the
+-- call itself refuses, by 12, just the words that reading so refuses. Assumes nothing.
 use mathlib.Core.Path.{_≡_, refl}
 use mathlib.Core.Bool.{Bool, true, false, cond}
 use mathlib.Core.List.{List}
@@ -10,12 +10,17 @@ use lib.Dec.{eqb, leb}
 use lib.ListN.{length}
 use Rattle.bits.specs.Frame.{frameBytes}
 use Rattle.books.specs.Book.{Message}
+use Rattle.books.specs.Words.{messagesOf, messagesTaken}
 use Rattle.framing.specs.declared.Reading.{Reading}
 use Rattle.framing.specs.declared.Reading.the-variants.{Read, NotEightBytes, WrongChecksum, TooLittleRoom}
 use Rattle.framing.specs.Messages.{messageOf}
 use Rattle.framing.specs.Reading.{Slices, readingNumber, checksumHolds, room, readings, readByMessage, readByMessages}
+use Rattle.parts.specs.Parts.{lines}
 use Rattle.signal_lines.specs.Printed.{refusedLine}
+use Rattle.listing.specs.declared.Listed.{Listed}
+use Rattle.listing.specs.declared.Listed.the-variants.{NotABook}
 use Rattle.listing.specs.Printout.{signalLines, messageLines, frameListing}
+use Rattle.listing.specs.Listing.{listedNumber, run, ofRun, listing}
 use Rattle.listing.specs.AsRead.{Refuses, ListedAsRead}
 
 module _ (identifier : ℕ) (bytes : List ℕ) (lent : Slices) where
@@ -65,3 +70,12 @@ module _ (ms : List Message) (identifier : ℕ) (bytes : List ℕ) (lent : Slice
       long : (b : Bool) → eqb (length bytes) frameBytes ≡ b → cond {A = Reading × Slices} b (readByMessage (messageOf identifier ms) bytes lent) (NotEightBytes, lent) .0 ≡ Read n → ListedAsRead ms identifier bytes lent
       long true x e = known (messageOf identifier ms) x refl e
       long false x e = absurd (let q : _≡_ {A = ℕ} 0 1 = cc in omega arith)
+
+-- words that are those of no taken book, and nothing else, are refused
+pub refused-12 : (words text lent : List ℕ) → listedNumber (listing words text lent .0) ≡ cond (messagesTaken words) 0 12
+unfolding listing
+refused-12 words text lent = go (messagesTaken words)
+  where
+    go : (b : Bool) → listedNumber (cond {A = Listed × List ℕ} b (ofRun (run (messagesOf words) (length lent) (lines text)) lent) (NotABook, lent) .0) ≡ cond b 0 12
+    go true = refl
+    go false = refl

@@ -1,5 +1,6 @@
 pub mod Walking
-pub mod Bridge
+pub mod Found
+pub mod Prints
 pub mod Fits
 pub mod Running
 pub mod Sizes

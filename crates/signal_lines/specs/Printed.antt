@@ -8,7 +8,7 @@ use Rattle.numerals.specs.Written.{identifierText}
 use Rattle.parts.specs.Parts.{tab, newline}
 use Rattle.parts.specs.Joined.{join}
 use Rattle.printing.specs.Decimal.{naturalText}
-use Rattle.signal_lines.specs.Words.{noWord, wordOf, figureOf}
+use Rattle.signal_lines.specs.Words.{noWord, classWord, figureOf}
 
 unfoldable pub printedLine : List (List ℕ) → List ℕ
 printedLine fields = join tab fields ++ (newline ∷ [])
@@ -16,7 +16,7 @@ printedLine fields = join tab fields ++ (newline ∷ [])
 -- "Each signal gives identifier, number, class word, and the thousandths of a value or the raw count of any other class."
 abbrev pub signalLine : ℕ → ℕ → Class → List ℕ
 signalLine identifier number class =
-    printedLine (identifierText identifier ∷ naturalText number ∷ wordOf class ∷ figureOf class ∷ [])
+    printedLine (identifierText identifier ∷ naturalText number ∷ classWord class ∷ figureOf class ∷ [])
 
 -- "A refused frame gives identifier, `no`, number"
 abbrev pub refusedLine : ℕ → ℕ → List ℕ

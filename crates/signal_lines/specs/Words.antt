@@ -3,7 +3,8 @@ use mathlib.Core.List.{List, [], _∷_}
 use Prim.Native.Nat.{ℕ}
 use Rattle.catalogue.specs.declared.Class.{Class}
 use Rattle.catalogue.specs.declared.Class.the-variants.{Value, Invalid, Absent, Error, Reserved, Outside, NotInCatalogue, TooWide}
-use Rattle.printing.specs.Decimal.{naturalText, signedText}
+use Rattle.catalogue.specs.Class.{carriedBy}
+use Rattle.printing.specs.Decimal.{signedText}
 
 abbrev pub valueWord : List ℕ
 valueWord = 118 ∷ 97 ∷ 108 ∷ 117 ∷ 101 ∷ []  -- value
@@ -28,23 +29,16 @@ abbrev pub noWord : List ℕ
 noWord = 110 ∷ 111 ∷ []  -- no
 
 -- the word of a class; a signal that a book places is in the catalogue and its count is no wider, so the last two have none
-abbrev pub wordOf : Class → List ℕ
-wordOf (Value t) = valueWord
-wordOf (Invalid r) = invalidWord
-wordOf (Absent r) = absentWord
-wordOf (Error r) = errorWord
-wordOf (Reserved r) = reservedWord
-wordOf (Outside r) = outsideWord
-wordOf NotInCatalogue = []
-wordOf TooWide = []
+abbrev pub classWord : Class → List ℕ
+classWord (Value t) = valueWord
+classWord (Invalid r) = invalidWord
+classWord (Absent r) = absentWord
+classWord (Error r) = errorWord
+classWord (Reserved r) = reservedWord
+classWord (Outside r) = outsideWord
+classWord NotInCatalogue = []
+classWord TooWide = []
 
 -- "the thousandths of a value or the raw count of any other class"
 abbrev pub figureOf : Class → List ℕ
-figureOf (Value t) = signedText (t .0)
-figureOf (Invalid r) = naturalText (r .0)
-figureOf (Absent r) = naturalText (r .0)
-figureOf (Error r) = naturalText (r .0)
-figureOf (Reserved r) = naturalText (r .0)
-figureOf (Outside r) = naturalText (r .0)
-figureOf NotInCatalogue = []
-figureOf TooWide = []
+figureOf class = signedText (carriedBy class)

@@ -13,7 +13,7 @@ ghost use Prim.Native.Nat.{_+_, _≤_};
 ghost use lib.ListN.{length};
 ghost use Rattle.printing.specs.Put.{PutWithin};
 ghost use Rattle.printing.specs.Decimal.{naturalText};
-ghost use Rattle.signal_lines.specs.Words.{wordOf, figureOf};
+ghost use Rattle.signal_lines.specs.Words.{classWord, figureOf};
 ghost use Rattle.signal_lines.specs.Printed.{printedLine, signalLine, refusedLine, lineRoom, endRoom, wordRoom};
 
 const TAB: u8 = b'\t';
@@ -40,7 +40,7 @@ fn put_count(out: &mut [u8], at: usize, word: &[u8], count: u32) -> usize
 // The word and the thousandths of a value.
 fn put_value(out: &mut [u8], at: usize, reading: Thousandths) -> usize
     requires { ⌜ at + endRoom ≤ length (now out) ⌝ }
-    ensures { λ r. ⌜ PutWithin (now (out .entry)) at endRoom (printedLine (wordOf (Class.Value reading) ∷ figureOf (Class.Value reading) ∷ [])) (now (out .exit)) r ⌝ }
+    ensures { λ r. ⌜ PutWithin (now (out .entry)) at endRoom (printedLine (classWord (Class.Value reading) ∷ figureOf (Class.Value reading) ∷ [])) (now (out .exit)) r ⌝ }
 {
     let after_word = put_bytes(&mut *out, at, b"value");
     let number = put_byte(&mut *out, after_word, TAB);
@@ -51,7 +51,7 @@ fn put_value(out: &mut [u8], at: usize, reading: Thousandths) -> usize
 // The word of a class, and its thousandths or count.
 fn put_class(out: &mut [u8], at: usize, class: Class) -> usize
     requires { ⌜ at + endRoom ≤ length (now out) ⌝ }
-    ensures { λ r. ⌜ PutWithin (now (out .entry)) at endRoom (printedLine (wordOf class ∷ figureOf class ∷ [])) (now (out .exit)) r ⌝ }
+    ensures { λ r. ⌜ PutWithin (now (out .entry)) at endRoom (printedLine (classWord class ∷ figureOf class ∷ [])) (now (out .exit)) r ⌝ }
 {
     match class {
         Class::Value(reading) => put_value(out, at, reading),
@@ -60,8 +60,8 @@ fn put_class(out: &mut [u8], at: usize, class: Class) -> usize
         Class::Error(raw) => put_count(out, at, b"error", raw.0),
         Class::Reserved(raw) => put_count(out, at, b"reserved", raw.0),
         Class::Outside(raw) => put_count(out, at, b"outside", raw.0),
-        Class::NotInCatalogue => put_bytes(out, at, b"\t\n"),
-        Class::TooWide => put_bytes(out, at, b"\t\n"),
+        Class::NotInCatalogue => put_count(out, at, b"", 0),
+        Class::TooWide => put_count(out, at, b"", 0),
     }
 }
 

@@ -1,14 +1,9 @@
 -- `signal_lines::put_class` meets its contract: each class has its word. Assumes nothing.
-use native.Mathlib.Omega.{arith}
-use Rattle.printing.proofs.Puts.{put-within}
-use Rattle.signal_lines.specs.Printed.{printedLine}
-use Rattle.parts.specs.Joined.{join}
 use borrow.Author.Needs.{needs}
 use Rattle.signal_lines.proofs.put_class.Statement.{statement}
 use Rattle.signal_lines.proofs.put_class.Tie as tie
 use Rattle.signal_lines.proofs.put_class.Reads as reads
 use Rattle.signal_lines.proofs.put_class.Lts as lts
-use Rattle.printing.proofs.put_bytes.Reads as put-bytes-reads
 use Rattle.signal_lines.proofs.put_count.Reads as put-count-reads
 use Rattle.signal_lines.proofs.put_value.Reads as put-value-reads
 
@@ -66,20 +61,20 @@ put-count-requires-5 c κs = search needs
 enum-told : tie.Need-enum-told
 enum-told c = search needs
 
-slice-aggregate-put-bytes : tie.Need-slice-aggregate-put-bytes
-slice-aggregate-put-bytes c = search needs
+slice-aggregate-put-count-6 : tie.Need-slice-aggregate-put-count-6
+slice-aggregate-put-count-6 c = search needs
 
-put-bytes-requires : tie.Need-put-bytes-requires
-put-bytes-requires c κs = search needs
+put-count-requires-6 : tie.Need-put-count-requires-6
+put-count-requires-6 c κs = search needs
 
 enum-told-2 : tie.Need-enum-told-2
 enum-told-2 c = search needs
 
-slice-aggregate-put-bytes-2 : tie.Need-slice-aggregate-put-bytes-2
-slice-aggregate-put-bytes-2 c = search needs
+slice-aggregate-put-count-7 : tie.Need-slice-aggregate-put-count-7
+slice-aggregate-put-count-7 c = search needs
 
-put-bytes-requires-2 : tie.Need-put-bytes-requires-2
-put-bytes-requires-2 c κs = search needs
+put-count-requires-7 : tie.Need-put-count-requires-7
+put-count-requires-7 c κs = search needs
 
 same-length : tie.Need-same-length
 same-length c = search needs
@@ -121,15 +116,13 @@ same-length-7 : tie.Need-same-length-7
 same-length-7 c = search needs
 
 returns-7 : tie.Need-returns-7
-unfolding printedLine join
-returns-7 c = rw (c .before .before .before .before .before .enum-told .given .1) (put-within 34 (c .before .before .put-bytes .ensures) (omega (arith, c .before .before .put-bytes .ensures .now-at)))
+returns-7 c = rw (c .before .before .before .before .before .enum-told .given .1) (c .before .before .put-count6 .ensures)
 
 same-length-8 : tie.Need-same-length-8
 same-length-8 c = search needs
 
 returns-8 : tie.Need-returns-8
-unfolding printedLine join
-returns-8 c = rw (c .before .before .before .before .before .enum-told2 .given .1) (put-within 34 (c .before .before .put-bytes2 .ensures) (omega (arith, c .before .before .put-bytes2 .ensures .now-at)))
+returns-8 c = rw (c .before .before .before .before .before .enum-told2 .given .1) (c .before .before .put-count7 .ensures)
 
 pub put-class-spec : {M : Type 1} → statement M
 put-class-spec =
@@ -153,11 +146,11 @@ put-class-spec =
     slice-aggregate-put-count-5
     put-count-requires-5
     enum-told
-    slice-aggregate-put-bytes
-    put-bytes-requires
+    slice-aggregate-put-count-6
+    put-count-requires-6
     enum-told-2
-    slice-aggregate-put-bytes-2
-    put-bytes-requires-2
+    slice-aggregate-put-count-7
+    put-count-requires-7
     same-length
     returns
     same-length-2

@@ -2,6 +2,7 @@
 use native.Mathlib.Omega.{arith}
 use Rattle.printing.proofs.Puts.{put-within}
 use Rattle.printing.proofs.Spelling.{natural-few}
+use Rattle.signal_lines.specs.Printed.{endRoom}
 use Rattle.signal_lines.proofs.Fields.{put-more, put-last}
 use borrow.Author.Needs.{needs}
 use Rattle.signal_lines.proofs.put_count.Statement.{statement}
@@ -28,7 +29,7 @@ same-length : tie.Need-same-length
 same-length c = search needs
 
 returns : tie.Need-returns
-returns c = put-within 34 (put-more _ _ (c .before .before .before .before .before .before .before .before .before .before .before .before .before .before .put-bytes .ensures) (c .before .before .before .before .before .before .before .before .before .before .put-byte .ensures) (put-last (c .before .before .before .before .before .before .put-natural .ensures) (c .before .before .put-byte2 .ensures))) (omega (arith, natural-few (c .before .before .before .before .before .before .before .before .before .before .before .before .before .before .before .before .before .before .args .count) (omega (arith, c .before .before .before .before .before .before .before .before .before .before .before .before .before .before .before .before .before .before .fits .count .fits)), c .before .before .put-byte2 .ensures .now-at, c .before .before .before .before .before .before .put-natural .ensures .now-at, c .before .before .before .before .before .before .before .before .before .before .put-byte .ensures .now-at, c .before .before .before .before .before .before .before .before .before .before .before .before .before .before .put-bytes .ensures .now-at))
+returns c = put-within endRoom (put-more _ _ (c .before .before .before .before .before .before .before .before .before .before .before .before .before .before .put-bytes .ensures) (c .before .before .before .before .before .before .before .before .before .before .put-byte .ensures) (put-last (c .before .before .before .before .before .before .put-natural .ensures) (c .before .before .put-byte2 .ensures))) (omega (arith, natural-few (c .before .before .before .before .before .before .before .before .before .before .before .before .before .before .before .before .before .before .args .count) (omega (arith, c .before .before .before .before .before .before .before .before .before .before .before .before .before .before .before .before .before .before .fits .count .fits)), c .before .before .put-byte2 .ensures .now-at, c .before .before .before .before .before .before .put-natural .ensures .now-at, c .before .before .before .before .before .before .before .before .before .before .put-byte .ensures .now-at, c .before .before .before .before .before .before .before .before .before .before .before .before .before .before .put-bytes .ensures .now-at))
 
 pub put-count-spec : {M : Type 1} → statement M
 put-count-spec =

@@ -2,6 +2,7 @@
 use native.Mathlib.Omega.{arith}
 use Rattle.printing.proofs.Puts.{put-within}
 use Rattle.printing.proofs.Spelling.{natural-few}
+use Rattle.signal_lines.specs.Printed.{lineRoom}
 use Rattle.signal_lines.proofs.Fields.{put-more, put-identifier}
 use borrow.Author.Needs.{needs}
 use Rattle.signal_lines.proofs.put_signal.Statement.{statement}
@@ -32,7 +33,7 @@ same-length : tie.Need-same-length
 same-length c = search needs
 
 returns : tie.Need-returns
-returns c = put-within 64 (put-more _ _ (put-identifier _ (c .before .before .before .before .before .before .before .before .before .before .before .before .before .before .before .before .before .before .put-identifier .ensures)) (c .before .before .before .before .before .before .before .before .before .before .before .before .before .before .put-byte .ensures) (put-more _ _ (c .before .before .before .before .before .before .before .before .before .before .put-natural .ensures) (c .before .before .before .before .before .before .put-byte2 .ensures) (c .before .before .put-class .ensures .put))) (omega (arith, natural-few (c .before .before .before .before .before .before .before .before .before .before .before .before .before .before .before .before .before .before .before .before .before .args .number) (omega (arith, c .before .before .before .before .before .before .before .before .before .before .before .before .before .before .before .before .before .before .before .before .before .fits .number .fits)), c .before .before .put-class .ensures .short, c .before .before .put-class .ensures .put .now-at, c .before .before .before .before .before .before .put-byte2 .ensures .now-at, c .before .before .before .before .before .before .before .before .before .before .put-natural .ensures .now-at, c .before .before .before .before .before .before .before .before .before .before .before .before .before .before .put-byte .ensures .now-at, c .before .before .before .before .before .before .before .before .before .before .before .before .before .before .before .before .before .before .put-identifier .ensures .0))
+returns c = put-within lineRoom (put-more _ _ (put-identifier _ (c .before .before .before .before .before .before .before .before .before .before .before .before .before .before .before .before .before .before .put-identifier .ensures)) (c .before .before .before .before .before .before .before .before .before .before .before .before .before .before .put-byte .ensures) (put-more _ _ (c .before .before .before .before .before .before .before .before .before .before .put-natural .ensures) (c .before .before .before .before .before .before .put-byte2 .ensures) (c .before .before .put-class .ensures .put))) (omega (arith, natural-few (c .before .before .before .before .before .before .before .before .before .before .before .before .before .before .before .before .before .before .before .before .before .args .number) (omega (arith, c .before .before .before .before .before .before .before .before .before .before .before .before .before .before .before .before .before .before .before .before .before .fits .number .fits)), c .before .before .put-class .ensures .short, c .before .before .put-class .ensures .put .now-at, c .before .before .before .before .before .before .put-byte2 .ensures .now-at, c .before .before .before .before .before .before .before .before .before .before .put-natural .ensures .now-at, c .before .before .before .before .before .before .before .before .before .before .before .before .before .before .put-byte .ensures .now-at, c .before .before .before .before .before .before .before .before .before .before .before .before .before .before .before .before .before .before .put-identifier .ensures .0))
 
 pub put-signal-spec : {M : Type 1} → statement M
 put-signal-spec =

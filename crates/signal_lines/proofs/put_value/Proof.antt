@@ -10,6 +10,7 @@ use lib.ListN.{length}
 use Rattle.printing.proofs.Puts.{put-as, put-within}
 use Rattle.printing.specs.Decimal.{signedText}
 use Rattle.printing.proofs.Spelling.{signed-few}
+use Rattle.signal_lines.specs.Printed.{endRoom}
 use Rattle.signal_lines.proofs.Fields.{put-more, put-last}
 use borrow.Author.Needs.{needs}
 use Rattle.signal_lines.proofs.put_value.Statement.{statement}
@@ -39,7 +40,7 @@ same-length : tie.Need-same-length
 same-length c = search needs
 
 returns : tie.Need-returns
-returns c = let f : SFits w64 (c .before .before .before .before .before .before .before .before .before .before .before .before .before .before .before .before .before .before .before .args .reading .0) = search needs in let same = toZ-ofZ w64 (c .before .before .before .before .before .before .before .before .before .before .before .before .before .before .before .before .before .before .before .args .reading .0) f in put-within 34 (put-more _ _ (c .before .before .before .before .before .before .before .before .before .before .before .before .before .before .before .put-bytes .ensures) (c .before .before .before .before .before .before .before .before .before .before .before .put-byte .ensures) (put-last (put-as (ap signedText same) (c .before .before .before .before .before .before .put-signed .ensures)) (c .before .before .put-byte2 .ensures))) (omega (arith, subst (λ (z : ℤ). length (signedText z) ≤ 21) (sym same) (signed-few (c .before .before .before .before .before .before .before .before .before .before .before .before .before .before .before .before .before .before .before .args .reading .0) f), c .before .before .put-byte2 .ensures .now-at, c .before .before .before .before .before .before .put-signed .ensures .now-at, c .before .before .before .before .before .before .before .before .before .before .before .put-byte .ensures .now-at, c .before .before .before .before .before .before .before .before .before .before .before .before .before .before .before .put-bytes .ensures .now-at))
+returns c = let f : SFits w64 (c .before .before .before .before .before .before .before .before .before .before .before .before .before .before .before .before .before .before .before .args .reading .0) = search needs in let same = toZ-ofZ w64 (c .before .before .before .before .before .before .before .before .before .before .before .before .before .before .before .before .before .before .before .args .reading .0) f in put-within endRoom (put-more _ _ (c .before .before .before .before .before .before .before .before .before .before .before .before .before .before .before .put-bytes .ensures) (c .before .before .before .before .before .before .before .before .before .before .before .put-byte .ensures) (put-last (put-as (ap signedText same) (c .before .before .before .before .before .before .put-signed .ensures)) (c .before .before .put-byte2 .ensures))) (omega (arith, subst (λ (z : ℤ). length (signedText z) ≤ 21) (sym same) (signed-few (c .before .before .before .before .before .before .before .before .before .before .before .before .before .before .before .before .before .before .before .args .reading .0) f), c .before .before .put-byte2 .ensures .now-at, c .before .before .before .before .before .before .put-signed .ensures .now-at, c .before .before .before .before .before .before .before .before .before .before .before .put-byte .ensures .now-at, c .before .before .before .before .before .before .before .before .before .before .before .before .before .before .before .put-bytes .ensures .now-at))
 
 pub put-value-spec : {M : Type 1} → statement M
 put-value-spec =

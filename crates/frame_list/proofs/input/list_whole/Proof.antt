@@ -4,7 +4,7 @@ use Prim.Native.Nat.{_-_, _≤_}
 use native.Mathlib.Omega.{arith}
 use borrow.Author.Needs.{needs}
 use lib.ListN.{length, length-drop}
-use Rattle.listing.proofs.Sizes.{list-long}
+use Rattle.listing.proofs.Sizes.{list-long, list-used}
 use Rattle.frame_list.proofs.input.list_whole.Statement.{statement}
 use Rattle.frame_list.proofs.input.list_whole.Tie as tie
 use Rattle.frame_list.proofs.input.list_whole.Reads as reads
@@ -40,35 +40,29 @@ same-length c = list-long _ _ _ (c .before .before .before .before .before .befo
 returns : tie.Need-returns Inv-loop μ-loop
 returns c = c .before .before .before .before .before .before .before .before .before .before .before .before .loop .inv .0
 
-same-length-2 : tie.Need-same-length-2 Inv-loop μ-loop
-same-length-2 c = list-long _ _ _ (c .before .before .before .before .before .before .before .before .before .list .ensures) ∙ c .before .before .before .before .before .before .before .before .before .before .before .before .before .loop .inv .1
-
-returns-2 : tie.Need-returns-2 Inv-loop μ-loop
-returns-2 c = c .before .before .before .before .before .before .before .before .before .before .before .before .before .loop .inv .0
-
 add-used : tie.Need-add-used Inv-loop μ-loop
-add-used c = omega (arith, c .if2 .left, ap length (c .before .before .before .before .before .before .before .before .before .before .before .part-from .ensures), length-drop (c .before .before .before .before .before .before .before .before .before .before .before .before .before .loop .used) (c .before .before .before .before .before .before .before .before .before .before .before .before .before .before .before .before .args .text .now), c .before .before .before .before .before .before .before .before .before .before .before .before .loop-test .taken)
+add-used c = omega (arith, list-used _ _ _ (c .before .before .before .before .before .before .before .before .list .ensures) _ _ (c .before .before .before .before .more .given .1), ap length (c .before .before .before .before .before .before .before .before .before .before .part-from .ensures), length-drop (c .before .before .before .before .before .before .before .before .before .before .before .before .loop .used) (c .before .before .before .before .before .before .before .before .before .before .before .before .before .before .before .args .text .now), c .before .before .before .before .before .before .before .before .before .before .before .loop-test .taken)
 
 loop-less : tie.Need-loop-less Inv-loop μ-loop
-loop-less c = omega (arith, c .before .before .before .before .before .before .before .before .before .before .before .before .loop-test .taken, c .before .if1 .left)
+loop-less c = omega (arith, c .before .before .before .before .before .before .before .before .before .before .before .loop-test .taken, c .if1 .left)
 
 loop-again : tie.Need-loop-again Inv-loop μ-loop
-loop-again c = (omega (arith, c .if2 .left, ap length (c .before .before .before .before .before .before .before .before .before .before .before .part-from .ensures), length-drop (c .before .before .before .before .before .before .before .before .before .before .before .before .before .loop .used) (c .before .before .before .before .before .before .before .before .before .before .before .before .before .before .before .before .args .text .now), c .before .before .before .before .before .before .before .before .before .before .before .before .loop-test .taken), list-long _ _ _ (c .before .before .before .before .before .before .before .before .before .list .ensures) ∙ c .before .before .before .before .before .before .before .before .before .before .before .before .before .loop .inv .1)
+loop-again c = (omega (arith, list-used _ _ _ (c .before .before .before .before .before .before .before .before .list .ensures) _ _ (c .before .before .before .before .more .given .1), ap length (c .before .before .before .before .before .before .before .before .before .before .part-from .ensures), length-drop (c .before .before .before .before .before .before .before .before .before .before .before .before .loop .used) (c .before .before .before .before .before .before .before .before .before .before .before .before .before .before .before .args .text .now), c .before .before .before .before .before .before .before .before .before .before .before .loop-test .taken), list-long _ _ _ (c .before .before .before .before .before .before .before .before .list .ensures) ∙ c .before .before .before .before .before .before .before .before .before .before .before .before .loop .inv .1)
 
 enum-told : tie.Need-enum-told Inv-loop μ-loop
 enum-told c = search needs
 
+same-length-2 : tie.Need-same-length-2 Inv-loop μ-loop
+same-length-2 c = list-long _ _ _ (c .before .before .before .before .list .ensures) ∙ c .before .before .before .before .before .before .before .before .loop .inv .1
+
+returns-2 : tie.Need-returns-2 Inv-loop μ-loop
+returns-2 c = c .before .before .before .before .before .before .before .before .loop .inv .0
+
 same-length-3 : tie.Need-same-length-3 Inv-loop μ-loop
-same-length-3 c = list-long _ _ _ (c .before .before .before .before .list .ensures) ∙ c .before .before .before .before .before .before .before .before .loop .inv .1
+same-length-3 c = c .before .loop .inv .1
 
 returns-3 : tie.Need-returns-3 Inv-loop μ-loop
-returns-3 c = c .before .before .before .before .before .before .before .before .loop .inv .0
-
-same-length-4 : tie.Need-same-length-4 Inv-loop μ-loop
-same-length-4 c = c .before .loop .inv .1
-
-returns-4 : tie.Need-returns-4 Inv-loop μ-loop
-returns-4 c = c .before .loop .inv .0
+returns-3 c = c .before .loop .inv .0
 
 pub list-whole-spec : {M : Type 1} → statement M
 list-whole-spec =
@@ -83,13 +77,11 @@ list-whole-spec =
     send-requires
     same-length
     returns
-    same-length-2
-    returns-2
     add-used
     loop-less
     loop-again
     enum-told
+    same-length-2
+    returns-2
     same-length-3
-    returns-3
-    same-length-4
-    returns-4)
+    returns-3)

@@ -1,6 +1,7 @@
 -- `listing::line::list_frame` meets its contract: the message that was found is listed, or is unknown. Assumes nothing.
 use native.Mathlib.Omega.{arith}
-use Rattle.listing.proofs.Bridge.{found-signals, found-nothing, column-part, listable, frame-listed, frame-unknown}
+use Rattle.listing.proofs.Found.{found-signals, found-nothing, column-part, listable}
+use Rattle.listing.proofs.Prints.{frame-listed, frame-unknown}
 use Rattle.listing.proofs.Fits.{fitted-as}
 use borrow.Author.Needs.{needs}
 use Rattle.listing.proofs.line.list_frame.Statement.{statement}

@@ -1,7 +1,7 @@
 -- `listing::line::list_line` meets its contract: what the line says is printed. Assumes nothing.
 use mathlib.Core.Path.{sym, _∙_}
 use Rattle.frame_lines.proofs.Behind.{says-frame, says-fewer, says-ill}
-use Rattle.listing.proofs.Bridge.{line-frame, line-fewer, line-ill}
+use Rattle.listing.proofs.Prints.{line-frame, line-fewer, line-ill}
 use Rattle.listing.proofs.Fits.{fitted-as}
 use borrow.Author.Needs.{needs}
 use Rattle.listing.proofs.line.list_line.Statement.{statement}

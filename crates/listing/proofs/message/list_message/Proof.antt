@@ -1,5 +1,5 @@
 -- `listing::message::list_message` meets its contract: the checksum decides. Assumes nothing.
-use Rattle.listing.proofs.Bridge.{message-signals, message-refused}
+use Rattle.listing.proofs.Prints.{message-signals, message-refused}
 use Rattle.listing.proofs.Fits.{fitted-as}
 use borrow.Author.Needs.{needs}
 use Rattle.listing.proofs.message.list_message.Statement.{statement}

@@ -1,11 +1,10 @@
--- From the word back to the frame, and from each answer on the way to what the line prints. Assumes nothing.
-use mathlib.Core.Path.{_≡_, refl, sym, ap, _∙_, subst}
+-- What each answer on the way to a printout prints, from the word back to the frame. Assumes nothing.
+use mathlib.Core.Path.{_≡_, refl, sym, ap, _∙_}
 use mathlib.Core.Bool.{Bool, true, false, cond}
 use mathlib.Core.List.{List, _++_}
 use mathlib.Core.Option.{none, some}
-use Prim.Native.Nat.{ℕ, _-_, _^_, _≤_, _<_}
-use native.Mathlib.Omega.{arith}
-use lib.ListN.{length, drop, length-take}
+use Prim.Native.Nat.{ℕ, _^_, _<_}
+use lib.ListN.{length}
 use borrow.Author.Tests.{eq-eqb, ne-eqb}
 use Rattle.bits.specs.Frame.{frameBytes}
 use Rattle.bits.specs.Word.{Fits, bytesOf}
@@ -18,9 +17,7 @@ use Rattle.catalogue.specs.Class.{classOf}
 use Rattle.frame_lines.specs.declared.FrameLine.the-variants.{NotEightBytes}
 use Rattle.frame_lines.specs.Meaning.{illFormed, frameLineSays, refusal}
 use Rattle.frame_lines.proofs.Behind.{SaysFrame, SaysFewer}
-use Rattle.frames.specs.Lookup.{Spans, Finds, part}
-use Rattle.frames.specs.declared.lookup.Found.{Found}
-use Rattle.frames.specs.declared.lookup.Found.the-variants.{Signals, Nothing}
+use Rattle.frames.specs.Lookup.{Spans, part}
 use Rattle.messages.specs.Signals.{AllFit, classFrom, checkHolds, messageFrom}
 use Rattle.messages.proofs.Readings.{check-same}
 use Rattle.framing.specs.declared.Reading.the-variants.{UnknownIdentifier, WrongChecksum}
@@ -29,7 +26,7 @@ use Rattle.framing.specs.Reading.{readingNumber, checksumHolds}
 use Rattle.record.specs.Columns.{numbersOf, startsOf}
 use Rattle.signal_lines.specs.Printed.{signalLine, refusedLine, illFormedLine}
 use Rattle.listing.specs.Printout.{signalLines, messageLines, frameListing, printout}
-use Rattle.listing.specs.Working.{wordLines, messageText, Listable}
+use Rattle.listing.specs.Working.{wordLines, messageText}
 
 -- ---- the word and the frame
 
@@ -52,29 +49,6 @@ module _ (identifier word : ℕ) (h : word < 2 ^ 64) (ns ss : List ℕ) (same : 
   text-same =
       ap (λ (b : Bool). cond b (wordLines identifier word (placed ns ss)) (refusedLine identifier (readingNumber WrongChecksum))) check-word
       ∙ ap (λ (l : List ℕ). cond (checksumHolds (messageFrom identifier ns ss) (bytesOf word)) l (refusedLine identifier (readingNumber WrongChecksum))) (lines-same identifier word h fit)
-
--- ---- what looking for a message found
-
-pub found-signals : (words : List ℕ) (identifier : ℕ) {from to : ℕ} {f : Found} → f ≡ Signals from to → Finds words identifier f → Spans words identifier from to
-found-signals words identifier e p = subst (Finds words identifier) e p
-
-pub found-nothing : (words : List ℕ) (identifier : ℕ) {f : Found} → f ≡ Nothing → Finds words identifier f → messageOf identifier (messagesOf words) ≡ none
-found-nothing words identifier e p = subst (Finds words identifier) e p
-
--- a part of a column
-pub column-part : (from to : ℕ) {ns column words : List ℕ} → ns ≡ part from to column → column ≡ words → ns ≡ part from to words
-column-part from to p e = p ∙ ap (part from to) e
-
--- parts of the columns that are a message's can be listed
-pub listable : {words : List ℕ} {identifier from to : ℕ} → Spans words identifier from to → {ns ss : List ℕ} → ns ≡ part from to (numbersOf words) → ss ≡ part from to (startsOf words)
-    → {out : List ℕ} {at : ℕ} → at ≤ length out → Listable out at ns ss
-listable {words} {identifier} {from} {to} s {ns} {ss} x y h =
-    record {
-      same = ap length y ∙ s .same ∙ ap length (sym x);
-      fit = subst (λ (l : List ℕ). AllFit (placed l ss)) (sym x) (subst (λ (l : List ℕ). AllFit (placed (part from to (numbersOf words)) l)) (sym y) (s .fit));
-      many = omega (arith, ap length x, length-take (to - from) (drop from (numbersOf words)), s .inside);
-      inside = h;
-    }
 
 -- ---- what each answer on the way prints
 

@@ -1,0 +1,36 @@
+-- What looking for a message found: parts of the columns, which can be listed. Assumes nothing.
+use mathlib.Core.Path.{_≡_, sym, ap, _∙_, subst}
+use mathlib.Core.List.{List}
+use mathlib.Core.Option.{none}
+use Prim.Native.Nat.{ℕ, _-_, _≤_}
+use native.Mathlib.Omega.{arith}
+use lib.ListN.{length, drop, length-take}
+use Rattle.books.specs.Words.{placed, messagesOf}
+use Rattle.frames.specs.Lookup.{Spans, Finds, part}
+use Rattle.frames.specs.declared.lookup.Found.{Found}
+use Rattle.frames.specs.declared.lookup.Found.the-variants.{Signals, Nothing}
+use Rattle.messages.specs.Signals.{AllFit}
+use Rattle.framing.specs.Messages.{messageOf}
+use Rattle.record.specs.Columns.{numbersOf, startsOf}
+use Rattle.listing.specs.Working.{Listable}
+
+pub found-signals : (words : List ℕ) (identifier : ℕ) {from to : ℕ} {f : Found} → f ≡ Signals from to → Finds words identifier f → Spans words identifier from to
+found-signals words identifier e p = subst (Finds words identifier) e p
+
+pub found-nothing : (words : List ℕ) (identifier : ℕ) {f : Found} → f ≡ Nothing → Finds words identifier f → messageOf identifier (messagesOf words) ≡ none
+found-nothing words identifier e p = subst (Finds words identifier) e p
+
+-- a part of a column
+pub column-part : (from to : ℕ) {ns column words : List ℕ} → ns ≡ part from to column → column ≡ words → ns ≡ part from to words
+column-part from to p e = p ∙ ap (part from to) e
+
+-- parts of the columns that are a message's can be listed
+pub listable : {words : List ℕ} {identifier from to : ℕ} → Spans words identifier from to → {ns ss : List ℕ} → ns ≡ part from to (numbersOf words) → ss ≡ part from to (startsOf words)
+    → {out : List ℕ} {at : ℕ} → at ≤ length out → Listable out at ns ss
+listable {words} {identifier} {from} {to} s {ns} {ss} x y h =
+    record {
+      same = ap length y ∙ s .same ∙ ap length (sym x);
+      fit = subst (λ (l : List ℕ). AllFit (placed l ss)) (sym x) (subst (λ (l : List ℕ). AllFit (placed (part from to (numbersOf words)) l)) (sym y) (s .fit));
+      many = omega (arith, ap length x, length-take (to - from) (drop from (numbersOf words)), s .inside);
+      inside = h;
+    }
