@@ -14,7 +14,7 @@ use Rattle.answers.specs.Numbers.{number, Said, taken, refused, said}
 use Rattle.line.specs.declared.Line.{Line}
 use Rattle.line.specs.declared.Line.the-variants as line
 use Rattle.books.specs.Book.{Book, Message, Placement, Route, identifiers, numbers, allPlacements, lastPlacements}
-use Rattle.books.specs.Lines.{isIn, unknownOrOver, misplaced, meetsEarlier, messageRefusal, signalRefusal, routeRefusal, identifierLimit, busLimit, messageLimit, signalLimit, routeLimit}
+use Rattle.books.specs.Lines.{isIn, unknownOrOver, misplaced, meetsEarlier, messageRefusal, afterRefusal, signalRefusal, routeRefusal, identifierLimit, busLimit, messageLimit, signalLimit, routeLimit}
 use Rattle.reading.specs.Reading.{onward, refusalOf, withLine, numberedWith, readFrom, meanings, linesRead}
 use Rattle.reading.specs.Reading as lines
 
@@ -35,7 +35,7 @@ none : NamedOr0 0
 none k e = absurd (omega arith)
 
 line-named : (b : Book) (l : Line) → NamedOr0 (refusalOf b l)
-unfolding refusalOf messageRefusal signalRefusal routeRefusal
+unfolding refusalOf messageRefusal signalRefusal afterRefusal routeRefusal
 line-named b (line.Message i) =
     or (leb identifierLimit i) refusal.OverLimit _
     (or (isIn i (identifiers (b .messages))) refusal.MessageRepeated _ (or (leb messageLimit (length (b .messages))) refusal.Full 0 none))

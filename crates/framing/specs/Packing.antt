@@ -9,9 +9,8 @@ use Prim.Native.Nat.{ℕ, _-_, _^_}
 use lib.Dec.{eqb, leb}
 use lib.ListN.{length}
 use Rattle.books.specs.Book.{Placement, Message}
-use Rattle.books.specs.Lines.{frameBits}
 use Rattle.books.specs.Words.{messagesOf, messagesTaken}
-use Rattle.bits.specs.Frame.{frameBytes}
+use Rattle.bits.specs.Frame.{frameBytes, frameBits}
 use Rattle.bits.specs.Word.{bytesOf, placed}
 use Rattle.bits.specs.Checksum.{checksumOf}
 use Rattle.catalogue.specs.Find.{bitsOf}

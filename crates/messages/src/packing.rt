@@ -7,6 +7,7 @@ ghost use lib.ListN.{length};
 ghost use Rattle.bits.specs.Frame.{frameBytes};
 ghost use Rattle.bits.specs.Word.{Fits};
 ghost use Rattle.books.specs.Words.{placed};
+ghost use Rattle.rows.specs.Rule.{mostBits};
 ghost use Rattle.catalogue.specs.Find.{bitsOf};
 ghost use Rattle.framing.specs.declared.Packing.{Packing};
 ghost use Rattle.framing.specs.Packing.{packable, allOnes};
@@ -42,7 +43,7 @@ fn is_packable(class: Class) -> bool
 
 // Whether a count has more than `bits` bits.
 fn is_too_wide(bits: u32, count: u32) -> bool
-    requires { ⌜ bits ≤ 32 ⌝ }
+    requires { ⌜ bits ≤ mostBits ⌝ }
     ensures { λ r. ⌜ r ≡ leb (2 ^ bits) count ⌝ }
 {
     let limit: u64 = 1 << bits;

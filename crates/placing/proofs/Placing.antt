@@ -10,12 +10,12 @@ use lib.ListN.{length}
 use borrow.Author.Tests.{ne-eqb, eqb-false, lt-ltb, le-ltb, le-leb, lt-leb, leb-false, ltb-false}
 use Rattle.catalogue.specs.Find.{bitsOf}
 use Rattle.catalogue.proofs.Found.{few-bits}
-use Rattle.books.specs.Book.{Placement, numbers}
+use Rattle.books.specs.Book.{Placement, numbers, placement}
 use Rattle.books.specs.Fixed.{checksumNumber, checksumStart, counterNumber, counterStart}
 use Rattle.books.specs.Lines.{unknownOrOver, misplaced, frameBits}
 use Rattle.books.specs.Words.{placed}
 use Rattle.books.proofs.Tests.{neither, both-false}
-use Rattle.placing.specs.Placing.{placement, standsAlone, Room}
+use Rattle.placing.specs.Placing.{standsAlone, Room}
 
 -- ---- by itself: past the frame's end, and the two that have a start of their own
 module _ (n s b : ℕ) (e : b ≡ bitsOf n) where

@@ -8,14 +8,14 @@ use native.Mathlib.Numerals.{add-one}
 use lib.ListN.{length, take, drop, getD, drop-of-length-le}
 use lib.Seq.{drop-cons, take-suc, length-take-le}
 use Rattle.catalogue.specs.Find.{bitsOf}
-use Rattle.books.specs.Book.{Placement, numbers}
+use Rattle.books.specs.Book.{Placement, numbers, placement}
 use Rattle.books.specs.Lines.{isIn, unknownOrOver, misplaced, meetsEarlier}
 use Rattle.books.specs.Good.{goodAfter}
 use Rattle.books.specs.Words.{placed}
 use Rattle.books.proofs.Tests.{neither}
 use Rattle.masks.specs.Bit.{bit, meeting}
 use Rattle.placing.specs.declared.Filled.{Filled}
-use Rattle.placing.specs.Placing.{placement, standsAlone, inRun}
+use Rattle.placing.specs.Placing.{standsAlone, inRun}
 use Rattle.placing.specs.Filling.{Marks, Fills, FilledMore}
 use Rattle.placing.proofs.Placing.{placed-numbers, has-bits}
 use Rattle.placing.proofs.Filling.{fills-none, meets-same, fills-more}

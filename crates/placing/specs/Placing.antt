@@ -2,12 +2,9 @@
 use mathlib.Core.Bool.{Bool, _&&_, _||_, not}
 use Prim.Native.Nat.{ℕ, _+_, _≤_, _<_}
 use lib.Dec.{leb, ltb}
+use Rattle.rows.specs.Rule.{mostBits}
 use Rattle.books.specs.Book.{Placement}
 use Rattle.books.specs.Lines.{unknownOrOver, misplaced, frameBits}
-
--- the line that a number with a start makes
-abbrev pub placement : ℕ → ℕ → Placement
-placement n s = record { number = n; start = s }
 
 -- a signal of the catalogue that stands where it may, by itself
 abbrev pub standsAlone : Placement → Bool
@@ -16,7 +13,7 @@ standsAlone p = not (unknownOrOver p || misplaced p)
 -- a frame has room for so many bits from start on
 pub record Room (start bits : ℕ) : Type 0 where
   pub from : start < frameBits
-  pub few : bits ≤ 32
+  pub few : bits ≤ mostBits
   pub to : start + bits ≤ frameBits
 
 -- frame bit k is one of them

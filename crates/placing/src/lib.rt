@@ -3,12 +3,14 @@ ghost use mathlib.Core.Path.{_≡_};
 ghost use mathlib.Core.List.{[]};
 ghost use Prim.Native.Nat.{ℕ, _+_, _≤_, _<_};
 ghost use lib.ListN.{length};
+ghost use Rattle.rows.specs.Rule.{mostBits};
 ghost use Rattle.catalogue.specs.Find.{bitsOf};
+ghost use Rattle.books.specs.Book.{placement};
 ghost use Rattle.books.specs.Lines.{isIn, misplaced};
 ghost use Rattle.books.specs.Good.{goodAfter};
 ghost use Rattle.books.specs.Words.{placed};
 ghost use Rattle.masks.specs.Bit.{bit};
-ghost use Rattle.placing.specs.Placing.{placement, standsAlone, Room, inRun};
+ghost use Rattle.placing.specs.Placing.{standsAlone, Room, inRun};
 ghost use Rattle.placing.specs.Filling.{Marks, FilledMore};
 ghost use Rattle.record.specs.Limits.{startLimit};
 use record::START_LIMIT;
@@ -26,7 +28,7 @@ const COUNTER_START: u32 = 56;
 
 // Whether a signal of the catalogue stands where it may not, by itself.
 pub fn is_misplaced(number: u32, start: u32, bits: u32) -> bool
-    requires { ⌜ (start < startLimit) × (bits ≤ 32) × (bits ≡ bitsOf number) ⌝ }
+    requires { ⌜ (start < startLimit) × (bits ≤ mostBits) × (bits ≡ bitsOf number) ⌝ }
     ensures { λ r. ⌜ r ≡ misplaced (placement number start) ⌝ }
 {
     if start + bits > FRAME_BITS {
