@@ -1,5 +1,6 @@
 pub mod Tests
 pub mod Ends
+pub mod Order
 pub mod Building
 pub mod Columns
 pub mod Known
