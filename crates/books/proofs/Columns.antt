@@ -113,7 +113,7 @@ module _ (w : List ℕ) (ms : List Message) (few : length ms ≤ messageLimit) (
   unfolding messageColumns
   starts-stand = from-columns signalLimit (messageLimit + (messageLimit + signalLimit)) _ (omega arith) (fourth-part (idColumn ms) (endColumn ms) (numberColumn ms) (startColumn ms) (ids-long ms few room) (ends-long ms few room) (numbers-long ms few room) (starts-long ms few room))
 
-  shows : messagesOf w ≡ ms
+  pub shows : messagesOf w ≡ ms
   unfolding messagesOf
   shows =
       rw (
