@@ -7,6 +7,10 @@ use lib.ListN.{getD}
 abbrev pub frameBytes : ℕ
 frameBytes = 8
 
+-- of 8 bits each
+abbrev pub frameBits : ℕ
+frameBits = 8 * frameBytes
+
 -- frame bit k: bit k mod 8 (weight 2^(k mod 8)) of byte k div 8
 abbrev pub frameBit : List ℕ → ℕ → ℕ
 frameBit frame k = getD frame (k / 8) 0 / 2 ^ (k % 8) % 2

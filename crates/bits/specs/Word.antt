@@ -3,13 +3,14 @@
 use mathlib.Core.List.{List, [], _∷_}
 use Prim.Native.Nat.{ℕ, zero, suc, _+_, _-_, _*_, _/_, _%_, _^_, _≤_}
 use lib.ListN.{getD}
-use Rattle.bits.specs.Frame.{frameBytes}
+use Rattle.rows.specs.Rule.{mostBits}
+use Rattle.bits.specs.Frame.{frameBytes, frameBits}
 
--- a signal of b bits, 1 to 32, at start s lies within a frame, whose bytes have 8 bits each
+-- a signal of b bits, as many as a row may have, at start s lies within a frame
 pub record Fits (s b : ℕ) : Type 0 where
   pub some : 1 ≤ b
-  pub most : b ≤ 32
-  pub inside : s + b ≤ 8 * frameBytes
+  pub most : b ≤ mostBits
+  pub inside : s + b ≤ frameBits
 
 -- n bytes of a frame from byte i on, as one number, byte i lowest
 unfoldable pub wordFrom : List ℕ → ℕ → ℕ → ℕ

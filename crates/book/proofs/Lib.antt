@@ -1,6 +1,5 @@
 pub mod Routes
 pub mod Answers
-pub mod Named
 pub mod Once
 pub mod OneOutcome
 pub mod StandIns

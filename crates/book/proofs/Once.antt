@@ -16,14 +16,14 @@ use Rattle.verdict.proofs.Once.{judged, judged-once}
 use Rattle.answers.specs.declared.Refusal.the-variants as refusal
 use Rattle.answers.specs.declared.Answer.{Answer}
 use Rattle.answers.specs.declared.Answer.the-variants as answer
-use Rattle.answers.specs.Numbers.{Said, taken, refused, said}
+use Rattle.answers.specs.Numbers.{number, Said, taken, refused, said}
 use Rattle.books.specs.Book.{Book, allPlacements}
 use Rattle.books.specs.Words.{wordsOf}
 use Rattle.reading.specs.Reading.{Outcome, passed, linesRead}
 use Rattle.reading.specs.Reading as lines
 use Rattle.reading.specs.Taken.{froms, tos}
+use Rattle.taking.proofs.Named.{Named, text-named, number-once}
 use Rattle.book.specs.Answered.{Passes, Answered, too-long, bad-line, closed-chain, two-chains, taken-with}
-use Rattle.book.proofs.Named.{Named, text-named, said-once}
 
 -- what a verdict on the routes of a book comes to
 unfoldable pub ofVerdict : Book → List ℕ → Verdict → Said × List ℕ
@@ -100,6 +100,20 @@ module _ (text : List ℕ) where
       by : (q : Bool) → ltb textLimit (length text) ≡ q → There text
       by true q = record { answer = answer.Refused refusal.TooLong 0; words = emptyBook; answered = too-long (ltb-true _ _ q) }
       by false q = come (ltb-false _ _ q) (linesRead text) refl
+
+-- an answer is told by what it says
+said-once : (a b : Answer) → said a ≡ said b → a ≡ b
+said-once (answer.Taken m s r) (answer.Taken m′ s′ r′) e =
+    let x : m ≡ m′ = cc in
+    let y : s ≡ s′ = cc in
+    let z : r ≡ r′ = cc in
+    cc
+said-once (answer.Refused why n) (answer.Refused why′ n′) e =
+    let x = number-once why why′ (let z : number why ≡ number why′ = cc in z) in
+    let y : n ≡ n′ = cc in
+    cc
+said-once (answer.Taken m s r) (answer.Refused why n) e = absurd (let z : _≡_ {A = ℕ} 0 1 = cc in omega arith)
+said-once (answer.Refused why n) (answer.Taken m s r) e = absurd (let z : _≡_ {A = ℕ} 0 1 = cc in omega arith)
 
 -- and no other
 pub alone : (text : List ℕ) (x : Answer × List ℕ) → Answered text (said (x .0)) (x .1) → x ≡ (there text .answer, there text .words)

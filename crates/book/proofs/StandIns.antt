@@ -11,28 +11,29 @@ use Rattle.verdict.specs.declared.Verdict.the-variants as verdict
 use Rattle.answers.specs.Numbers.{Said, taken, refused}
 use Rattle.parts.specs.Parts.{lines, linesOf, split, onFirst}
 use Rattle.line.specs.Meaning.{meaningOf, lineMeaning, ofFields, ofKind, ofMessage}
-use Rattle.books.specs.Book.{Book, noBook, allPlacements}
-use Rattle.books.specs.Words.{wordsOf}
+use Rattle.books.specs.Book.{Book, allPlacements}
 use Rattle.reading.specs.Reading.{passed, onward, readFrom, refusalOf, meanings, linesRead}
 use Rattle.reading.specs.Taken.{Sound, mLines, sLines, rLinesFrom}
 use Rattle.reading.proofs.Counts.{text-counted}
 use Rattle.reading.proofs.Exact.{no-routes-sound}
+use Rattle.taking.proofs.Going.{empty-words}
 use Rattle.book.specs.Answered.{Answered, bad-line, taken-with}
 use Rattle.book.proofs.Once.{Way, long, bad, by, way, ofVerdict, answered-once}
 
 -- "Empty text is a taken, empty book."
-empty-taken : Answered [] (taken 0 0 0) (wordsOf noBook)
+pub empty-taken : Answered [] (taken 0 0 0) emptyBook
 unfolding linesRead readFrom meanings lines linesOf split allPlacements
 empty-taken =
-    taken-with
+    rw empty-words
+    (taken-with
     (record {
       short = omega arith;
       at = [];
       read = refl;
       sound = no-routes-sound;
-    })
+    }))
 
--- "An empty line is ill formed (2)", and so is a line of an M alone
+-- a line of an M alone is ill formed
 ill-refused : Answered (77 ∷ 10 ∷ []) (refused 2 1) emptyBook
 unfolding linesRead readFrom meanings lines linesOf split onFirst meaningOf lineMeaning ofFields ofKind ofMessage refusalOf onward
 ill-refused = bad-line (omega arith) refl

@@ -8,7 +8,7 @@ use lib.Dec.{leb, eqb}
 use lib.ListN.{length, length-append}
 use borrow.Author.Tests.{leb-true, leb-false, le-leb, lt-leb, eqb-false, ne-eqb}
 use Rattle.books.specs.Book.{Placement, Message, identifiers, numbers, allPlacements, fresh, withPlacement, inLast, lastPlacements}
-use Rattle.books.specs.Lines.{isIn, unknownOrOver, misplaced, meetsEarlier, messageRefusal, signalRefusal, identifierLimit, messageLimit, signalLimit}
+use Rattle.books.specs.Lines.{isIn, unknownOrOver, misplaced, meetsEarlier, messageRefusal, afterRefusal, signalRefusal, identifierLimit, messageLimit, signalLimit}
 use Rattle.books.specs.Built.{Built, none, message, signal}
 use Rattle.books.specs.Good.{goodAfter, goodFrom, good}
 use Rattle.books.proofs.Tests.{both, with, neither, nor, not-refused, no-refusal}
@@ -107,7 +107,7 @@ record Signal-taken (ms : List Message) (p : Placement) : Type 0 where
   room : length (allPlacements ms) < signalLimit
 
 signal-taken : (ms : List Message) (p : Placement) → signalRefusal ms p ≡ 0 → Signal-taken ms p
-unfolding signalRefusal
+unfolding signalRefusal afterRefusal
 signal-taken ms p e =
     let a = not-refused (unknownOrOver p) 2 _ e in
     let b = not-refused (eqb (length ms) 0) 3 _ (a .1) in
@@ -122,7 +122,7 @@ signal-taken ms p e =
     }
 
 taken-signal : (ms : List Message) (p : Placement) → Signal-taken ms p → signalRefusal ms p ≡ 0
-unfolding signalRefusal
+unfolding signalRefusal afterRefusal
 taken-signal ms p t =
     let before = lastPlacements ms in
     let a = neither (unknownOrOver p) _ (t .fits) in

@@ -14,9 +14,10 @@ use Rattle.books.specs.Book.{Placement, Message, Book, identifiers, numb
 use Rattle.books.specs.Lines.{messageLimit, signalLimit}
 use Rattle.books.specs.Built.{Built}
 use Rattle.books.specs.Good.{good, goodFrom}
-use Rattle.books.specs.Words.{column, idColumn, endColumn, numberColumn, startColumn, starts, endsAfter, messageColumns, routeColumns, wordsOf, placed, shown, messagesOf, same, messagesTaken, Stands}
+use Rattle.books.specs.Words.{column, idColumn, endColumn, numberColumn, startColumn, starts, endsAfter, messageColumns, routeColumns, wordsOf, shown, messagesOf, same, messagesTaken, Stands}
 use Rattle.books.proofs.Tests.{both, with}
 use Rattle.books.proofs.Building.{good-built, built-good}
+use Rattle.books.proofs.Sides.{side-back}
 
 pub length-column : (n : ℕ) (l : List ℕ) → length l ≤ n → length (column n l) ≡ n
 unfolding column
@@ -53,11 +54,6 @@ module _ (a b c d : List ℕ) (la : length a ≡ messageLimit) (lb : length b �
 
   four-long : length (a ++ (b ++ (c ++ d))) ≡ messageWords
   four-long = omega (arith, length-append a (b ++ (c ++ d)), length-append b (c ++ d), length-append c d)
-
-placed-back : (ps : List Placement) → placed (numbers ps) (starts ps) ≡ ps
-unfolding placed
-placed-back [] = refl
-placed-back (p ∷ ps) = ap (_∷_ p) (placed-back ps)
 
 ends-less : (n k : ℕ) → (n + k) - n ≡ k
 ends-less n k = omega arith
@@ -127,7 +123,7 @@ module _ (w : List ℕ) (ms : List Message) (few : length ms ≤ messageLimit) (
         take-column messageLimit (length ms) (endsAfter 0 ms) (length-ends 0 ms),
         take-column signalLimit (length (allPlacements ms)) (numbers (allPlacements ms)) (length-map (allPlacements ms) (λ (p : Placement). p .number)),
         take-column signalLimit (length (allPlacements ms)) (starts (allPlacements ms)) (length-map (allPlacements ms) (λ (p : Placement). p .start)),
-        placed-back,
+        side-back,
       )
       (shown-back 0 ms)
 

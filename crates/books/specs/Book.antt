@@ -1,6 +1,7 @@
 -- What a route book holds: its messages with their signals, and its routes, each in book order. Assumes nothing: these are definitions.
 use Prim.Native.Nat.{ℕ}
 use mathlib.Core.List.{List, [], _∷_, _++_, map}
+use Rattle.record.specs.Place.{placeKey}
 
 -- an `S` line: a signal of the catalogue, and the frame bit where it starts
 pub record Placement : Type 0 where
@@ -54,3 +55,20 @@ unfoldable pub lastPlacements : List Message → List Placement
 lastPlacements [] = []
 lastPlacements (m ∷ []) = m .placements
 lastPlacements (m ∷ n ∷ ms) = lastPlacements (n ∷ ms)
+
+-- what the numbers of an `S` line and of an `R` line make
+abbrev pub placement : ℕ → ℕ → Placement
+placement n s = record { number = n; start = s }
+
+abbrev pub route : ℕ → ℕ → ℕ → ℕ → Route
+route a i b j = record { from = placeKey a i; to = placeKey b j }
+
+-- the book with an `M`, an `S`, an `R` line more
+abbrev pub withMessage : Book → ℕ → Book
+withMessage b i = record { messages = b .messages ++ (fresh i ∷ []); routes = b .routes }
+
+abbrev pub withSignal : Book → Placement → Book
+withSignal b p = record { messages = inLast (b .messages) p; routes = b .routes }
+
+abbrev pub withRoute : Book → Route → Book
+withRoute b r = record { messages = b .messages; routes = b .routes ++ (r ∷ []) }

@@ -5,13 +5,10 @@ use mathlib.Core.List.{List, [], _∷_}
 use lib.Dec.{eqb, ltb, leb}
 use lib.ListN.{length}
 pub use Rattle.record.specs.Limits.{messageLimit, signalLimit, routeLimit, busLimit, identifierLimit, startLimit}
+pub use Rattle.bits.specs.Frame.{frameBits}
 use Rattle.catalogue.specs.Find.{bitsOf}
 use Rattle.books.specs.Book.{Placement, Message, Route, identifiers, numbers, allPlacements, lastPlacements}
 use Rattle.books.specs.Fixed.{checksumNumber, checksumStart, counterNumber, counterStart}
-
--- a frame has 64 bits
-abbrev pub frameBits : ℕ
-frameBits = 64
 
 -- `n` stands in the list
 unfoldable pub isIn : ℕ → List ℕ → Bool
@@ -22,7 +19,7 @@ isIn n (m ∷ ms) = eqb n m || isIn n ms
 unfoldable pub unknownOrOver : Placement → Bool
 unknownOrOver p = eqb (bitsOf (p .number)) 0 || leb startLimit (p .start)
 
--- refusal 7: start + bits over 64, or 503 or 504 at a wrong start
+-- refusal 7: start + bits over the 64 of a frame, or 503 or 504 at a wrong start
 unfoldable pub misplaced : Placement → Bool
 misplaced p =
     ltb frameBits (p .start + bitsOf (p .number)) ||
@@ -46,16 +43,21 @@ messageRefusal ms i =
     (cond (leb messageLimit (length ms)) 9
     0))
 
+-- an `S` line after the placements before it in its message, where the book has so many
+unfoldable pub afterRefusal : List Placement → ℕ → Placement → ℕ
+afterRefusal before count p =
+    cond (isIn (p .number) (numbers before)) 6
+    (cond (misplaced p) 7
+    (cond (meetsEarlier before p) 8
+    (cond (leb signalLimit count) 9
+    0)))
+
 -- an `S` line
 unfoldable pub signalRefusal : List Message → Placement → ℕ
 signalRefusal ms p =
     cond (unknownOrOver p) 3
     (cond (eqb (length ms) 0) 4
-    (cond (isIn (p .number) (numbers (lastPlacements ms))) 6
-    (cond (misplaced p) 7
-    (cond (meetsEarlier (lastPlacements ms) p) 8
-    (cond (leb signalLimit (length (allPlacements ms))) 9
-    0)))))
+    (afterRefusal (lastPlacements ms) (length (allPlacements ms)) p))
 
 -- an `R` line
 unfoldable pub routeRefusal : List Route → ℕ → ℕ → ℕ → ℕ → ℕ

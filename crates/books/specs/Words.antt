@@ -7,7 +7,7 @@ use mathlib.Core.List.{List, [], _∷_, _++_, map}
 use lib.Dec.{eqb}
 use lib.ListN.{length, take, drop, replicate}
 use Rattle.record.specs.Columns.{messageCountOf, signalCountOf, idsOf, endsOf, numbersOf, startsOf, messageColumnsOf}
-use Rattle.books.specs.Book.{Placement, Message, Route, Book, identifiers, numbers, allPlacements}
+use Rattle.books.specs.Book.{Placement, Message, Route, Book, identifiers, numbers, allPlacements, placement}
 use Rattle.books.specs.Lines.{messageLimit, signalLimit, routeLimit}
 use Rattle.books.specs.Good.{good}
 
@@ -48,10 +48,10 @@ wordsOf b =
     (messageColumns (b .messages) ++ routeColumns (b .routes))
 
 -- the placements whose numbers and starts stand side by side
-unfoldable pub placed : List ℕ → List ℕ → List Placement
-placed [] ss = []
-placed (n ∷ ns) [] = []
-placed (n ∷ ns) (s ∷ ss) = record { number = n; start = s } ∷ placed ns ss
+unfoldable pub sideBySide : List ℕ → List ℕ → List Placement
+sideBySide [] ss = []
+sideBySide (n ∷ ns) [] = []
+sideBySide (n ∷ ns) (s ∷ ss) = placement n s ∷ sideBySide ns ss
 
 -- the messages with these identifiers and ends, whose signals are the placements in turn: each message has those from the end
 -- of the message before it to its own end. The first of them begins at n, and the placements are those from n on.
@@ -64,7 +64,7 @@ shown n (i ∷ is) (e ∷ es) ps = record { identifier = i; placements = take (e
 unfoldable pub messagesOf : List ℕ → List Message
 messagesOf w =
     shown 0 (take (messageCountOf w) (idsOf w)) (take (messageCountOf w) (endsOf w))
-    (placed (take (signalCountOf w) (numbersOf w)) (take (signalCountOf w) (startsOf w)))
+    (sideBySide (take (signalCountOf w) (numbersOf w)) (take (signalCountOf w) (startsOf w)))
 
 -- the test whether two lists have the same numbers in the same order
 unfoldable pub same : List ℕ → List ℕ → Bool

@@ -11,7 +11,7 @@ use Rattle.bits.specs.Word.{wordOf, bytesOf}
 use Rattle.bits.proofs.Weights.{word-bytes}
 use Rattle.books.specs.Book.{Message}
 use Rattle.books.specs.Good.{good}
-use Rattle.books.specs.Words.{placed, messagesOf, messagesTaken}
+use Rattle.books.specs.Words.{sideBySide, messagesOf, messagesTaken}
 use Rattle.framing.specs.declared.Reading.{Reading}
 use Rattle.framing.specs.declared.Reading.the-variants as Read
 use Rattle.framing.specs.declared.Packing.{Packing}
@@ -25,7 +25,7 @@ use Rattle.record.specs.Columns.{numbersOf, startsOf}
 use Rattle.messages.specs.Signals.{AllFit, messageFrom, Readable}
 use Rattle.messages.specs.Put.{Packable, packInto}
 use Rattle.frames.specs.Lookup.{part, Spans}
-use Rattle.messages.proofs.Readings.{placed-length}
+use Rattle.books.proofs.Sides.{side-length}
 
 -- ---- reading
 
@@ -99,17 +99,17 @@ module _ (w : List ℕ) (identifier from to : ℕ) (s : Spans w identifier from 
   pub found : messageOf identifier (messagesOf w) ≡ some (messageFrom identifier (part from to ns) (part from to ss))
   found = rw (n, t) (s .found)
 
-  pub many : length (placed (part from to ns) (part from to ss)) ≡ to - from
+  pub many : length (sideBySide (part from to ns) (part from to ss)) ≡ to - from
   many = rw (n, t) (s .many)
 
   same : length (part from to ss) ≡ length (part from to ns)
   same = rw (n, t) (s .same)
 
-  fit : AllFit (placed (part from to ns) (part from to ss))
+  fit : AllFit (sideBySide (part from to ns) (part from to ss))
   fit = rw (n, t) (s .fit)
 
   pub readable : Readable (part from to ns) (part from to ss)
   readable = record { same = same; fit = fit }
 
   pub packable : (vs : List ℕ) → length vs ≡ to - from → Packable (part from to ns) (part from to ss) vs
-  packable vs e = record { same = same; many = e ∙ sym many ∙ placed-length (part from to ns) (part from to ss) same; fit = fit }
+  packable vs e = record { same = same; many = e ∙ sym many ∙ side-length (part from to ns) (part from to ss) same; fit = fit }

@@ -13,7 +13,8 @@ use borrow.Author.Tests.{eqb-true, eq-eqb, ne-eqb}
 use Rattle.books.specs.Book.{Placement, Message, identifiers, numbers, allPlacements}
 use Rattle.books.specs.Lines.{messageLimit, signalLimit}
 use Rattle.books.specs.Good.{good}
-use Rattle.books.specs.Words.{column, starts, endsAfter, placed, messagesOf, messagesTaken, Stands}
+use Rattle.books.specs.Words.{column, starts, endsAfter, sideBySide, messagesOf, messagesTaken, Stands}
+use Rattle.books.proofs.Sides.{side-back}
 use Rattle.books.proofs.Columns.{taken-stands, within, take-column, ids-stand, ends-stand, numbers-stand, starts-stand, length-ends}
 use Rattle.framing.specs.Messages.{messageOf}
 use Rattle.framing.proofs.Sound.{Sound, sound-message}
@@ -157,11 +158,6 @@ column-before : (n i : ℕ) (l : List ℕ) → i ≤ length l → getD (0 ∷ co
 column-before n zero l h = refl
 column-before n (suc i) l h = column-at n i l h
 
-placed-back : (ps : List Placement) → placed (numbers ps) (starts ps) ≡ ps
-unfolding placed
-placed-back [] = refl
-placed-back (p ∷ ps) = ap (λ (qs : List Placement). p ∷ qs) (placed-back ps)
-
 fit-all : {ps : List Placement} → Sound ps → AllFit ps
 fit-all Sound.none = AllFit.none
 fit-all (Sound.more s b r) = AllFit.more (s .fits) (fit-all r)
@@ -248,8 +244,8 @@ module _ (w : List ℕ) (t : messagesTaken w ≡ true) where
         message-there identifier Ms (omega arith)
         ∙ ap (λ (i : ℕ). some (record { identifier = identifier; placements = getD Ms i blank .placements })) (sym first)
 
-    both-are : placed (part From To (numbersOf w)) (part From To (startsOf w)) ≡ Ps
-    both-are = ap (λ (l : List ℕ). placed l (part From To (startsOf w))) numbers-are ∙ ap (placed (numbers Ps)) starts-are ∙ placed-back Ps
+    both-are : sideBySide (part From To (numbersOf w)) (part From To (startsOf w)) ≡ Ps
+    both-are = ap (λ (l : List ℕ). sideBySide l (part From To (startsOf w))) numbers-are ∙ ap (sideBySide (numbers Ps)) starts-are ∙ side-back Ps
 
     -- the ends that stand in the words say where its signals are
     begins-so : getD (0 ∷ endsOf w) at 0 ≡ From

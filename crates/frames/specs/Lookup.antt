@@ -6,7 +6,7 @@ use mathlib.Core.Option.{none, some}
 use Prim.Native.Nat.{ℕ, suc, _-_, _≤_}
 use lib.Dec.{eqb}
 use lib.ListN.{length, getD, take, drop}
-use Rattle.books.specs.Words.{placed, messagesOf}
+use Rattle.books.specs.Words.{sideBySide, messagesOf}
 use Rattle.framing.specs.Messages.{messageOf}
 use Rattle.record.specs.Columns.{messageCountOf, idsOf, endsOf, numbersOf, startsOf}
 use Rattle.record.specs.Limits.{signalLimit}
@@ -34,9 +34,9 @@ pub record Spans (words : List ℕ) (identifier from to : ℕ) : Type 0 where
   pub order : from ≤ to
   pub inside : to ≤ signalLimit
   pub found : messageOf identifier (messagesOf words) ≡ some (messageFrom identifier (part from to (numbersOf words)) (part from to (startsOf words)))
-  pub many : length (placed (part from to (numbersOf words)) (part from to (startsOf words))) ≡ to - from
+  pub many : length (sideBySide (part from to (numbersOf words)) (part from to (startsOf words))) ≡ to - from
   pub same : length (part from to (startsOf words)) ≡ length (part from to (numbersOf words))
-  pub fit : AllFit (placed (part from to (numbersOf words)) (part from to (startsOf words)))
+  pub fit : AllFit (sideBySide (part from to (numbersOf words)) (part from to (startsOf words)))
 
 abbrev pub Finds : List ℕ → ℕ → Found → Type 0
 Finds words identifier (Signals from to) = Spans words identifier from to

@@ -6,9 +6,8 @@ use mathlib.Core.Option.{some}
 use Prim.Native.Nat.{ℕ, _+_, _≤_, _<_}
 use lib.ListN.{length, getD, take}
 use Rattle.books.specs.Book.{Placement, Message}
-use Rattle.books.specs.Lines.{frameBits}
 use Rattle.books.specs.Words.{messagesOf}
-use Rattle.bits.specs.Frame.{frameBytes, frameBit}
+use Rattle.bits.specs.Frame.{frameBytes, frameBits, frameBit}
 use Rattle.catalogue.specs.Find.{bitsOf}
 use Rattle.catalogue.specs.declared.Raw.{Raw}
 use Rattle.catalogue.specs.declared.Class.the-variants.{Reserved, Outside}

@@ -6,8 +6,7 @@ use mathlib.Core.List.{List, [], _∷_}
 use Prim.Native.Nat.{ℕ, _+_, _≤_, _<_}
 use lib.ListN.{length, getD}
 use Rattle.books.specs.Book.{Placement, Message}
-use Rattle.books.specs.Lines.{frameBits}
-use Rattle.bits.specs.Frame.{frameBytes, frameBit}
+use Rattle.bits.specs.Frame.{frameBytes, frameBits, frameBit}
 use Rattle.bits.specs.Checksum.{checksumOf}
 use Rattle.catalogue.specs.Find.{bitsOf}
 use Rattle.framing.specs.Messages.{checksumNumber, countOf}

@@ -5,7 +5,7 @@ use mathlib.Core.Option.{none}
 use Prim.Native.Nat.{ℕ, _-_, _≤_}
 use native.Mathlib.Omega.{arith}
 use lib.ListN.{length, drop, length-take}
-use Rattle.books.specs.Words.{placed, messagesOf}
+use Rattle.books.specs.Words.{sideBySide, messagesOf}
 use Rattle.frames.specs.Lookup.{Spans, Finds, part}
 use Rattle.frames.specs.declared.lookup.Found.{Found}
 use Rattle.frames.specs.declared.lookup.Found.the-variants.{Signals, Nothing}
@@ -30,7 +30,7 @@ pub listable : {words : List ℕ} {identifier from to : ℕ} → Spans words ide
 listable {words} {identifier} {from} {to} s {ns} {ss} x y h =
     record {
       same = ap length y ∙ s .same ∙ ap length (sym x);
-      fit = subst (λ (l : List ℕ). AllFit (placed l ss)) (sym x) (subst (λ (l : List ℕ). AllFit (placed (part from to (numbersOf words)) l)) (sym y) (s .fit));
+      fit = subst (λ (l : List ℕ). AllFit (sideBySide l ss)) (sym x) (subst (λ (l : List ℕ). AllFit (sideBySide (part from to (numbersOf words)) l)) (sym y) (s .fit));
       many = omega (arith, ap length x, length-take (to - from) (drop from (numbersOf words)), s .inside);
       inside = h;
     }

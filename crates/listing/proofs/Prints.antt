@@ -10,7 +10,7 @@ use Rattle.bits.specs.Frame.{frameBytes}
 use Rattle.bits.specs.Word.{Fits, bytesOf}
 use Rattle.bits.proofs.Weights.{read-bytes, word-bytes}
 use Rattle.books.specs.Book.{Placement, Message}
-use Rattle.books.specs.Words.{placed, messagesOf}
+use Rattle.books.specs.Words.{sideBySide, messagesOf}
 use Rattle.catalogue.specs.declared.Class.{Class}
 use Rattle.catalogue.specs.Find.{bitsOf}
 use Rattle.catalogue.specs.Class.{classOf}
@@ -40,21 +40,21 @@ lines-same identifier word h (AllFit.more {p} {ps} f fs) =
     ap (λ (c : Class). signalLine identifier (p .number) c ++ wordLines identifier word ps) (class-same word h p f)
     ∙ ap (λ (l : List ℕ). signalLine identifier (p .number) (classIn (bytesOf word) p) ++ l) (lines-same identifier word h fs)
 
-module _ (identifier word : ℕ) (h : word < 2 ^ 64) (ns ss : List ℕ) (same : length ss ≡ length ns) (fit : AllFit (placed ns ss)) where
+module _ (identifier word : ℕ) (h : word < 2 ^ 64) (ns ss : List ℕ) (same : length ss ≡ length ns) (fit : AllFit (sideBySide ns ss)) where
   check-word : checkHolds identifier word ns ≡ checksumHolds (messageFrom identifier ns ss) (bytesOf word)
   check-word = check-same identifier word ns ss h (record { same = same; fit = fit })
 
   text-same : messageText identifier word ns ss ≡ messageLines identifier (bytesOf word) (some (messageFrom identifier ns ss))
   unfolding messageText messageLines
   text-same =
-      ap (λ (b : Bool). cond b (wordLines identifier word (placed ns ss)) (refusedLine identifier (readingNumber WrongChecksum))) check-word
+      ap (λ (b : Bool). cond b (wordLines identifier word (sideBySide ns ss)) (refusedLine identifier (readingNumber WrongChecksum))) check-word
       ∙ ap (λ (l : List ℕ). cond (checksumHolds (messageFrom identifier ns ss) (bytesOf word)) l (refusedLine identifier (readingNumber WrongChecksum))) (lines-same identifier word h fit)
 
 -- ---- what each answer on the way prints
 
 -- the message, by its checksum
 module _ (identifier word : ℕ) (ns ss : List ℕ) {b : Bool} (c : b ≡ checkHolds identifier word ns) where
-  pub message-signals : b ≡ true → wordLines identifier word (placed ns ss) ≡ messageText identifier word ns ss
+  pub message-signals : b ≡ true → wordLines identifier word (sideBySide ns ss) ≡ messageText identifier word ns ss
   unfolding messageText
   message-signals e = rw (sym c ∙ e)
 

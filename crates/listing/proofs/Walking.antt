@@ -6,7 +6,7 @@ use native.Mathlib.Omega.{arith}
 use lib.ListN.{length, getD, length-append}
 use lib.Seq.{sets}
 use Rattle.bits.specs.Word.{Fits, fieldOf}
-use Rattle.books.specs.Words.{placed}
+use Rattle.books.specs.Words.{sideBySide}
 use Rattle.catalogue.specs.declared.Class.{Class}
 use Rattle.catalogue.specs.Find.{bitsOf}
 use Rattle.catalogue.specs.Class.{classOf}
@@ -18,8 +18,8 @@ use Rattle.signal_lines.specs.Printed.{signalLine, lineRoom}
 use Rattle.listing.specs.Working.{wordLines, Roomy}
 
 pub record Walked (old : List ℕ) (at identifier word : ℕ) (ns ss out : List ℕ) (next i : ℕ) : Type 0 where
-  pub there : sets out next (wordLines identifier word (rest ns ss i)) ≡ sets old at (wordLines identifier word (placed ns ss))
-  pub end : next + length (wordLines identifier word (rest ns ss i)) ≡ at + length (wordLines identifier word (placed ns ss))
+  pub there : sets out next (wordLines identifier word (rest ns ss i)) ≡ sets old at (wordLines identifier word (sideBySide ns ss))
+  pub end : next + length (wordLines identifier word (rest ns ss i)) ≡ at + length (wordLines identifier word (sideBySide ns ss))
   pub room : next ≤ at + lineRoom * i
   pub size : length out ≡ length old
   pub within : i ≤ length ns
@@ -57,7 +57,7 @@ module _ {old : List ℕ} {at identifier word : ℕ} {ns ss out : List ℕ} {nex
           fit = fits-on ns ss i h (r .same) (w .fit);
         }
 
-  pub all-walked : length ns ≤ i → PutWithin old at (lineRoom * length ns) (wordLines identifier word (placed ns ss)) out next
+  pub all-walked : length ns ≤ i → PutWithin old at (lineRoom * length ns) (wordLines identifier word (sideBySide ns ss)) out next
   unfolding wordLines
   all-walked h =
       let none : wordLines identifier word (rest ns ss i) ≡ [] = ap (wordLines identifier word) (rest-none ns ss i h) in

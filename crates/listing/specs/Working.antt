@@ -7,7 +7,7 @@ use lib.Dec.{leb}
 use lib.ListN.{length}
 use lib.Seq.{sets}
 use Rattle.books.specs.Book.{Placement}
-use Rattle.books.specs.Words.{placed}
+use Rattle.books.specs.Words.{sideBySide}
 use Rattle.messages.specs.Signals.{AllFit, classFrom, checkHolds}
 use Rattle.framing.specs.declared.Reading.the-variants.{WrongChecksum}
 use Rattle.framing.specs.Reading.{readingNumber}
@@ -24,13 +24,13 @@ wordLines identifier word (p ∷ ps) = signalLine identifier (p .number) (classF
 -- numbers and starts of placements that lie within the frame, and room for their lines
 pub record Roomy (out : List ℕ) (at : ℕ) (ns ss : List ℕ) : Type 0 where
   pub same : length ss ≡ length ns
-  pub fit : AllFit (placed ns ss)
+  pub fit : AllFit (sideBySide ns ss)
   pub inside : at + lineRoom * length ns ≤ length out
 
 -- at most 256 of them, to be listed at a place of the room
 pub record Listable (out : List ℕ) (at : ℕ) (ns ss : List ℕ) : Type 0 where
   pub same : length ss ≡ length ns
-  pub fit : AllFit (placed ns ss)
+  pub fit : AllFit (sideBySide ns ss)
   pub many : length ns ≤ signalLimit
   pub inside : at ≤ length out
 
@@ -38,7 +38,7 @@ pub record Listable (out : List ℕ) (at : ℕ) (ns ss : List ℕ) : Type 0 wher
 unfoldable pub messageText : ℕ → ℕ → List ℕ → List ℕ → List ℕ
 messageText identifier word ns ss =
     cond (checkHolds identifier word ns)
-    (wordLines identifier word (placed ns ss))
+    (wordLines identifier word (sideBySide ns ss))
     (refusedLine identifier (readingNumber WrongChecksum))
 
 -- a text put at a place where it fits what is left

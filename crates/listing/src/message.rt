@@ -3,7 +3,7 @@ ghost use mathlib.Core.Path.{_≡_};
 ghost use mathlib.Core.List.{List};
 ghost use Prim.Native.Nat.{ℕ, _*_};
 ghost use lib.ListN.{length};
-ghost use Rattle.books.specs.Words.{placed};
+ghost use Rattle.books.specs.Words.{sideBySide};
 ghost use Rattle.printing.specs.Put.{PutWithin};
 ghost use Rattle.signal_lines.specs.Printed.{lineRoom};
 ghost use Rattle.listing.specs.declared.Fitted.{Fitted};
@@ -32,7 +32,7 @@ fn put_signals(
 ) -> usize
     requires { ⌜ Roomy (now out) at (now numbers) (now starts) ⌝ }
     ensures { λ r. ⌜ PutWithin (now (out .entry)) at (lineRoom * length (now (numbers .entry)))
-        (wordLines identifier word (placed (now (numbers .entry)) (now (starts .entry)))) (now (out .exit)) r ⌝ }
+        (wordLines identifier word (sideBySide (now (numbers .entry)) (now (starts .entry)))) (now (out .exit)) r ⌝ }
 {
     let mut next: usize = at;
     let mut i: usize = 0;
@@ -58,7 +58,7 @@ fn list_signals(
 ) -> Fitted
     requires { ⌜ Listable (now out) at (now numbers) (now starts) ⌝ }
     ensures { λ r. ⌜ _≡_ {A = Fitted × List ℕ} (r, now (out .exit))
-        (fitted (now (out .entry)) at (wordLines identifier word (placed (now (numbers .entry)) (now (starts .entry))))) ⌝ }
+        (fitted (now (out .entry)) at (wordLines identifier word (sideBySide (now (numbers .entry)) (now (starts .entry))))) ⌝ }
 {
     if LINE_ROOM * numbers.len() <= out.len() - at {
         return Fitted::Next(put_signals(&mut *out, at, identifier, word, numbers, starts));

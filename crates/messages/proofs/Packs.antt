@@ -12,7 +12,8 @@ use Rattle.bits.specs.Word as Bits
 use Rattle.bits.specs.Checksum.{checksumOf}
 use Rattle.books.specs.Book.{Placement, Message}
 use Rattle.books.specs.Lines.{isIn}
-use Rattle.books.specs.Words.{placed}
+use Rattle.books.specs.Words.{sideBySide}
+use Rattle.books.proofs.Sides.{side-numbers}
 use Rattle.catalogue.specs.Find.{bitsOf}
 use Rattle.catalogue.specs.Class.{classOf}
 use Rattle.framing.specs.declared.Packing.{Packing}
@@ -25,7 +26,6 @@ use Rattle.messages.specs.declared.packing.Put.{Put}
 use Rattle.messages.specs.declared.packing.Put.the-variants.{Word, TooWide, ReservedOrOutside}
 use Rattle.messages.specs.Put.{putOne, putAll, Packable, packInto}
 use Rattle.messages.proofs.Steps.{from, placementAt, rest, rest-more, rest-none}
-use Rattle.messages.proofs.Readings.{placed-numbers}
 
 -- ---- the checksum put in
 
@@ -139,21 +139,21 @@ module _ (identifier : ℕ) (ns ss vs lent : List ℕ) where
   abbrev M : Message
   M = messageFrom identifier ns ss
 
-  pub refused-wide : putAll (Word allOnes) (placed ns ss) vs ≡ TooWide → _≡_ {A = Packing × List ℕ} (Answer.TooWide, lent) (packInto M vs lent)
-  refused-wide e = let h : judged (placed ns ss) vs ≡ Answer.TooWide = sym (judged-all (placed ns ss) vs allOnes) ∙ ap judgement e in rw h refl
+  pub refused-wide : putAll (Word allOnes) (sideBySide ns ss) vs ≡ TooWide → _≡_ {A = Packing × List ℕ} (Answer.TooWide, lent) (packInto M vs lent)
+  refused-wide e = let h : judged (sideBySide ns ss) vs ≡ Answer.TooWide = sym (judged-all (sideBySide ns ss) vs allOnes) ∙ ap judgement e in rw h refl
 
-  pub refused-barred : putAll (Word allOnes) (placed ns ss) vs ≡ ReservedOrOutside → _≡_ {A = Packing × List ℕ} (Answer.ReservedOrOutside, lent) (packInto M vs lent)
-  refused-barred e = let h : judged (placed ns ss) vs ≡ Answer.ReservedOrOutside = sym (judged-all (placed ns ss) vs allOnes) ∙ ap judgement e in rw h refl
+  pub refused-barred : putAll (Word allOnes) (sideBySide ns ss) vs ≡ ReservedOrOutside → _≡_ {A = Packing × List ℕ} (Answer.ReservedOrOutside, lent) (packInto M vs lent)
+  refused-barred e = let h : judged (sideBySide ns ss) vs ≡ Answer.ReservedOrOutside = sym (judged-all (sideBySide ns ss) vs allOnes) ∙ ap judgement e in rw h refl
 
-  pub was-packed : length ss ≡ length ns → (word : ℕ) → putAll (Word allOnes) (placed ns ss) vs ≡ Word word → (frame : List ℕ) → frame ≡ bytesOf (summedWord identifier word ns)
+  pub was-packed : length ss ≡ length ns → (word : ℕ) → putAll (Word allOnes) (sideBySide ns ss) vs ≡ Word word → (frame : List ℕ) → frame ≡ bytesOf (summedWord identifier word ns)
       → _≡_ {A = Packing × List ℕ} (Answer.Packed, frame) (packInto M vs lent)
   unfolding putFrame summed summedWord
   was-packed same word e frame f =
-      let h : judged (placed ns ss) vs ≡ Answer.Packed = sym (judged-all (placed ns ss) vs allOnes) ∙ ap judgement e in
-      let w : word ≡ put allOnes (placed ns ss) vs = word-all (placed ns ss) vs word allOnes e in
+      let h : judged (sideBySide ns ss) vs ≡ Answer.Packed = sym (judged-all (sideBySide ns ss) vs allOnes) ∙ ap judgement e in
+      let w : word ≡ put allOnes (sideBySide ns ss) vs = word-all (sideBySide ns ss) vs word allOnes e in
       rw h
       (ap (λ (x : List ℕ). (Answer.Packed, x))
       (f
       ∙ ap (λ (x : ℕ). bytesOf (cond (isIn checksumNumber ns) (Bits.placed x checksumStart checksumBits (checksumOf identifier (bytesOf x))) x)) w
-      ∙ ap (λ (l : List ℕ). bytesOf (cond (isIn checksumNumber l) (Bits.placed (put allOnes (placed ns ss) vs) checksumStart checksumBits (checksumOf identifier (bytesOf (put allOnes (placed ns ss) vs)))) (put allOnes (placed ns ss) vs)))
-      (sym (placed-numbers ns ss same))))
+      ∙ ap (λ (l : List ℕ). bytesOf (cond (isIn checksumNumber l) (Bits.placed (put allOnes (sideBySide ns ss) vs) checksumStart checksumBits (checksumOf identifier (bytesOf (put allOnes (sideBySide ns ss) vs)))) (put allOnes (sideBySide ns ss) vs)))
+      (sym (side-numbers ns ss same))))

@@ -1,9 +1,9 @@
 -- From the word back to the frame: what was read from the word is what the frame reads as. Assumes nothing.
 use mathlib.Core.Path.{_≡_, refl, sym, ap, _∙_}
 use mathlib.Core.Bool.{true, false, _||_, not}
-use mathlib.Core.List.{List, [], _∷_, _++_, map}
+use mathlib.Core.List.{List, _∷_, _++_, map}
 use mathlib.Core.Option.{some}
-use Prim.Native.Nat.{ℕ, suc, _+_, _^_, _≤_, _<_}
+use Prim.Native.Nat.{ℕ, _+_, _^_, _≤_, _<_}
 use native.Mathlib.Nat.{zero-add}
 use native.Mathlib.Omega.{arith}
 use lib.Dec.{eqb, lit≤}
@@ -15,7 +15,8 @@ use Rattle.bits.specs.Checksum.{checksumOf}
 use Rattle.bits.proofs.Weights.{read-bytes}
 use Rattle.books.specs.Book.{Placement, Message, numbers}
 use Rattle.books.specs.Lines.{isIn}
-use Rattle.books.specs.Words.{placed}
+use Rattle.books.specs.Words.{sideBySide}
+use Rattle.books.proofs.Sides.{side-length, side-numbers}
 use Rattle.catalogue.specs.Find.{bitsOf}
 use Rattle.catalogue.specs.Class.{classOf}
 use Rattle.framing.specs.declared.Reading.{Reading}
@@ -23,19 +24,6 @@ use Rattle.framing.specs.declared.Reading.the-variants.{Read, WrongChecksum, To
 use Rattle.framing.specs.Messages.{checksumNumber, checksumStart, checksumBits, countOf, classIn, written}
 use Rattle.framing.specs.Reading.{Slices, classCode, thousandthsOf, checksumHolds, room, readings, readByMessage}
 use Rattle.messages.specs.Signals.{AllFit, rawIn, classFrom, codeIn, readingIn, checkHolds, messageFrom, Readable}
-
--- numbers and starts side by side
-pub placed-length : (ns ss : List ℕ) → length ss ≡ length ns → length (placed ns ss) ≡ length ns
-unfolding placed
-placed-length [] ss e = refl
-placed-length (n ∷ ns) [] e = absurd (omega arith)
-placed-length (n ∷ ns) (s ∷ ss) e = ap suc (placed-length ns ss (omega arith))
-
-pub placed-numbers : (ns ss : List ℕ) → length ss ≡ length ns → numbers (placed ns ss) ≡ ns
-unfolding placed
-placed-numbers [] ss e = refl
-placed-numbers (n ∷ ns) [] e = absurd (omega arith)
-placed-numbers (n ∷ ns) (s ∷ ss) e = ap (λ (l : List ℕ). n ∷ l) (placed-numbers ns ss (omega arith))
 
 map-fit : {A : Type 0} (f g : Placement → A) → ((p : Placement) → Fits (p .start) (bitsOf (p .number)) → f p ≡ g p) → {ps : List Placement} → AllFit ps → map f ps ≡ map g ps
 map-fit f g h AllFit.none = refl
@@ -59,15 +47,15 @@ module _ (identifier word : ℕ) (ns ss : List ℕ) (hw : word < 2 ^ 64) (r : Re
   pub check-same : checkHolds identifier word ns ≡ checksumHolds M (bytesOf word)
   unfolding checkHolds checksumHolds
   check-same =
-      ap (λ (l : List ℕ). not (isIn checksumNumber l) || eqb (fieldOf word checksumStart checksumBits) (checksumOf identifier (bytesOf word))) (sym (placed-numbers ns ss (r .same)))
-      ∙ ap (λ (n : ℕ). not (isIn checksumNumber (numbers (placed ns ss))) || eqb n (checksumOf identifier (bytesOf word))) (sym (read-bytes word checksumStart checksumBits hw (lit≤ tt)))
+      ap (λ (l : List ℕ). not (isIn checksumNumber l) || eqb (fieldOf word checksumStart checksumBits) (checksumOf identifier (bytesOf word))) (sym (side-numbers ns ss (r .same)))
+      ∙ ap (λ (n : ℕ). not (isIn checksumNumber (numbers (sideBySide ns ss))) || eqb n (checksumOf identifier (bytesOf word))) (sym (read-bytes word checksumStart checksumBits hw (lit≤ tt)))
 
   module _ (lent : Slices) where
     wrote : {A : Type 0} (f g : Placement → A) (l : List A) → ((p : Placement) → Fits (p .start) (bitsOf (p .number)) → f p ≡ g p) → length ns ≤ length l
-        → sets l 0 (map f (placed ns ss)) ≡ written (map g (placed ns ss)) l
+        → sets l 0 (map f (sideBySide ns ss)) ≡ written (map g (sideBySide ns ss)) l
     wrote f g l h n =
         ap (sets l 0) (map-fit f g h (r .fit))
-        ∙ sets-written l (map g (placed ns ss)) (omega (arith, length-map (placed ns ss) g, placed-length ns ss (r .same)))
+        ∙ sets-written l (map g (sideBySide ns ss)) (omega (arith, length-map (sideBySide ns ss) g, side-length ns ss (r .same)))
 
     pub refused-check : checkHolds identifier word ns ≡ false → _≡_ {A = Reading × Slices} (WrongChecksum, lent) (readByMessage (some M) (bytesOf word) lent)
     unfolding readByMessage
@@ -75,17 +63,17 @@ module _ (identifier word : ℕ) (ns ss : List ℕ) (hw : word < 2 ^ 64) (r : Re
 
     pub refused-room : checkHolds identifier word ns ≡ true → room lent < length ns → _≡_ {A = Reading × Slices} (TooLittleRoom, lent) (readByMessage (some M) (bytesOf word) lent)
     unfolding readByMessage
-    refused-room e h = rw (sym check-same ∙ e, placed-length ns ss (r .same), lt-leb (length ns) (room lent) h) refl
+    refused-room e h = rw (sym check-same ∙ e, side-length ns ss (r .same), lt-leb (length ns) (room lent) h) refl
 
     pub was-read : checkHolds identifier word ns ≡ true → length ns ≤ room lent → (out : Slices)
-        → out .raws ≡ sets (lent .raws) 0 (map (rawIn word) (placed ns ss))
-        → out .classes ≡ sets (lent .classes) 0 (map (codeIn word) (placed ns ss))
-        → out .thousandths ≡ sets (lent .thousandths) 0 (map (readingIn word) (placed ns ss))
+        → out .raws ≡ sets (lent .raws) 0 (map (rawIn word) (sideBySide ns ss))
+        → out .classes ≡ sets (lent .classes) 0 (map (codeIn word) (sideBySide ns ss))
+        → out .thousandths ≡ sets (lent .thousandths) 0 (map (readingIn word) (sideBySide ns ss))
         → _≡_ {A = Reading × Slices} (Read (length ns), out) (readByMessage (some M) (bytesOf word) lent)
     unfolding readByMessage
     was-read e h out a b c =
         let raws = a ∙ wrote (rawIn word) (countOf (bytesOf word)) (lent .raws) count (omega arith) in
         let classes = b ∙ wrote (codeIn word) (λ (p : Placement). classCode (classIn (bytesOf word) p)) (lent .classes) (λ p f. ap classCode (class p f)) (omega arith) in
         let thousandths = c ∙ wrote (readingIn word) (λ (p : Placement). thousandthsOf (classIn (bytesOf word) p)) (lent .thousandths) (λ p f. ap thousandthsOf (class p f)) (omega arith) in
-        let done : out ≡ readings (bytesOf word) (placed ns ss) lent = λ i. record { raws = raws i; classes = classes i; thousandths = thousandths i } in
-        rw (sym check-same ∙ e, placed-length ns ss (r .same), le-leb (length ns) (room lent) h) (ap (λ (x : Slices). (Read (length ns), x)) done)
+        let done : out ≡ readings (bytesOf word) (sideBySide ns ss) lent = λ i. record { raws = raws i; classes = classes i; thousandths = thousandths i } in
+        rw (sym check-same ∙ e, side-length ns ss (r .same), le-leb (length ns) (room lent) h) (ap (λ (x : Slices). (Read (length ns), x)) done)

@@ -13,7 +13,7 @@ use Rattle.bits.specs.Word.{Fits, fieldOf, bytesOf}
 use Rattle.bits.specs.Checksum.{checksumOf}
 use Rattle.books.specs.Book.{Placement}
 use Rattle.books.specs.Lines.{isIn}
-use Rattle.books.specs.Words.{placed}
+use Rattle.books.specs.Words.{sideBySide}
 use Rattle.catalogue.specs.Find.{bitsOf}
 use Rattle.framing.specs.Messages.{checksumNumber, checksumStart, checksumBits}
 use Rattle.messages.specs.Signals.{AllFit, checkHolds}
@@ -43,16 +43,16 @@ abbrev pub placementAt : List ℕ → List ℕ → ℕ → Placement
 placementAt ns ss i = record { number = getD ns i 0; start = getD ss i 0 }
 
 abbrev pub rest : List ℕ → List ℕ → ℕ → List Placement
-rest ns ss i = placed (drop i ns) (drop i ss)
+rest ns ss i = sideBySide (drop i ns) (drop i ss)
 
 pub rest-more : (ns ss : List ℕ) (i : ℕ) → i < length ns → length ss ≡ length ns → rest ns ss i ≡ placementAt ns ss i ∷ rest ns ss (i + 1)
-unfolding placed
+unfolding sideBySide
 rest-more ns ss i h e =
-    ap (λ (l : List ℕ). placed l (drop i ss)) (from ns i h) ∙ ap (λ (l : List ℕ). placed (getD ns i 0 ∷ drop (i + 1) ns) l) (from ss i (omega arith))
+    ap (λ (l : List ℕ). sideBySide l (drop i ss)) (from ns i h) ∙ ap (λ (l : List ℕ). sideBySide (getD ns i 0 ∷ drop (i + 1) ns) l) (from ss i (omega arith))
 
 pub rest-none : (ns ss : List ℕ) (i : ℕ) → length ns ≤ i → rest ns ss i ≡ []
-unfolding placed
-rest-none ns ss i h = ap (λ (l : List ℕ). placed l (drop i ss)) (drop-of-length-le ns h)
+unfolding sideBySide
+rest-none ns ss i h = ap (λ (l : List ℕ). sideBySide l (drop i ss)) (drop-of-length-le ns h)
 
 fit-first : {p : Placement} {ps : List Placement} → AllFit (p ∷ ps) → Fits (p .start) (bitsOf (p .number))
 fit-first (AllFit.more f fs) = f
@@ -73,7 +73,7 @@ module _ (ns ss : List ℕ) (i : ℕ) (h : i < length ns) (e : length ss ≡ len
 module _ {A : Type 0} (f : Placement → A) (lent : List A) (ns ss : List ℕ) where
   -- writing what is left gives the final list
   abbrev pub Writing : List A → ℕ → Type 0
-  Writing l i = sets l i (map f (rest ns ss i)) ≡ sets lent 0 (map f (placed ns ss))
+  Writing l i = sets l i (map f (rest ns ss i)) ≡ sets lent 0 (map f (sideBySide ns ss))
 
   pub write-more : (l : List A) (i : ℕ) (v : A) → i < length ns → length ss ≡ length ns → v ≡ f (placementAt ns ss i) → Writing l i → Writing (set l i v) (i + 1)
   write-more l i v h e is w =
@@ -82,11 +82,11 @@ module _ {A : Type 0} (f : Placement → A) (lent : List A) (ns ss : List ℕ) w
       ∙ sym (ap (λ (ps : List Placement). sets l i (map f ps)) (rest-more ns ss i h e))
       ∙ w
 
-  pub write-none : (l : List A) (i : ℕ) → length ns ≤ i → Writing l i → l ≡ sets lent 0 (map f (placed ns ss))
+  pub write-none : (l : List A) (i : ℕ) → length ns ≤ i → Writing l i → l ≡ sets lent 0 (map f (sideBySide ns ss))
   write-none l i h w = sym (ap (λ (ps : List Placement). sets l i (map f ps)) (rest-none ns ss i h)) ∙ w
 
   pub write-length : (l : List A) (i : ℕ) → Writing l i → length l ≡ length lent
-  write-length l i w = sym (length-sets l i (map f (rest ns ss i))) ∙ ap length w ∙ length-sets lent 0 (map f (placed ns ss))
+  write-length l i w = sym (length-sets l i (map f (rest ns ss i))) ∙ ap length w ∙ length-sets lent 0 (map f (sideBySide ns ss))
 
 -- ---- the check
 

@@ -8,7 +8,7 @@ use lib.Dec.{eqb, leb}
 use lib.ListN.{length}
 use Rattle.bits.specs.Word as Word
 use Rattle.books.specs.Book.{Placement, Message}
-use Rattle.books.specs.Words.{placed}
+use Rattle.books.specs.Words.{sideBySide}
 use Rattle.catalogue.specs.Find.{bitsOf}
 use Rattle.catalogue.specs.Class.{classOf}
 use Rattle.framing.specs.declared.Packing.{Packing}
@@ -39,7 +39,7 @@ putAll ReservedOrOutside (p ∷ ps) (v ∷ vs) = ReservedOrOutside
 pub record Packable (ns ss vs : List ℕ) : Type 0 where
   pub same : length ss ≡ length ns
   pub many : length vs ≡ length ns
-  pub fit : AllFit (placed ns ss)
+  pub fit : AllFit (sideBySide ns ss)
 
 -- values put into a frame of 8 bytes, as many as the message has placements, which need not lie apart
 abbrev pub packInto : Message → List ℕ → List ℕ → Packing × List ℕ

@@ -11,7 +11,7 @@ use Rattle.bits.specs.Word as Word
 use Rattle.bits.specs.Checksum.{checksumOf}
 use Rattle.books.specs.Book.{Placement, Message}
 use Rattle.books.specs.Lines.{isIn}
-use Rattle.books.specs.Words.{placed}
+use Rattle.books.specs.Words.{sideBySide}
 use Rattle.catalogue.specs.Find.{bitsOf}
 use Rattle.catalogue.specs.Class.{classOf}
 use Rattle.catalogue.specs.declared.Class.{Class}
@@ -26,7 +26,7 @@ pub data AllFit : List Placement → Type 0 where
 -- numbers and starts of placements that lie within the frame, and three slices that have room for their readings
 pub record InStep (ns ss : List ℕ) (raws classes thousandths : ℕ) : Type 0 where
   pub same : length ss ≡ length ns
-  pub fit : AllFit (placed ns ss)
+  pub fit : AllFit (sideBySide ns ss)
   pub raw-room : length ns ≤ raws
   pub class-room : length ns ≤ classes
   pub thousandth-room : length ns ≤ thousandths
@@ -52,12 +52,12 @@ checkHolds identifier word ns =
 
 -- the message of an identifier with its numbers and starts
 abbrev pub messageFrom : ℕ → List ℕ → List ℕ → Message
-messageFrom identifier ns ss = record { identifier = identifier; placements = placed ns ss }
+messageFrom identifier ns ss = record { identifier = identifier; placements = sideBySide ns ss }
 
 -- numbers and starts of placements that lie within a frame
 pub record Readable (ns ss : List ℕ) : Type 0 where
   pub same : length ss ≡ length ns
-  pub fit : AllFit (placed ns ss)
+  pub fit : AllFit (sideBySide ns ss)
 
 -- the word with the checksum where the message places it
 unfoldable pub summedWord : ℕ → ℕ → List ℕ → ℕ

@@ -6,7 +6,8 @@ ghost use lib.Dec.{leb};
 ghost use lib.ListN.{length};
 ghost use Rattle.bits.specs.Frame.{frameBytes};
 ghost use Rattle.bits.specs.Word.{Fits};
-ghost use Rattle.books.specs.Words.{placed};
+ghost use Rattle.books.specs.Words.{sideBySide};
+ghost use Rattle.rows.specs.Rule.{mostBits};
 ghost use Rattle.catalogue.specs.Find.{bitsOf};
 ghost use Rattle.framing.specs.declared.Packing.{Packing};
 ghost use Rattle.framing.specs.Packing.{packable};
@@ -43,7 +44,7 @@ fn is_packable(class: Class) -> bool
 
 // Whether a count has more than `bits` bits.
 fn is_too_wide(bits: u32, count: u32) -> bool
-    requires { ⌜ bits ≤ 32 ⌝ }
+    requires { ⌜ bits ≤ mostBits ⌝ }
     ensures { λ r. ⌜ r ≡ leb (2 ^ bits) count ⌝ }
 {
     let limit: u64 = 1 << bits;
@@ -72,7 +73,7 @@ fn put_one(word: u64, number: u32, start: u32, value: u32) -> Put
 // A word of ones with each value but that of 503 at its place.
 fn put_all(numbers: &[u32], starts: &[u32], values: &[u32]) -> Put
     requires { ⌜ Packable (now numbers) (now starts) (now values) ⌝ }
-    ensures { λ r. ⌜ r ≡ putAll (Put.Word allOnes) (placed (now (numbers .entry)) (now (starts .entry))) (now (values .entry)) ⌝ }
+    ensures { λ r. ⌜ r ≡ putAll (Put.Word allOnes) (sideBySide (now (numbers .entry)) (now (starts .entry))) (now (values .entry)) ⌝ }
 {
     let mut word: u64 = 0xffff_ffff_ffff_ffff;
     let mut i: usize = 0;

@@ -6,7 +6,7 @@ ghost use Prim.Native.Nat.{min};
 ghost use lib.ListN.{length};
 ghost use lib.Seq.{sets};
 ghost use Rattle.bits.specs.Word.{bytesOf};
-ghost use Rattle.books.specs.Words.{placed};
+ghost use Rattle.books.specs.Words.{sideBySide};
 ghost use Rattle.framing.specs.declared.Reading.{Reading};
 ghost use Rattle.framing.specs.Reading.{Slices, readByMessage};
 ghost use Rattle.messages.specs.Signals.{InStep, rawIn, codeIn, readingIn, messageFrom, Readable};
@@ -26,9 +26,9 @@ pub fn read_signals(
     thousandths: &mut [i64],
 )
     requires { ⌜ InStep (now numbers) (now starts) (length (now raws)) (length (now classes)) (length (now thousandths)) ⌝ }
-    ensures { λ _. ⌜ (now (raws .exit) ≡ sets (now (raws .entry)) 0 (map (rawIn word) (placed (now (numbers .entry)) (now (starts .entry))))) ×
-        (now (classes .exit) ≡ sets (now (classes .entry)) 0 (map (codeIn word) (placed (now (numbers .entry)) (now (starts .entry))))) ×
-        (now (thousandths .exit) ≡ sets (now (thousandths .entry)) 0 (map (readingIn word) (placed (now (numbers .entry)) (now (starts .entry))))) ⌝ }
+    ensures { λ _. ⌜ (now (raws .exit) ≡ sets (now (raws .entry)) 0 (map (rawIn word) (sideBySide (now (numbers .entry)) (now (starts .entry))))) ×
+        (now (classes .exit) ≡ sets (now (classes .entry)) 0 (map (codeIn word) (sideBySide (now (numbers .entry)) (now (starts .entry))))) ×
+        (now (thousandths .exit) ≡ sets (now (thousandths .entry)) 0 (map (readingIn word) (sideBySide (now (numbers .entry)) (now (starts .entry))))) ⌝ }
 {
     let mut i: usize = 0;
     while i < numbers.len() {

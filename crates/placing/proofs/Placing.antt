@@ -1,21 +1,18 @@
--- One signal against its frame, and against those before it, one at a time. Assumes nothing.
-use mathlib.Core.Path.{_≡_, refl, ap}
+-- One signal against its frame. Assumes nothing.
+use mathlib.Core.Path.{_≡_}
 use mathlib.Core.Bool.{true, false, _||_, not, or-true, or-false}
-use mathlib.Core.List.{List, [], _∷_}
-use Prim.Native.Nat.{ℕ, suc, _+_, _≤_, _<_}
+use Prim.Native.Nat.{ℕ, _+_, _≤_, _<_}
 use native.Mathlib.Nat.{pos-of-ne-zero}
 use native.Mathlib.Omega.{arith}
 use lib.Dec.{eqb, leb, ltb}
-use lib.ListN.{length}
 use borrow.Author.Tests.{ne-eqb, eqb-false, lt-ltb, le-ltb, le-leb, lt-leb, leb-false, ltb-false}
 use Rattle.catalogue.specs.Find.{bitsOf}
 use Rattle.catalogue.proofs.Found.{few-bits}
-use Rattle.books.specs.Book.{Placement, numbers}
+use Rattle.books.specs.Book.{Placement, placement}
 use Rattle.books.specs.Fixed.{checksumNumber, checksumStart, counterNumber, counterStart}
 use Rattle.books.specs.Lines.{unknownOrOver, misplaced, frameBits, startLimit}
-use Rattle.books.specs.Words.{placed}
 use Rattle.books.proofs.Tests.{neither, both-false}
-use Rattle.placing.specs.Placing.{placement, standsAlone, Room}
+use Rattle.placing.specs.Placing.{standsAlone, Room}
 
 -- ---- by itself: past the frame's end, and the two that have a start of their own
 module _ (n s b : ℕ) (e : b ≡ bitsOf n) where
@@ -69,10 +66,3 @@ unfolding unknownOrOver
 has-bits p h =
     let n = neither (eqb (bitsOf (p .number)) 0 || leb frameBits (p .start)) (misplaced p) h in
     pos-of-ne-zero (eqb-false _ _ (both-false (eqb (bitsOf (p .number)) 0) (leb frameBits (p .start)) (n .0) .0))
-
--- ---- those before it
-pub placed-numbers : (ns ss : List ℕ) → length ss ≡ length ns → numbers (placed ns ss) ≡ ns
-unfolding placed
-placed-numbers [] ss e = refl
-placed-numbers (n ∷ ns) [] e = let z : 0 ≡ suc (length ns) = e in absurd (omega arith)
-placed-numbers (n ∷ ns) (s ∷ ss) e = ap (_∷_ n) (placed-numbers ns ss (omega (arith, e)))

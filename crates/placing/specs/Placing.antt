@@ -6,10 +6,6 @@ use Rattle.rows.specs.Rule.{mostBits}
 use Rattle.books.specs.Book.{Placement}
 use Rattle.books.specs.Lines.{unknownOrOver, misplaced, frameBits}
 
--- the line that a number with a start makes
-abbrev pub placement : ℕ → ℕ → Placement
-placement n s = record { number = n; start = s }
-
 -- a signal of the catalogue that stands where it may, by itself
 abbrev pub standsAlone : Placement → Bool
 standsAlone p = not (unknownOrOver p || misplaced p)

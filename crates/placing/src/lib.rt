@@ -5,11 +5,12 @@ ghost use Prim.Native.Nat.{ℕ, _+_, _≤_, _<_};
 ghost use lib.ListN.{length};
 ghost use Rattle.rows.specs.Rule.{mostBits};
 ghost use Rattle.catalogue.specs.Find.{bitsOf};
+ghost use Rattle.books.specs.Book.{placement};
 ghost use Rattle.books.specs.Lines.{isIn, misplaced};
 ghost use Rattle.books.specs.Good.{goodAfter};
-ghost use Rattle.books.specs.Words.{placed};
+ghost use Rattle.books.specs.Words.{sideBySide};
 ghost use Rattle.masks.specs.Bit.{bit};
-ghost use Rattle.placing.specs.Placing.{placement, standsAlone, Room, inRun};
+ghost use Rattle.placing.specs.Placing.{standsAlone, Room, inRun};
 ghost use Rattle.placing.specs.Filling.{Marks, FilledMore};
 ghost use Rattle.record.specs.Limits.{startLimit};
 use record::START_LIMIT;
@@ -106,7 +107,7 @@ pub fn is_repeated(numbers: &[u32], filled: Filled, number: u32) -> bool
 // Whether all signals of a message stand where they may: each by itself, none twice, and no bits that meet.
 pub fn well_placed(numbers: &[u32], starts: &[u32]) -> bool
     requires { ⌜ length (now starts) ≡ length (now numbers) ⌝ }
-    ensures { λ r. ⌜ r ≡ goodAfter [] (placed (now (numbers .entry)) (now (starts .entry))) ⌝ }
+    ensures { λ r. ⌜ r ≡ goodAfter [] (sideBySide (now (numbers .entry)) (now (starts .entry))) ⌝ }
 {
     let mut filled = nothing();
     let mut at: usize = 0;

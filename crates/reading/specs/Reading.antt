@@ -1,29 +1,25 @@
 -- A text read line by line to a book: the first bad line, on it the lowest of 2 to 9. Assumes nothing: these are definitions.
 use Prim.Native.Nat.{ℕ, zero, suc}
 use mathlib.Core.List.{List, [], _∷_, _++_, map}
-use Rattle.record.specs.Place.{placeKey}
 use Rattle.parts.specs.Parts.{lines}
 use Rattle.line.specs.Meaning.{meaningOf}
 use Rattle.line.specs.declared.Line.{Line}
 use Rattle.line.specs.declared.Line.the-variants as line
-use Rattle.books.specs.Book.{Book, Route, noBook, fresh, inLast}
+use Rattle.books.specs.Book.{Book, noBook, placement, route, withMessage, withSignal, withRoute}
 use Rattle.books.specs.Lines.{messageRefusal, signalRefusal, routeRefusal}
 
 -- why a line is refused after the lines that gave the book: 2 for its form, else the lowest of 3 to 9; 0 where it is taken
 unfoldable pub refusalOf : Book → Line → ℕ
 refusalOf b (line.Message i) = messageRefusal (b .messages) i
-refusalOf b (line.Signal n s) = signalRefusal (b .messages) (record { number = n; start = s })
+refusalOf b (line.Signal n s) = signalRefusal (b .messages) (placement n s)
 refusalOf b (line.Route a i c j) = routeRefusal (b .routes) a i c j
 refusalOf b line.IllFormed = 2
 
 -- the book with one line more
 unfoldable pub withLine : Book → Line → Book
-withLine b (line.Message i) = record { messages = b .messages ++ (fresh i ∷ []); routes = b .routes }
-withLine b (line.Signal n s) = record { messages = inLast (b .messages) (record { number = n; start = s }); routes = b .routes }
-withLine b (line.Route a i c j) = record {
-  messages = b .messages;
-  routes = b .routes ++ (record { from = placeKey a i; to = placeKey c j } ∷ []);
-}
+withLine b (line.Message i) = withMessage b i
+withLine b (line.Signal n s) = withSignal b (placement n s)
+withLine b (line.Route a i c j) = withRoute b (route a i c j)
 withLine b line.IllFormed = b
 
 -- the line numbers of the book's routes, with those of one line more

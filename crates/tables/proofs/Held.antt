@@ -9,9 +9,9 @@ use lib.Seq.{take-at, drop-at, getD-at}
 use borrow.Author.Tests.{le-ltb}
 use Rattle.books.specs.Book.{Placement, Message, Book, identifiers, numbers, allPlacements, lastPlacements}
 use Rattle.books.specs.Lines.{messageLimit, signalLimit}
-use Rattle.books.specs.Words.{column, endsAfter, endColumn, numberColumn, messageColumns, routeColumns, wordsOf, Stands}
+use Rattle.books.specs.Words.{column, endsAfter, endColumn, numberColumn, messageColumns, routeColumns, wordsOf, messagesOf, Stands}
 use Rattle.books.proofs.Ends.{map-append, last-placements, last}
-use Rattle.books.proofs.Columns.{take-column, length-ends, columns-long, ids-stand, ends-stand, numbers-stand}
+use Rattle.books.proofs.Columns.{take-column, length-ends, columns-long, ids-stand, ends-stand, numbers-stand, shows}
 use Rattle.record.specs.Columns.{messageWords, messageCountOf, signalCountOf, routeCountOf, idsOf, endsOf, numbersOf}
 use Rattle.tables.specs.Adding.{Holds, lastBegin}
 use Rattle.tables.proofs.Longer.{all-last, ends-last}
@@ -88,6 +88,9 @@ module _ (w : List ℕ) (b : Book) (h : Holds w b) where
         signals = refl;
         columns = take-at (messageColumns (b .messages)) (routeColumns (b .routes)) messageWords (columns-long (b .messages) (h .within .messages) (h .within .signals));
       })
+
+  pub messages-shown : messagesOf w ≡ b .messages
+  messages-shown = shows w (b .messages) (h .within .messages) (h .within .signals) stands
 
   pub messages-held : messageCountOf w ≡ length (b .messages)
   messages-held = stands .messages

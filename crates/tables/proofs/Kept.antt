@@ -5,7 +5,7 @@ use Prim.Native.Nat.{ℕ, suc, _<_}
 use native.Mathlib.Omega.{arith}
 use lib.ListN.{length}
 use Rattle.catalogue.specs.Find.{bitsOf}
-use Rattle.books.specs.Book.{Placement, Message, Book, fresh, withPlacement, inLast, lastPlacements}
+use Rattle.books.specs.Book.{Placement, Message, Book, fresh, withPlacement, inLast, lastPlacements, withSignal}
 use Rattle.books.specs.Lines.{signalRefusal}
 use Rattle.books.specs.Words.{wordsOf}
 use Rattle.books.proofs.Ends.{in-last, last-placements, last}
@@ -14,7 +14,7 @@ use Rattle.placing.specs.Filling.{Fills, FilledMore}
 use Rattle.placing.proofs.Placing.{has-bits}
 use Rattle.placing.proofs.Filling.{fills-none, fills-more}
 use Rattle.tables.specs.declared.Placed.{Placed}
-use Rattle.tables.specs.Adding.{Kept, SignalJudged, refusalOf, unless, withSignal}
+use Rattle.tables.specs.Adding.{Kept, SignalJudged, refusalOf, unless}
 use Rattle.tables.proofs.Refused.{stays, takes}
 use Rattle.tables.proofs.Room.{signal-room}
 

@@ -7,5 +7,6 @@ pub mod Room
 pub mod Kept
 pub mod Parted
 pub mod Tested
+pub mod OneBook
 pub mod Once
 pub mod OneOutcome

@@ -12,63 +12,58 @@ use borrow.Author.Tests.{le-leb, lt-leb, leb-true, eq-eqb, ne-eqb, eqb-true, eqb
 use Rattle.books.specs.Book.{Placement, Message, identifiers, allPlacements}
 use Rattle.books.specs.Good.{goodAfter, goodFrom}
 use Rattle.books.specs.Lines.{isIn, identifierLimit}
-use Rattle.books.specs.Words.{endsAfter, placed, shown}
+use Rattle.books.specs.Words.{endsAfter, sideBySide, shown}
 use Rattle.books.proofs.Tests.{both, with}
+use Rattle.books.proofs.Sides.{side-length}
 use Rattle.columns.specs.Identifiers.{distinctAfter}
 use Rattle.tables.specs.Testing.{parted}
 
 -- ---- parts of two columns side by side
 
-placed-take : (n : ℕ) (ns ss : List ℕ) → placed (take n ns) (take n ss) ≡ take n (placed ns ss)
-unfolding placed
-placed-take zero ns ss = refl
-placed-take (suc n) [] ss = refl
-placed-take (suc n) (x ∷ ns) [] = refl
-placed-take (suc n) (x ∷ ns) (y ∷ ss) = ap (_∷_ (record { number = x; start = y })) (placed-take n ns ss)
+side-take : (n : ℕ) (ns ss : List ℕ) → sideBySide (take n ns) (take n ss) ≡ take n (sideBySide ns ss)
+unfolding sideBySide
+side-take zero ns ss = refl
+side-take (suc n) [] ss = refl
+side-take (suc n) (x ∷ ns) [] = refl
+side-take (suc n) (x ∷ ns) (y ∷ ss) = ap (_∷_ (record { number = x; start = y })) (side-take n ns ss)
 
-placed-drop : (n : ℕ) (ns ss : List ℕ) → placed (drop n ns) (drop n ss) ≡ drop n (placed ns ss)
-unfolding placed
-placed-drop zero ns ss = refl
-placed-drop (suc n) [] ss = refl
-placed-drop (suc n) (x ∷ ns) [] = none (drop n ns)
+side-drop : (n : ℕ) (ns ss : List ℕ) → sideBySide (drop n ns) (drop n ss) ≡ drop n (sideBySide ns ss)
+unfolding sideBySide
+side-drop zero ns ss = refl
+side-drop (suc n) [] ss = refl
+side-drop (suc n) (x ∷ ns) [] = none (drop n ns)
   where
-    none : (l : List ℕ) → placed l [] ≡ []
+    none : (l : List ℕ) → sideBySide l [] ≡ []
     none [] = refl
     none (z ∷ l) = refl
-placed-drop (suc n) (x ∷ ns) (y ∷ ss) = placed-drop n ns ss
-
-pub length-placed : (ns ss : List ℕ) → length ss ≡ length ns → length (placed ns ss) ≡ length ns
-unfolding placed
-length-placed [] ss e = refl
-length-placed (x ∷ ns) [] e = let z : 0 ≡ suc (length ns) = e in absurd (omega arith)
-length-placed (x ∷ ns) (y ∷ ss) e = ap suc (length-placed ns ss (omega (arith, e)))
+side-drop (suc n) (x ∷ ns) (y ∷ ss) = side-drop n ns ss
 
 -- ---- the loop over the ends
 
 pub record Reached (ends ns ss : List ℕ) (begin at : ℕ) : Type 0 where
   pub within : begin ≤ length ns
-  pub same : parted begin (drop at ends) (drop begin (placed ns ss)) ≡ parted 0 ends (placed ns ss)
+  pub same : parted begin (drop at ends) (drop begin (sideBySide ns ss)) ≡ parted 0 ends (sideBySide ns ss)
 
 pub begin-parted : (ends ns ss : List ℕ) → Reached ends ns ss 0 0
 begin-parted ends ns ss = record { within = omega arith; same = refl }
 
 module _ (ends ns ss : List ℕ) (begin at : ℕ) (e : length ss ≡ length ns) (r : Reached ends ns ss begin at) where
-  left : length (drop begin (placed ns ss)) ≡ length ns - begin
-  left = length-drop begin (placed ns ss) ∙ ap (λ (n : ℕ). n - begin) (length-placed ns ss e)
+  left : length (drop begin (sideBySide ns ss)) ≡ length ns - begin
+  left = length-drop begin (sideBySide ns ss) ∙ ap (λ (n : ℕ). n - begin) (side-length ns ss e)
 
-  pub end-parted : length ends ≤ at → eqb begin (length ns) ≡ parted 0 ends (placed ns ss)
+  pub end-parted : length ends ≤ at → eqb begin (length ns) ≡ parted 0 ends (sideBySide ns ss)
   unfolding parted
   end-parted h =
-      go (eqb begin (length ns)) refl ∙ sym (ap (λ (l : List ℕ). parted begin l (drop begin (placed ns ss))) (drop-of-length-le ends h)) ∙ r .same
+      go (eqb begin (length ns)) refl ∙ sym (ap (λ (l : List ℕ). parted begin l (drop begin (sideBySide ns ss))) (drop-of-length-le ends h)) ∙ r .same
     where
-      go : (t : Bool) → eqb begin (length ns) ≡ t → eqb begin (length ns) ≡ eqb (length (drop begin (placed ns ss))) 0
+      go : (t : Bool) → eqb begin (length ns) ≡ t → eqb begin (length ns) ≡ eqb (length (drop begin (sideBySide ns ss))) 0
       go true f = f ∙ sym (eq-eqb _ 0 (left ∙ (let g = eqb-true begin (length ns) f in omega arith)))
-      go false f = f ∙ sym (ne-eqb (length (drop begin (placed ns ss))) 0 (λ z. eqb-false begin (length ns) f (omega (arith, r .within, left, z))))
+      go false f = f ∙ sym (ne-eqb (length (drop begin (sideBySide ns ss))) 0 (λ z. eqb-false begin (length ns) f (omega (arith, r .within, left, z))))
 
   module _ (end : ℕ) (h : at < length ends) (ee : end ≡ getD ends at 0) where
     -- the signals that are left, and what is left of the test after this message
     rest : List Placement
-    rest = drop begin (placed ns ss)
+    rest = drop begin (sideBySide ns ss)
 
     after : Bool
     after = goodAfter [] (take (end - begin) rest) && parted end (drop (at + 1) ends) (drop (end - begin) rest)
@@ -76,42 +71,42 @@ module _ (ends ns ss : List ℕ) (begin at : ℕ) (e : length ss ≡ length ns) 
     one : drop at ends ≡ end ∷ drop (at + 1) ends
     one = drop-cons ends at 0 h ∙ (cc (add-one at))
 
-    step : leb begin end && (leb (end - begin) (length rest) && after) ≡ parted 0 ends (placed ns ss)
+    step : leb begin end && (leb (end - begin) (length rest) && after) ≡ parted 0 ends (sideBySide ns ss)
     unfolding parted rest after
-    step = sym (ap (λ (l : List ℕ). parted begin l (drop begin (placed ns ss))) one) ∙ r .same
+    step = sym (ap (λ (l : List ℕ). parted begin l (drop begin (sideBySide ns ss))) one) ∙ r .same
 
-    pub refuse-back : end < begin → false ≡ parted 0 ends (placed ns ss)
+    pub refuse-back : end < begin → false ≡ parted 0 ends (sideBySide ns ss)
     refuse-back l = ap (λ (t : Bool). t && (leb (end - begin) (length rest) && after)) (sym (lt-leb begin end l)) ∙ step
 
     module _ (l : begin ≤ end) where
-      second : leb (end - begin) (length rest) && after ≡ parted 0 ends (placed ns ss)
+      second : leb (end - begin) (length rest) && after ≡ parted 0 ends (sideBySide ns ss)
       second = ap (λ (t : Bool). t && (leb (end - begin) (length rest) && after)) (sym (le-leb begin end l)) ∙ step
 
-      pub refuse-past : length ns < end → false ≡ parted 0 ends (placed ns ss)
+      pub refuse-past : length ns < end → false ≡ parted 0 ends (sideBySide ns ss)
       unfolding rest
       refuse-past g = ap (λ (t : Bool). t && after) (sym (lt-leb (end - begin) (length rest) (omega (arith, left, r .within)))) ∙ second
 
       module _ (g : end ≤ length ns) where
-        third : after ≡ parted 0 ends (placed ns ss)
+        third : after ≡ parted 0 ends (sideBySide ns ss)
         unfolding rest
         third = ap (λ (t : Bool). t && after) (sym (le-leb (end - begin) (length rest) (omega (arith, left, r .within)))) ∙ second
 
         -- the message's own numbers and starts
         module _ (own own′ : List ℕ) (eo : own ≡ take (end - begin) (drop begin ns)) (eo′ : own′ ≡ take (end - begin) (drop begin ss)) where
-          its : placed own own′ ≡ take (end - begin) rest
+          its : sideBySide own own′ ≡ take (end - begin) rest
           unfolding rest
-          its = rw (eo, eo′) (placed-take (end - begin) (drop begin ns) (drop begin ss) ∙ ap (take (end - begin)) (placed-drop begin ns ss))
+          its = rw (eo, eo′) (side-take (end - begin) (drop begin ns) (drop begin ss) ∙ ap (take (end - begin)) (side-drop begin ns ss))
 
-          pub refuse-message : goodAfter [] (placed own own′) ≡ false → false ≡ parted 0 ends (placed ns ss)
+          pub refuse-message : goodAfter [] (sideBySide own own′) ≡ false → false ≡ parted 0 ends (sideBySide ns ss)
           unfolding after
           refuse-message f =
               ap (λ (t : Bool). t && parted end (drop (at + 1) ends) (drop (end - begin) rest)) (sym (sym (ap (goodAfter []) its) ∙ f)) ∙ third
 
-          pub next-parted : goodAfter [] (placed own own′) ≡ true → Reached ends ns ss end (at + 1)
+          pub next-parted : goodAfter [] (sideBySide own own′) ≡ true → Reached ends ns ss end (at + 1)
           unfolding after rest
           next-parted f =
               let k : begin + (end - begin) ≡ end = omega arith in
-              let d : drop (end - begin) (drop begin (placed ns ss)) ≡ drop end (placed ns ss) = drop-drop (end - begin) begin (placed ns ss) ∙ ap (λ (n : ℕ). drop n (placed ns ss)) k in
+              let d : drop (end - begin) (drop begin (sideBySide ns ss)) ≡ drop end (sideBySide ns ss) = drop-drop (end - begin) begin (sideBySide ns ss) ∙ ap (λ (n : ℕ). drop n (sideBySide ns ss)) k in
               record {
                 within = g;
                 same = ap (parted end (drop (at + 1) ends)) (sym d) ∙

@@ -7,12 +7,12 @@ use lib.Dec.{leb}
 use lib.ListN.{length, take}
 use borrow.Author.Tests.{ne-eqb, le-leb, lt-leb, leb-false}
 use Rattle.books.specs.Book.{Placement, Message, Book, identifiers, allPlacements, lastPlacements}
-use Rattle.books.specs.Lines.{isIn, unknownOrOver, messageRefusal, signalRefusal, routeRefusal, identifierLimit, messageLimit, busLimit, routeLimit}
+use Rattle.books.specs.Lines.{isIn, unknownOrOver, messageRefusal, afterRefusal, signalRefusal, routeRefusal, identifierLimit, messageLimit, busLimit, routeLimit}
 use Rattle.books.specs.Words.{wordsOf}
 use Rattle.books.proofs.Tests.{both-false}
 use Rattle.record.specs.Columns.{messageCountOf, routeCountOf, idsOf}
 use Rattle.tables.specs.declared.Added.{Added}
-use Rattle.tables.specs.Adding.{Holds, Judged, refusalOf, unless, afterRefusal}
+use Rattle.tables.specs.Adding.{Holds, Judged, refusalOf, unless}
 use Rattle.tables.proofs.Held.{messages-held, routes-held, ids-held}
 
 -- ---- a line that is refused leaves the words, and one that is taken makes those of the new book
@@ -86,5 +86,5 @@ module _ (ms : List Message) (p : Placement) where
     signal-early z = rw (e, z)
 
     pub signal-later : (length ms ≡ 0 → ⊥) → signalRefusal ms p ≡ afterRefusal (lastPlacements ms) (length (allPlacements ms)) p
-    unfolding signalRefusal afterRefusal
+    unfolding signalRefusal
     signal-later z = rw (e, ne-eqb _ _ z)

@@ -8,12 +8,12 @@ use native.Mathlib.Omega.{arith}
 use lib.Dec.{leb, eqb}
 use lib.ListN.{length, length-append}
 use borrow.Author.Tests.{leb-false, eqb-false}
-use Rattle.books.specs.Book.{Placement, Message, Route, Book, noBook, allPlacements, fresh, inLast, withPlacement, lastPlacements, numbers, identifiers}
-use Rattle.books.specs.Lines.{isIn, unknownOrOver, misplaced, meetsEarlier, messageRefusal, signalRefusal, routeRefusal, messageLimit, signalLimit, routeLimit, identifierLimit, busLimit}
+use Rattle.books.specs.Book.{Placement, Message, Route, Book, noBook, allPlacements, fresh, inLast, withPlacement, lastPlacements, numbers, identifiers, withMessage, withSignal, withRoute}
+use Rattle.books.specs.Lines.{isIn, unknownOrOver, misplaced, meetsEarlier, messageRefusal, afterRefusal, signalRefusal, routeRefusal, messageLimit, signalLimit, routeLimit, identifierLimit, busLimit}
 use Rattle.books.proofs.Tests.{not-refused, nor}
 use Rattle.books.proofs.Ends.{in-last, last}
 use Rattle.placing.specs.Placing.{standsAlone}
-use Rattle.tables.specs.Adding.{Within, withMessage, withSignal, withRoute}
+use Rattle.tables.specs.Adding.{Within}
 use Rattle.tables.proofs.Longer.{placements-stay, placements-more}
 
 -- ---- what a line that is taken tells
@@ -31,7 +31,7 @@ pub record SignalRoom (ms : List Message) (p : Placement) : Type 0 where
   pub room : length (allPlacements ms) < signalLimit
 
 pub signal-room : (ms : List Message) (p : Placement) → signalRefusal ms p ≡ 0 → SignalRoom ms p
-unfolding signalRefusal
+unfolding signalRefusal afterRefusal
 signal-room ms p e =
     let a = not-refused (unknownOrOver p) 2 _ e in
     let b = not-refused (eqb (length ms) 0) 3 _ (a .1) in

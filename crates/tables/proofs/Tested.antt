@@ -1,7 +1,7 @@
 -- The test of the message and signal tables passes just where they are those of a taken book. Assumes nothing.
 use mathlib.Core.Path.{_≡_, refl, sym, ap, _∙_}
 use mathlib.Core.Bool.{Bool, true, false, _&&_}
-use mathlib.Core.List.{List, [], _∷_, _++_}
+use mathlib.Core.List.{List, [], _++_}
 use Prim.Native.Nat.{ℕ, _+_, _-_, _≤_, _<_}
 use native.Mathlib.Omega.{arith}
 use lib.ListN.{length, take, drop, replicate, length-drop, length-map, take-append-drop}
@@ -10,16 +10,16 @@ use borrow.Author.Tests.{le-leb}
 use Rattle.books.specs.Book.{Placement, Message, identifiers, numbers, allPlacements}
 use Rattle.books.specs.Good.{goodFrom, good}
 use Rattle.books.specs.Lines.{messageLimit, signalLimit}
-use Rattle.books.specs.Words.{column, starts, endsAfter, idColumn, endColumn, numberColumn, startColumn, messageColumns, placed, messagesOf, messagesTaken, Stands}
+use Rattle.books.specs.Words.{column, starts, endsAfter, idColumn, endColumn, numberColumn, startColumn, messageColumns, sideBySide, messagesOf, messagesTaken, Stands}
 use Rattle.books.proofs.Tests.{both, with}
+use Rattle.books.proofs.Sides.{side-back, side-length, side-numbers, side-starts}
 use Rattle.books.proofs.Columns.{take-column, length-ends, within, ids-stand, ends-stand, numbers-stand, starts-stand, taken-stands, stands-taken}
 use Rattle.columns.specs.Identifiers.{distinctAfter}
 use Rattle.record.specs.Columns.{idsAt, endsAt, numbersAt, messageCountOf, signalCountOf, idsOf, endsOf, numbersOf, startsOf, messageColumnsOf}
 use Rattle.zeros.specs.Zeros.{zeros}
 use Rattle.zeros.proofs.Laws.{zeros-are, are-zeros}
-use Rattle.placing.proofs.Placing.{placed-numbers}
 use Rattle.tables.specs.Testing.{parted}
-use Rattle.tables.proofs.Parted.{shown-ids, shown-ends, shown-all, shown-good, good-parted, good-distinct, length-placed}
+use Rattle.tables.proofs.Parted.{shown-ids, shown-ends, shown-all, shown-good, good-parted, good-distinct}
 
 -- ---- a column whose rest is 0
 column-zero : (k n : ℕ) (l : List ℕ) → length l ≡ k → n ≤ k → zeros (drop n l) ≡ true → l ≡ column k (take n l)
@@ -31,19 +31,6 @@ column-zero k n l e h z =
 zero-column : (k n : ℕ) (l : List ℕ) → length l ≡ n → zeros (drop n (column k l)) ≡ true
 unfolding column
 zero-column k n l e = ap zeros (drop-at l (replicate (k - length l) 0) n e) ∙ are-zeros (k - length l)
-
--- the starts of what stands side by side
-placed-starts : (ns ss : List ℕ) → length ss ≡ length ns → starts (placed ns ss) ≡ ss
-unfolding placed
-placed-starts [] [] e = refl
-placed-starts [] (y ∷ ss) e = absurd (omega (arith, e))
-placed-starts (x ∷ ns) [] e = absurd (omega (arith, e))
-placed-starts (x ∷ ns) (y ∷ ss) e = ap (_∷_ y) (placed-starts ns ss (omega (arith, e)))
-
-placed-back : (ps : List Placement) → placed (numbers ps) (starts ps) ≡ ps
-unfolding placed
-placed-back [] = refl
-placed-back (p ∷ ps) = ap (_∷_ p) (placed-back ps)
 
 -- the four columns are one after the other
 columns-whole : (w : List ℕ) → messageColumnsOf w ≡ idsOf w ++ (endsOf w ++ (numbersOf w ++ startsOf w))
@@ -69,7 +56,7 @@ pub record Checked (w : List ℕ) : Type 0 where
   pub messages-rest : zeros (drop (messageCountOf w) (idsOf w)) && zeros (drop (messageCountOf w) (endsOf w)) ≡ true
   pub signals-rest : zeros (drop (signalCountOf w) (numbersOf w)) && zeros (drop (signalCountOf w) (startsOf w)) ≡ true
   pub new : distinctAfter [] (take (messageCountOf w) (idsOf w)) ≡ true
-  pub parts : parted 0 (take (messageCountOf w) (endsOf w)) (placed (take (signalCountOf w) (numbersOf w)) (take (signalCountOf w) (startsOf w))) ≡ true
+  pub parts : parted 0 (take (messageCountOf w) (endsOf w)) (sideBySide (take (signalCountOf w) (numbersOf w)) (take (signalCountOf w) (startsOf w))) ≡ true
 
 -- words that pass it are those of the messages that they show
 module _ (w : List ℕ) (l : Long w) (c : Checked w) where
@@ -108,25 +95,25 @@ module _ (w : List ℕ) (l : Long w) (c : Checked w) where
 
   shows-ids : identifiers (messagesOf w) ≡ ids
   unfolding messagesOf ids ends ns ss
-  shows-ids = shown-ids 0 ids ends (placed ns ss) in-step
+  shows-ids = shown-ids 0 ids ends (sideBySide ns ss) in-step
 
   shows-ends : endsAfter 0 (messagesOf w) ≡ ends
   unfolding messagesOf ids ends ns ss
-  shows-ends = shown-ends 0 ids ends (placed ns ss) in-step (c .parts)
+  shows-ends = shown-ends 0 ids ends (sideBySide ns ss) in-step (c .parts)
 
-  shows-all : allPlacements (messagesOf w) ≡ placed ns ss
+  shows-all : allPlacements (messagesOf w) ≡ sideBySide ns ss
   unfolding messagesOf ids ends ns ss
-  shows-all = shown-all 0 ids ends (placed ns ss) in-step (c .parts)
+  shows-all = shown-all 0 ids ends (sideBySide ns ss) in-step (c .parts)
 
   shows-good : goodFrom [] (messagesOf w) ≡ true
   unfolding messagesOf ids ends ns ss
-  shows-good = shown-good [] 0 ids ends (placed ns ss) in-step (c .parts) (c .new)
+  shows-good = shown-good [] 0 ids ends (sideBySide ns ss) in-step (c .parts) (c .new)
 
   count-messages : messageCountOf w ≡ length (messagesOf w)
   count-messages = sym (sym (length-map (messagesOf w) (λ (m : Message). m .identifier)) ∙ ap length shows-ids ∙ ids-few)
 
   count-signals : signalCountOf w ≡ length (allPlacements (messagesOf w))
-  count-signals = sym (ap length shows-all ∙ length-placed ns ss starts-few ∙ numbers-few)
+  count-signals = sym (ap length shows-all ∙ side-length ns ss starts-few ∙ numbers-few)
 
   standing : Stands w (messagesOf w)
   unfolding messageColumns ids ends ns ss
@@ -136,9 +123,9 @@ module _ (w : List ℕ) (l : Long w) (c : Checked w) where
       let i : idsOf w ≡ idColumn (messagesOf w) = column-zero messageLimit (messageCountOf w) (idsOf w) (l .ids) (c .few) (a .0) ∙ ap (column messageLimit) (sym shows-ids) in
       let e : endsOf w ≡ endColumn (messagesOf w) = column-zero messageLimit (messageCountOf w) (endsOf w) (l .ends) (c .few) (a .1) ∙ ap (column messageLimit) (sym shows-ends) in
       let n : numbersOf w ≡ numberColumn (messagesOf w) =
-      column-zero signalLimit (signalCountOf w) (numbersOf w) (l .numbers) (c .room) (b .0) ∙ ap (column signalLimit) (sym (ap numbers shows-all ∙ placed-numbers ns ss starts-few)) in
+      column-zero signalLimit (signalCountOf w) (numbersOf w) (l .numbers) (c .room) (b .0) ∙ ap (column signalLimit) (sym (ap numbers shows-all ∙ side-numbers ns ss starts-few)) in
       let s : startsOf w ≡ startColumn (messagesOf w) =
-      column-zero signalLimit (signalCountOf w) (startsOf w) (l .starts) (c .room) (b .1) ∙ ap (column signalLimit) (sym (ap starts shows-all ∙ placed-starts ns ss starts-few)) in
+      column-zero signalLimit (signalCountOf w) (startsOf w) (l .starts) (c .room) (b .1) ∙ ap (column signalLimit) (sym (ap starts shows-all ∙ side-starts ns ss starts-few)) in
       record { messages = count-messages; signals = count-signals; columns = cc (columns-whole w) }
 
   checked-taken : messagesTaken w ≡ true
@@ -197,7 +184,7 @@ module _ (w : List ℕ) (t : messagesTaken w ≡ true) where
           take-column messageLimit (length (messagesOf w)) (endsAfter 0 (messagesOf w)) e-are,
           take-column signalLimit (length ps) (numbers ps) n-are,
           take-column signalLimit (length ps) (starts ps) s-are,
-          placed-back,
+          side-back,
         )
             (good-parted [] 0 (messagesOf w) each);
       }
@@ -242,13 +229,13 @@ module _ (w : List ℕ) (m s : ℕ) (ids ends ns ss : List ℕ) (em : m ≡ mess
   long : Long w
   long = record { ids = rw ei at li; ends = rw ee at le; numbers = rw en at ln; starts = rw et at ls }
 
-  pub last-part : (ends′ ns′ ss′ : List ℕ) → ends′ ≡ take m ends → ns′ ≡ take s ns → ss′ ≡ take s ss → parted 0 ends′ (placed ns′ ss′) ≡ messagesTaken w
-  last-part ends′ ns′ ss′ fe fn ft = go (parted 0 ends′ (placed ns′ ss′)) refl
+  pub last-part : (ends′ ns′ ss′ : List ℕ) → ends′ ≡ take m ends → ns′ ≡ take s ns → ss′ ≡ take s ss → parted 0 ends′ (sideBySide ns′ ss′) ≡ messagesTaken w
+  last-part ends′ ns′ ss′ fe fn ft = go (parted 0 ends′ (sideBySide ns′ ss′)) refl
     where
-      same : parted 0 (take (messageCountOf w) (endsOf w)) (placed (take (signalCountOf w) (numbersOf w)) (take (signalCountOf w) (startsOf w))) ≡ parted 0 ends′ (placed ns′ ss′)
+      same : parted 0 (take (messageCountOf w) (endsOf w)) (sideBySide (take (signalCountOf w) (numbersOf w)) (take (signalCountOf w) (startsOf w))) ≡ parted 0 ends′ (sideBySide ns′ ss′)
       same = rw (fe, fn, ft, em, es, ee, en, et)
 
-      checked : parted 0 ends′ (placed ns′ ss′) ≡ true → Checked w
+      checked : parted 0 ends′ (sideBySide ns′ ss′) ≡ true → Checked w
       checked e = record {
         few = omega (arith, em, few);
         room = omega (arith, es, room);
@@ -258,6 +245,6 @@ module _ (w : List ℕ) (m s : ℕ) (ids ends ns ss : List ℕ) (em : m ≡ mess
         parts = same ∙ e;
       }
 
-      go : (t : Bool) → parted 0 ends′ (placed ns′ ss′) ≡ t → parted 0 ends′ (placed ns′ ss′) ≡ messagesTaken w
+      go : (t : Bool) → parted 0 ends′ (sideBySide ns′ ss′) ≡ t → parted 0 ends′ (sideBySide ns′ ss′) ≡ messagesTaken w
       go true e = e ∙ sym (checked-taken w long (checked e))
       go false e = e ∙ fails w (λ c. true-false (c .parts) (same ∙ e))

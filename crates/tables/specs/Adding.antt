@@ -2,16 +2,14 @@
 use mathlib.Core.Path.{_≡_}
 use Prim.Native.Nat.{ℕ, zero, suc, _≤_, _-_}
 use mathlib.Core.Bool.{cond}
-use lib.Dec.{leb, ltb}
-use mathlib.Core.List.{List, [], _∷_, _++_}
+use lib.Dec.{ltb}
+use mathlib.Core.List.{List}
 use lib.ListN.{length, getD}
-use Rattle.books.specs.Book.{Placement, Route, Book, numbers, allPlacements, fresh, inLast, lastPlacements}
-use Rattle.books.specs.Lines.{isIn, misplaced, meetsEarlier, signalRefusal, messageLimit, signalLimit, routeLimit}
+use Rattle.books.specs.Book.{Placement, Book, numbers, allPlacements, lastPlacements, withSignal}
+use Rattle.books.specs.Lines.{signalRefusal, messageLimit, signalLimit, routeLimit}
 use Rattle.books.specs.Words.{wordsOf}
-pub use Rattle.placing.specs.Placing.{placement}
 use Rattle.placing.specs.declared.Filled.{Filled}
 use Rattle.placing.specs.Filling.{Fills}
-use Rattle.record.specs.Place.{placeKey}
 use Rattle.tables.specs.declared.Added.{Added}
 use Rattle.tables.specs.declared.Added.the-variants as added
 use Rattle.tables.specs.declared.Placed.{Placed}
@@ -51,20 +49,6 @@ pub record Kept (w : List ℕ) (f : Filled) (b : Book) : Type 0 where
 abbrev pub OfKept : List ℕ → Filled → Type 0
 OfKept w f = (b : Book) × Kept w f b
 
--- the book with an `M`, an `S`, an `R` line more
-abbrev pub withMessage : Book → ℕ → Book
-withMessage b i = record { messages = b .messages ++ (fresh i ∷ []); routes = b .routes }
-
-abbrev pub withSignal : Book → Placement → Book
-withSignal b p = record { messages = inLast (b .messages) p; routes = b .routes }
-
-abbrev pub withRoute : Book → Route → Book
-withRoute b r = record { messages = b .messages; routes = b .routes ++ (r ∷ []) }
-
--- the route that four numbers make
-abbrev pub route : ℕ → ℕ → ℕ → ℕ → Route
-route a i b j = record { from = placeKey a i; to = placeKey b j }
-
 -- the new book where nothing refuses it, and else the old one
 unfoldable pub unless : ℕ → Book → Book → Book
 unless zero old new = new
@@ -84,15 +68,6 @@ pub record SignalJudged (b : Book) (p : Placement) (r : Placed) (w : List ℕ) :
 pub record Earlier (column : List ℕ) (f : Filled) (ps : List Placement) : Type 0 where
   pub listed : numbers ps ≡ column
   pub fills : Fills ps f
-
--- what refuses an `S` line that fits a frame, after the placements before it in its message, where the book has so many
-unfoldable pub afterRefusal : List Placement → ℕ → Placement → ℕ
-afterRefusal before count p =
-    cond (isIn (p .number) (numbers before)) 6
-    (cond (misplaced p) 7
-    (cond (meetsEarlier before p) 8
-    (cond (leb signalLimit count) 9
-    0)))
 
 -- where the signals of the last message begin, by the ends of all
 unfoldable pub lastBegin : ℕ → List ℕ → ℕ

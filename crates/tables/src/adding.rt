@@ -1,7 +1,7 @@
 // One line more at the end of a book: the words are then those of the book with the line, or stay where the line is refused.
-ghost use Rattle.books.specs.Book.{Book};
+ghost use Rattle.books.specs.Book.{Book, placement, route, withMessage, withRoute};
 ghost use Rattle.books.specs.Lines.{messageRefusal, routeRefusal};
-ghost use Rattle.tables.specs.Adding.{OfBook, Holds, OfKept, Kept, Judged, SignalJudged, withMessage, withRoute, placement, route};
+ghost use Rattle.tables.specs.Adding.{OfBook, Holds, OfKept, Kept, Judged, SignalJudged};
 use crate::Added;
 use crate::Placed;
 use crate::judging::has_message;

@@ -5,11 +5,12 @@ ghost use mathlib.Core.List.{List};
 ghost use Prim.Native.Nat.{_≤_, _<_};
 ghost use lib.Dec.{leb};
 ghost use lib.ListN.{take};
+ghost use Rattle.rows.specs.Rule.{mostBits};
 ghost use Rattle.catalogue.specs.Find.{bitsOf};
-ghost use Rattle.books.specs.Book.{Placement, Book};
-ghost use Rattle.books.specs.Lines.{isIn, signalRefusal, busLimit, identifierLimit};
+ghost use Rattle.books.specs.Book.{Placement, Book, placement};
+ghost use Rattle.books.specs.Lines.{isIn, afterRefusal, signalRefusal, messageLimit, busLimit, identifierLimit, startLimit};
 ghost use Rattle.record.specs.Columns.{idsOf, endsOf};
-ghost use Rattle.tables.specs.Adding.{OfKept, Kept, Earlier, refusalOf, placement, afterRefusal, lastBegin};
+ghost use Rattle.tables.specs.Adding.{OfKept, Kept, Earlier, refusalOf, lastBegin};
 use crate::Added;
 use placing::Filled;
 use placing::is_misplaced;
@@ -31,7 +32,7 @@ pub fn over_limit(bus: u32, identifier: u32) -> bool
 
 // Whether one of the first `count` messages has the identifier.
 pub fn has_message(book: &[u32; BOOK_WORDS], count: u32, identifier: u32) -> bool
-    requires { ⌜ count ≤ 64 ⌝ }
+    requires { ⌜ count ≤ messageLimit ⌝ }
     ensures { λ r. ⌜ r ≡ isIn identifier (take count (idsOf (now (book .entry)))) ⌝ }
 {
     let ids = record::ids(book);
@@ -41,7 +42,7 @@ pub fn has_message(book: &[u32; BOOK_WORDS], count: u32, identifier: u32) -> boo
 
 // Where the signals of the last of the messages begin: where the message before it ends.
 fn last_begin(book: &[u32; BOOK_WORDS], messages: u32) -> usize
-    requires { ⌜ messages ≤ 64 ⌝ }
+    requires { ⌜ messages ≤ messageLimit ⌝ }
     ensures { λ r. ⌜ r ≡ lastBegin messages (endsOf (now (book .entry))) ⌝ }
 {
     if messages < 2 {
@@ -61,7 +62,7 @@ fn judge_after(
     start: u32,
     bits: u32,
 ) -> Added
-    requires { ⌜ ((ps : List Placement) × Earlier (now before) filled ps) × (start < 64) × (0 < bits) × (bits ≤ 32) × (bits ≡ bitsOf number) ⌝ }
+    requires { ⌜ ((ps : List Placement) × Earlier (now before) filled ps) × (start < startLimit) × (0 < bits) × (bits ≤ mostBits) × (bits ≡ bitsOf number) ⌝ }
     ensures { λ r. ⌜ ((ps : List Placement) → Earlier (now (before .entry)) filled ps → refusalOf r ≡ afterRefusal ps count (placement number start)) ⌝ }
 {
     if is_repeated(before, filled, number) {

@@ -3,7 +3,7 @@ ghost use mathlib.Core.Path.{_≡_};
 ghost use mathlib.Core.Bool.{_&&_};
 ghost use Prim.Native.Nat.{_≤_};
 ghost use lib.ListN.{length, drop};
-ghost use Rattle.books.specs.Words.{placed, messagesTaken};
+ghost use Rattle.books.specs.Words.{sideBySide, messagesTaken};
 ghost use Rattle.zeros.specs.Zeros.{zeros};
 ghost use Rattle.tables.specs.Testing.{parted};
 use record::BOOK_WORDS;
@@ -23,7 +23,7 @@ fn rests_zero(one: &[u32], other: &[u32], count: usize) -> bool
 // Whether the ends part the signals among the messages, and each message's signals stand where they may.
 fn well_parted(ends: &[u32], numbers: &[u32], starts: &[u32]) -> bool
     requires { ⌜ length (now starts) ≡ length (now numbers) ⌝ }
-    ensures { λ r. ⌜ r ≡ parted 0 (now (ends .entry)) (placed (now (numbers .entry)) (now (starts .entry))) ⌝ }
+    ensures { λ r. ⌜ r ≡ parted 0 (now (ends .entry)) (sideBySide (now (numbers .entry)) (now (starts .entry))) ⌝ }
 {
     let mut begin: usize = 0;
     let mut at: usize = 0;

@@ -54,7 +54,7 @@ pub record Going (text : List ℕ) (at n : ℕ) (filled : Filled) (w : List ℕ)
   pub numbered : n ≤ at + 1
 
 -- the empty book has the words of a book without lines
-empty-words : emptyBook ≡ wordsOf noBook
+pub empty-words : emptyBook ≡ wordsOf noBook
 unfolding emptyBook wordsOf messageColumns routeColumns column allPlacements endsAfter
 empty-words = refl
 

@@ -8,14 +8,14 @@ use Rattle.answers.specs.declared.Refusal.the-variants as refusal
 use Rattle.answers.specs.Numbers.{number}
 use Rattle.line.specs.declared.Line.{Line}
 use Rattle.line.specs.declared.Line.the-variants as line
-use Rattle.books.specs.Book.{Placement, Book, inLast, lastPlacements}
+use Rattle.books.specs.Book.{Placement, Book, inLast, lastPlacements, placement, route, withMessage, withRoute}
 use Rattle.books.specs.Lines.{messageRefusal, routeRefusal}
 use Rattle.reading.specs.Reading.{Outcome, refused, onward, refusalOf, withLine}
 use Rattle.placing.specs.declared.Filled.{Filled}
 use Rattle.placing.specs.Filling.{Fills}
 use Rattle.tables.specs.declared.Added.{Added}
 use Rattle.tables.specs.declared.Placed.{Placed}
-use Rattle.tables.specs.Adding.{Within, Holds, unless, Judged, SignalJudged, withMessage, withRoute, placement, route}
+use Rattle.tables.specs.Adding.{Within, Holds, unless, Judged, SignalJudged}
 use Rattle.tables.proofs.Room.{within-message, within-signal, within-route}
 use Rattle.tables.proofs.Kept.{fills-fresh}
 use Rattle.taking.specs.declared.Step.{Step}

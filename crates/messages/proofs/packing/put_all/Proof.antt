@@ -6,7 +6,7 @@ use Prim.Native.Nat.{ℕ, _≤_, _-_, _+_}
 use native.Mathlib.Omega.{arith}
 use lib.ListN.{length, drop}
 use borrow.Author.Needs.{needs}
-use Rattle.books.specs.Words.{placed}
+use Rattle.books.specs.Words.{sideBySide}
 use Rattle.framing.specs.Putting.{allOnes}
 use Rattle.messages.specs.Signals.{AllFit}
 use Rattle.messages.specs.declared.packing.Put.{Put}
@@ -20,7 +20,7 @@ use Rattle.messages.proofs.packing.put_all.Tie as tie
 record Inv (numbers starts values : List ℕ) (word i : ℕ) : Type 0 where
   bound : i ≤ length numbers
   fit : AllFit (rest numbers starts i)
-  puts : putAll (Word word) (rest numbers starts i) (drop i values) ≡ putAll (Word allOnes) (placed numbers starts) values
+  puts : putAll (Word word) (rest numbers starts i) (drop i values) ≡ putAll (Word allOnes) (sideBySide numbers starts) values
 
 abbrev Inv-loop : tie.InvT-loop
 Inv-loop numbers starts values word₀ i₀ word i = Inv numbers starts values word i

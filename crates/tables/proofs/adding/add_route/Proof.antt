@@ -1,7 +1,7 @@
 -- `tables::adding::add_route` meets its contract: the tests that led to each `return` say which case of the refusal holds. Assumes nothing.
 use mathlib.Core.Path.{refl, sym, _∙_}
 use native.Mathlib.Omega.{arith}
-use Rattle.tables.specs.Adding.{route}
+use Rattle.books.specs.Book.{route}
 use Rattle.tables.proofs.Held.{routes-held}
 use Rattle.tables.proofs.Stored.{route-stored}
 use Rattle.tables.proofs.Refused.{stays, takes, inside, from-over, to-over, route-full, route-free}

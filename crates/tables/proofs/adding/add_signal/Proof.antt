@@ -5,11 +5,12 @@ use mathlib.Core.List.{[], _∷_}
 use native.Mathlib.Omega.{arith}
 use types.Run.{OneOf, miss}
 use denote.Enum.Declared.{tagOf}
+use Rattle.books.specs.Book.{placement}
 use Rattle.placing.proofs.Placing.{alone-room}
 use Rattle.tables.specs.declared.Added.{Added}
 use Rattle.tables.proofs.Added.{the-type}
 use Rattle.tables.specs.declared.Added.the-variants as added
-use Rattle.tables.specs.Adding.{refusalOf, placement}
+use Rattle.tables.specs.Adding.{refusalOf}
 use Rattle.tables.proofs.Held.{messages-held, signals-held}
 use Rattle.tables.proofs.Stored.{signal-stored}
 use Rattle.tables.proofs.Room.{signal-room}

@@ -7,7 +7,8 @@ use native.Mathlib.Omega.{arith}
 use borrow.Author.Tests.{le-leb, lt-leb}
 use Rattle.placing.proofs.Placing.{not-past}
 use Rattle.placing.proofs.Filling.{meets-same}
-use Rattle.tables.specs.Adding.{placement, afterRefusal}
+use Rattle.books.specs.Book.{placement}
+use Rattle.books.specs.Lines.{afterRefusal}
 use borrow.Author.Needs.{needs}
 use Rattle.tables.proofs.judging.judge_after.Statement.{statement}
 use Rattle.tables.proofs.judging.judge_after.Tie as tie

@@ -3,9 +3,8 @@ use mathlib.Core.Path.{sym, _∙_}
 use native.Mathlib.Nat.{pos-of-ne-zero}
 use native.Mathlib.Omega.{arith}
 use Rattle.catalogue.proofs.Found.{few-bits}
-use Rattle.books.specs.Book.{lastPlacements}
+use Rattle.books.specs.Book.{lastPlacements, placement}
 use Rattle.placing.proofs.Placing.{unknown, over, known}
-use Rattle.tables.specs.Adding.{placement}
 use Rattle.tables.proofs.Held.{messages-held, signals-held, last-in, last-held}
 use Rattle.tables.proofs.Refused.{signal-unknown, signal-early, signal-later}
 use borrow.Author.Needs.{needs}

@@ -1,4 +1,4 @@
--- Every refusal of a line is one of the answers, and an answer is told by what it says. Assumes nothing.
+-- Every refusal of a line is one that has a number, and no two have the same. Assumes nothing.
 use mathlib.Core.Path.{_≡_, refl, sym, ap, _∙_}
 use mathlib.Core.Bool.{Bool, true, false, cond, _||_}
 use mathlib.Core.List.{List, [], _∷_}
@@ -8,13 +8,11 @@ use lib.Dec.{eqb, leb}
 use lib.ListN.{length}
 use Rattle.answers.specs.declared.Refusal.{Refusal}
 use Rattle.answers.specs.declared.Refusal.the-variants as refusal
-use Rattle.answers.specs.declared.Answer.{Answer}
-use Rattle.answers.specs.declared.Answer.the-variants as answer
-use Rattle.answers.specs.Numbers.{number, Said, taken, refused, said}
+use Rattle.answers.specs.Numbers.{number}
 use Rattle.line.specs.declared.Line.{Line}
 use Rattle.line.specs.declared.Line.the-variants as line
 use Rattle.books.specs.Book.{Book, Message, Placement, Route, identifiers, numbers, allPlacements, lastPlacements}
-use Rattle.books.specs.Lines.{isIn, unknownOrOver, misplaced, meetsEarlier, messageRefusal, signalRefusal, routeRefusal, identifierLimit, busLimit, messageLimit, signalLimit, routeLimit}
+use Rattle.books.specs.Lines.{isIn, unknownOrOver, misplaced, meetsEarlier, messageRefusal, afterRefusal, signalRefusal, routeRefusal, identifierLimit, busLimit, messageLimit, signalLimit, routeLimit}
 use Rattle.reading.specs.Reading.{onward, refusalOf, withLine, numberedWith, readFrom, meanings, linesRead}
 use Rattle.reading.specs.Reading as lines
 
@@ -35,7 +33,7 @@ none : NamedOr0 0
 none k e = absurd (omega arith)
 
 line-named : (b : Book) (l : Line) → NamedOr0 (refusalOf b l)
-unfolding refusalOf messageRefusal signalRefusal routeRefusal
+unfolding refusalOf messageRefusal signalRefusal afterRefusal routeRefusal
 line-named b (line.Message i) =
     or (leb identifierLimit i) refusal.OverLimit _
     (or (isIn i (identifiers (b .messages))) refusal.MessageRepeated _ (or (leb messageLimit (length (b .messages))) refusal.Full 0 none))
@@ -94,14 +92,6 @@ at-number refusal.Full = refl
 at-number refusal.ClosedChain = refl
 at-number refusal.TwoChains = refl
 
-answerOf : Said → Answer
-answerOf (taken m s r) = answer.Taken m s r
-answerOf (refused n line) = answer.Refused (refusalAt n) line
-
-back : (a : Answer) → answerOf (said a) ≡ a
-unfolding answerOf
-back (answer.Taken m s r) = refl
-back (answer.Refused why line) = ap (λ (x : Refusal). answer.Refused x line) (at-number why)
-
-pub said-once : (a b : Answer) → said a ≡ said b → a ≡ b
-said-once a b e = sym (back a) ∙ ap answerOf e ∙ back b
+-- no two refusals have the same number
+pub number-once : (r s : Refusal) → number r ≡ number s → r ≡ s
+number-once r s e = sym (at-number r) ∙ ap refusalAt e ∙ at-number s

@@ -1,0 +1,57 @@
+-- What came of the lines of a text is one thing, with one content of the words. Assumes nothing.
+use mathlib.Core.Path.{_≡_, refl, sym, ap, _∙_, subst}
+use mathlib.Core.List.{List, [], _∷_}
+use Prim.Native.Nat.{ℕ, suc}
+use native.Mathlib.Omega.{arith}
+use Rattle.record.specs.Columns.{emptyBook}
+use Rattle.answers.specs.Numbers.{number}
+use Rattle.line.specs.declared.Line.{Line}
+use Rattle.books.specs.Book.{Book, noBook}
+use Rattle.books.specs.Words.{wordsOf}
+use Rattle.reading.specs.Reading.{Outcome, passed, refused, refusalOf, withLine, numberedWith, readFrom, meanings, linesRead}
+use Rattle.reading.proofs.Passing.{went, same-book}
+use Rattle.tables.specs.Adding.{Within}
+use Rattle.tables.proofs.Room.{within-none}
+use Rattle.taking.specs.declared.Lines.{Lines}
+use Rattle.taking.specs.declared.Lines.the-variants as came
+use Rattle.taking.specs.Taking.{PassedTo, Came}
+use Rattle.taking.proofs.Steps.{within-line}
+use Rattle.taking.proofs.Named.{text-named, number-once}
+
+-- a book that lines give is within the limits
+within-on : (n : ℕ) (b : Book) (at : List ℕ) (ls : List Line) {c : Book} {to : List ℕ} → Within b → readFrom n b at ls ≡ passed c to → Within c
+unfolding readFrom
+within-on n b at [] h e = subst Within (same-book e) h
+within-on n b at (l ∷ ls) h e =
+    let w = went (refusalOf b l) n (readFrom (suc n) (withLine b l) (numberedWith at n l) ls) e in
+    within-on (suc n) (withLine b l) (numberedWith at n l) ls (within-line b l h (w .taken)) (w .after)
+
+text-within : (text : List ℕ) {c : Book} {to : List ℕ} → linesRead text ≡ passed c to → Within c
+unfolding linesRead
+text-within text e = within-on 1 noBook [] (meanings text) within-none e
+
+-- something came of them
+pub came-there : (text : List ℕ) → (x : Lines × List ℕ) × Came text (x .0) (x .1)
+came-there text = by (linesRead text) refl
+  where
+    by : (o : Outcome) → linesRead text ≡ o → (x : Lines × List ℕ) × Came text (x .0) (x .1)
+    by (passed b at) e = ((came.Passed, wordsOf b), record { book = b; numbers = at; read = e; holds = record { words = refl; within = text-within text e } })
+    by (refused why n) e =
+        let r = text-named text why n e in
+        ((came.Refused (r .refusal) n, emptyBook), (e ∙ ap (λ (k : ℕ). refused k n) (sym (r .is)), refl))
+
+-- and nothing else did
+not-both : {A : Type 0} {text w : List ℕ} {why n : ℕ} → PassedTo text w → linesRead text ≡ refused why n → A
+not-both p e = absurd (let f = p .read in let z : _≡_ {A = ℕ} 0 1 = cc in omega arith)
+
+pub came-once : (text : List ℕ) (r r′ : Lines) (w w′ : List ℕ) → Came text r w → Came text r′ w′ → (r ≡ r′) × (w ≡ w′)
+came-once text came.Passed came.Passed w w′ c d =
+    (refl, c .holds .words ∙ ap wordsOf (same-book (sym (c .read) ∙ d .read)) ∙ sym (d .holds .words))
+came-once text came.Passed (came.Refused why n) w w′ c d = not-both c (d .0)
+came-once text (came.Refused why n) came.Passed w w′ c d = not-both d (c .0)
+came-once text (came.Refused why n) (came.Refused why′ n′) w w′ c d =
+    let e : refused (number why) n ≡ refused (number why′) n′ = sym (c .0) ∙ d .0 in
+    let k : number why ≡ number why′ = cc in
+    let x : why ≡ why′ = number-once why why′ k in
+    let y : n ≡ n′ = cc in
+    (λ i. came.Refused (x i) (y i), c .1 ∙ sym (d .1))
