@@ -11,7 +11,7 @@ use Rattle.answers.specs.Numbers.{taken, refused}
 use Rattle.line.specs.declared.Line.{Line}
 use Rattle.line.specs.declared.Line.the-variants as line
 use Rattle.books.specs.Book.{Book, Placement, identifiers, numbers, allPlacements, lastPlacements}
-use Rattle.books.specs.Lines.{isIn, unknownOrOver, misplaced, meetsEarlier, messageRefusal, signalRefusal, routeRefusal, identifierLimit, busLimit, messageLimit, signalLimit, routeLimit}
+use Rattle.books.specs.Lines.{isIn, unknownOrOver, misplaced, meetsEarlier, messageRefusal, signalRefusal, afterRefusal, routeRefusal, identifierLimit, busLimit, messageLimit, signalLimit, routeLimit}
 use Rattle.reading.specs.Reading.{onward, refusalOf, withLine, numberedWith, readFrom, meanings, linesRead}
 use Rattle.reading.specs.Reading as lines
 
@@ -35,7 +35,7 @@ low : (why : ℕ) → 2 ≤ why → why ≤ 9 → OfALine why
 low why h l = record { least = h; most = l }
 
 of-line : (b : Book) (l : Line) → NoneOrLow (refusalOf b l)
-unfolding refusalOf messageRefusal signalRefusal routeRefusal
+unfolding refusalOf messageRefusal signalRefusal afterRefusal routeRefusal
 of-line b (line.Message i) =
     or (leb identifierLimit i) 3 _ (low 3 (omega arith) (omega arith))
     (or (isIn i (identifiers (b .messages))) 5 _ (low 5 (omega arith) (omega arith))
