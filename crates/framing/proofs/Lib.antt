@@ -9,3 +9,5 @@ pub mod Answers
 pub mod PackedBy
 pub mod ReadBack
 pub mod PackAgain
+pub mod Few
+pub mod StandIns

@@ -9,7 +9,7 @@ use native.Mathlib.Omega.{arith}
 use lib.Dec.{eqb, lit<, lit≤}
 use lib.ListN.{length}
 use borrow.Author.Tests.{eqb-true}
-use Rattle.bits.specs.Word.{fieldOf, bytesOf}
+use Rattle.bits.specs.Word.{bytesOf}
 use Rattle.bits.specs.Frame.{frameBit, countAt}
 use Rattle.bits.specs.Checksum.{checksumOf}
 use Rattle.bits.proofs.Placing.{ones}
