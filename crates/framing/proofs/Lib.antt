@@ -11,3 +11,4 @@ pub mod ReadBack
 pub mod PackAgain
 pub mod Few
 pub mod StandIns
+pub mod CodedSlices

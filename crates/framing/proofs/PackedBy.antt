@@ -4,10 +4,10 @@ use mathlib.Core.List.{List}
 use Prim.Native.Nat.{ℕ}
 use Rattle.books.specs.Words.{messagesOf}
 use Rattle.books.proofs.Columns.{taken-stands}
-use Rattle.framing.specs.Packing.{packing, packingNumber}
+use Rattle.framing.specs.Packing.{packedFrame, packing, packingNumber}
 use Rattle.framing.specs.Demand.{PackedBy}
 use Rattle.framing.proofs.Sound.{sound-message}
-use Rattle.framing.proofs.PackedOnce.{packed-frame}
+use Rattle.framing.proofs.PackedOnce.{packed-once}
 use Rattle.framing.proofs.Putting.{accepted}
 use Rattle.framing.proofs.Sent.{is-packed}
 use Rattle.framing.proofs.Answers.{packed-was, was-packed}
@@ -20,10 +20,11 @@ packed-by words identifier vs lent e =
     let m = w .0 in
     let p = w .1 in
     let sound = sound-message identifier (messagesOf words) m (taken-stands words (p .taken) .1) (p .found) in
+    let packed = is-packed m vs sound (accepted (m .placements) vs (p .many) (p .good)) in
     rw (was-packed words identifier vs lent m p)
     (record {
       message = m;
       found = p .found;
-      packed = is-packed m vs sound (accepted (m .placements) vs (p .many) (p .good));
-      only = packed-frame m vs sound (p .many);
+      packed = packed;
+      only = λ other o. packed-once m vs other (packedFrame m vs) sound (p .many) o packed;
     })

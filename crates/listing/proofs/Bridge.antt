@@ -11,7 +11,7 @@ use Rattle.bits.specs.Frame.{frameBytes}
 use Rattle.bits.specs.Word.{Fits, bytesOf}
 use Rattle.bits.proofs.Weights.{read-bytes, word-bytes}
 use Rattle.books.specs.Book.{Placement, Message}
-use Rattle.books.specs.Words.{placed, messagesOf}
+use Rattle.books.specs.Words.{placed, messagesOf, messagesTaken}
 use Rattle.catalogue.specs.declared.Class.{Class}
 use Rattle.catalogue.specs.Find.{bitsOf}
 use Rattle.catalogue.specs.Class.{classOf}
@@ -26,6 +26,7 @@ use Rattle.messages.proofs.Readings.{check-same}
 use Rattle.framing.specs.declared.Reading.the-variants.{UnknownIdentifier, WrongChecksum}
 use Rattle.framing.specs.Messages.{messageOf, classIn}
 use Rattle.framing.specs.Reading.{readingNumber, checksumHolds}
+use Rattle.framing.proofs.Few.{few-signals}
 use Rattle.record.specs.Columns.{numbersOf, startsOf}
 use Rattle.signal_lines.specs.Printed.{signalLine, refusedLine, illFormedLine}
 use Rattle.listing.specs.Printout.{signalLines, messageLines, frameListing, printout}
@@ -66,13 +67,14 @@ pub column-part : (from to : ℕ) {ns column words : List ℕ} → ns ≡ part f
 column-part from to p e = p ∙ ap (part from to) e
 
 -- parts of the columns that are a message's can be listed
-pub listable : {words : List ℕ} {identifier from to : ℕ} → Spans words identifier from to → {ns ss : List ℕ} → ns ≡ part from to (numbersOf words) → ss ≡ part from to (startsOf words)
+pub listable : {words : List ℕ} {identifier from to : ℕ} → messagesTaken words ≡ true → Spans words identifier from to → {ns ss : List ℕ} → ns ≡ part from to (numbersOf words) → ss ≡ part from to (startsOf words)
     → {out : List ℕ} {at : ℕ} → at ≤ length out → Listable out at ns ss
-listable {words} {identifier} {from} {to} s {ns} {ss} x y h =
+listable {words} {identifier} {from} {to} t s {ns} {ss} x y h =
+    let few = few-signals words identifier (messageFrom identifier (part from to (numbersOf words)) (part from to (startsOf words))) t (s .found) in
     record {
       same = ap length y ∙ s .same ∙ ap length (sym x);
       fit = subst (λ (l : List ℕ). AllFit (placed l ss)) (sym x) (subst (λ (l : List ℕ). AllFit (placed (part from to (numbersOf words)) l)) (sym y) (s .fit));
-      many = omega (arith, ap length x, length-take (to - from) (drop from (numbersOf words)), s .inside);
+      many = omega (arith, ap length x, length-take (to - from) (drop from (numbersOf words)), s .many, few);
       inside = h;
     }
 
