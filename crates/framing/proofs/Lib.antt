@@ -6,5 +6,9 @@ pub mod Putting
 pub mod Summing
 pub mod Sent
 pub mod Answers
+pub mod PackedBy
 pub mod ReadBack
 pub mod PackAgain
+pub mod Few
+pub mod StandIns
+pub mod CodedSlices

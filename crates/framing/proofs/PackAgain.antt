@@ -1,8 +1,10 @@
 -- Demand 2, second half: a frame that reads with no count reserved or outside can be packed again from what was read; the
--- result keeps every placed bit apart from the checksum and has 1 in every other. Assumes nothing.
-use mathlib.Core.Path.{_≡_, refl, sym, ap, _∙_, subst, subst⁻¹}
-use mathlib.Core.Bool.{Bool, true, false}
+-- result keeps every placed bit apart from the checksum, which is its own, and has 1 in every other. So a frame that had 1 in every
+-- other bit is packed again to itself. Assumes nothing.
+use mathlib.Core.Path.{_≡_, refl, sym, ap, _∙_, subst⁻¹}
+use mathlib.Core.Bool.{Bool, true, false, _||_, not}
 use mathlib.Core.List.{List, [], _∷_, map}
+use mathlib.Core.Option.{some}
 use Prim.Native.Nat.{ℕ, zero, suc, _+_, _/_, _%_, _^_, _<_}
 use native.Mathlib.Nat.{not-suc-le-zero, le-of-suc-le-suc}
 use native.Mathlib.Omega.{arith}
@@ -10,7 +12,8 @@ use lib.Dec.{eqb}
 use lib.ListN.{length, getD, take, drop, length-map, List·getD-append}
 use lib.Seq.{take-at}
 use borrow.Author.Tests.{eqb-true, eqb-false}
-use Rattle.bits.specs.Frame.{frameBit}
+use Rattle.bits.specs.Frame.{frameBytes, frameBit, countAt}
+use Rattle.bits.specs.Checksum.{checksumOf}
 use Rattle.bits.proofs.Weights.{raw-lt, count-bit}
 use Rattle.books.specs.Book.{Placement, Message}
 use Rattle.books.specs.Words.{messagesOf}
@@ -20,13 +23,16 @@ use Rattle.catalogue.specs.declared.Class.{Class}
 use Rattle.catalogue.specs.declared.Class.the-variants.{Value, Invalid, Absent, Error, Reserved, Outside, NotInCatalogue, TooWide}
 use Rattle.framing.specs.declared.Reading.{Reading}
 use Rattle.framing.specs.declared.Reading.the-variants.{Read}
-use Rattle.framing.specs.Messages.{checksumNumber, countOf, classIn}
-use Rattle.framing.specs.Reading.{Slices, classCode, reading, readings, readingNumber}
-use Rattle.framing.specs.Packing.{packable, packedFrame}
+use Rattle.framing.specs.declared.Packing.the-variants.{Packed}
+use Rattle.framing.specs.Messages.{checksumNumber, checksumStart, checksumBits, messageOf, placesChecksum, countOf, classIn}
+use Rattle.framing.specs.Reading.{Slices, classCode, checksumHolds, reading, readings, readingNumber}
+use Rattle.framing.specs.Packing.{packable, packing, packedFrame}
+use Rattle.framing.specs.Packed.{Carries, OnesElsewhere}
 use Rattle.framing.specs.Demand.{placementAt, Counted, reservedCode, outsideCode, NoneBarred, PacksAgain}
 use Rattle.framing.proofs.Sound.{Sits, Sound, sound-message}
+use Rattle.framing.proofs.PackedOnce.{packed-frame}
 use Rattle.framing.proofs.Putting.{Accepted, accepted-judged}
-use Rattle.framing.proofs.Sent.{is-packed}
+use Rattle.framing.proofs.Sent.{is-packed, sum-placed}
 use Rattle.framing.proofs.Answers.{WasRead, read-was, was-read, was-packed}
 use Rattle.framing.proofs.ReadBack.{carried-at}
 
@@ -71,8 +77,34 @@ counts-at frame [] d i h = absurd (not-suc-le-zero h)
 counts-at frame (p ∷ ps) d zero h = refl
 counts-at frame (p ∷ ps) d (suc i) h = counts-at frame ps d i (le-of-suc-le-suc h)
 
-module _ (words : List ℕ) (identifier : ℕ) (frame : List ℕ) (small : (k : ℕ) → getD frame k 0 < 256) (slices : Slices) (m : Message)
-    (w : WasRead words identifier frame slices m) (none : NoneBarred (length (m .placements)) (readings frame (m .placements) slices)) where
+-- what was read of a frame, the frame carries
+carries-own : (frame : List ℕ) (ps : List Placement) → Carries frame ps (Counts frame ps)
+unfolding Carries
+carries-own frame [] = tt
+carries-own frame (p ∷ ps) = (λ _. refl, carries-own frame ps)
+
+-- a frame that passes the check has its own checksum where the message places one
+holds-sum : (m : Message) (frame : List ℕ) → checksumHolds m frame ≡ true → placesChecksum (m .placements) ≡ true → countAt frame checksumStart checksumBits ≡ checksumOf (m .identifier) frame
+unfolding checksumHolds
+holds-sum m frame h e = go (placesChecksum (m .placements)) e h
+  where
+    go : (b : Bool) → b ≡ true → not b || eqb (countAt frame checksumStart checksumBits) (checksumOf (m .identifier) frame) ≡ true
+        → countAt frame checksumStart checksumBits ≡ checksumOf (m .identifier) frame
+    go true e h = eqb-true (countAt frame checksumStart checksumBits) (checksumOf (m .identifier) frame) h
+    go false e h = let z : _≡_ {A = ℕ} 0 1 = cc in absurd (omega arith)
+
+-- n counts were read by the message m, none of them reserved or outside
+module _ (words : List ℕ) (identifier : ℕ) (frame : List ℕ) (small : (k : ℕ) → getD frame k 0 < 256) (slices : Slices) (n : ℕ) (out : Slices)
+    (e : reading words identifier frame slices ≡ (Read n, out)) (m : Message) (w : WasRead words identifier frame slices m) (none : NoneBarred n out) where
+  as-read : _≡_ {A = Reading × Slices} (Read (length (m .placements)), readings frame (m .placements) slices) (Read n, out)
+  as-read = sym (was-read words identifier frame slices m w) ∙ e
+
+  count : length (m .placements) ≡ n
+  count = let answers : Read (length (m .placements)) ≡ Read n = ap (λ (x : Reading × Slices). x .0) as-read in (cc)
+
+  outs : readings frame (m .placements) slices ≡ out
+  outs = ap (λ (x : Reading × Slices). x .1) as-read
+
   sound : Sound (m .placements)
   sound = sound-message identifier (messagesOf words) m (taken-stands words (w .taken) .1) (w .found)
 
@@ -85,11 +117,13 @@ module _ (words : List ℕ) (identifier : ℕ) (frame : List ℕ) (small : (k : 
   codes-many : length (Codes frame (m .placements)) ≡ length (m .placements)
   codes-many = length-map (m .placements) (λ (p : Placement). classCode (classIn frame p))
 
-  code-at : (i : ℕ) → i < length (m .placements) → getD (readings frame (m .placements) slices .classes) i 0 ≡ getD (Codes frame (m .placements)) i 0
-  code-at i h = List·getD-append (Codes frame (m .placements)) (drop (length (Codes frame (m .placements))) (slices .classes)) 0 i (omega (arith, codes-many))
+  code-at : (i : ℕ) → i < length (m .placements) → getD (out .classes) i 0 ≡ getD (Codes frame (m .placements)) i 0
+  code-at i h =
+      ap (λ (x : Slices). getD (x .classes) i 0) (sym outs)
+      ∙ List·getD-append (Codes frame (m .placements)) (drop (length (Codes frame (m .placements))) (slices .classes)) 0 i (omega (arith, codes-many))
 
   fine : Accepted (m .placements) Raws
-  fine = again frame (m .placements) (λ i h. (λ e. none i h .0 (code-at i h ∙ e), λ e. none i h .1 (code-at i h ∙ e)))
+  fine = again frame (m .placements) (λ i h. let none' = none i (omega (arith, count)) in (λ c. none' .0 (code-at i h ∙ c), λ c. none' .1 (code-at i h ∙ c)))
 
   -- bit j of a count is bit j of the other
   kept : (i : ℕ) → i < length (m .placements) → Counted m i → (j : ℕ) → j < bitsOf (placementAt m i .number)
@@ -106,30 +140,49 @@ module _ (words : List ℕ) (identifier : ℕ) (frame : List ℕ) (small : (k : 
       ∙ ap (λ (n : ℕ). n / 2 ^ j % 2) same
       ∙ count-bit frame small (p .start) (bitsOf (p .number)) j inside b
 
-  raws-first : take (length (m .placements)) (readings frame (m .placements) slices .raws) ≡ Raws
-  raws-first = take-at Raws (drop (length Raws) (slices .raws)) (length (m .placements)) many
+  raws-first : take n (out .raws) ≡ Raws
+  raws-first = ap (λ (x : Slices). take n (x .raws)) (sym outs) ∙ take-at Raws (drop (length Raws) (slices .raws)) n (many ∙ count)
 
-  renews : PacksAgain words identifier frame (length (m .placements)) (readings frame (m .placements) slices .raws)
+  packs : (lent : List ℕ) → length lent ≡ frameBytes → packing words identifier (take n (out .raws)) lent ≡ (Packed, packedFrame m Raws)
+  packs lent eight =
+      rw raws-first
+      (was-packed words identifier Raws lent m (record { taken = w .taken; found = w .found; many = many; eight = eight; good = accepted-judged fine }))
+
+  renews : PacksAgain words identifier frame n (out .raws)
   renews =
+      let new = is-packed m Raws sound fine in
       record {
         message = m;
         found = w .found;
-        packs = λ lent eight.
-            rw (raws-first, was-packed words identifier Raws lent m (record { taken = w .taken; found = w .found; many = many; eight = eight; good = accepted-judged fine }))
-            (refl, record { kept = kept; ones = is-packed m Raws sound fine .ones });
+        packs = λ lent eight. rw (packs lent eight) (refl, record { kept = kept; checksum = new .checksum; ones = new .ones });
       }
 
+  -- the frame carries its own counts and its own checksum, so with 1 in every other bit it is the packed one
+  own-frame : OnesElsewhere m frame → frame ≡ packedFrame m Raws
+  own-frame ones =
+      packed-frame m Raws sound many frame
+      (record {
+        bytes = w .eight;
+        small = small;
+        counts = carries-own frame (m .placements);
+        checksum = sum-placed frame (checksumOf (m .identifier) frame) sound (holds-sum m frame (w .checked));
+        ones = ones;
+      })
+
 -- for every book, identifier, frame of bytes and slices: n counts were read, none of them reserved or outside
-pub packs-again : (words : List ℕ) (identifier : ℕ) (frame : List ℕ) → ((k : ℕ) → getD frame k 0 < 256) → (slices : Slices) (n : ℕ) (out : Slices)
-    → reading words identifier frame slices ≡ (Read n, out) → NoneBarred n out → PacksAgain words identifier frame n (out .raws)
-packs-again words identifier frame small slices n out e none =
-    let r = read-was words identifier frame slices (ap (λ (x : Reading × Slices). readingNumber (x .0)) e) in
-    let m = r .0 in
-    let w = r .1 in
-    let same : _≡_ {A = Reading × Slices} (Read (length (m .placements)), readings frame (m .placements) slices) (Read n, out) = sym (was-read words identifier frame slices m w) ∙ e in
-    let answers : Read (length (m .placements)) ≡ Read n = ap (λ (x : Reading × Slices). x .0) same in
-    let count : length (m .placements) ≡ n = (cc) in
-    let outs : readings frame (m .placements) slices ≡ out = ap (λ (x : Reading × Slices). x .1) same in
-    subst (λ (k : ℕ). PacksAgain words identifier frame k (out .raws)) count
-    (subst (λ (x : Slices). PacksAgain words identifier frame (length (m .placements)) (x .raws)) outs
-    (renews words identifier frame small slices m w (subst⁻¹ (λ (x : Slices). NoneBarred (length (m .placements)) x) outs (λ i h. none i (omega arith)))))
+module _ (words : List ℕ) (identifier : ℕ) (frame : List ℕ) (small : (k : ℕ) → getD frame k 0 < 256) (slices : Slices) (n : ℕ) (out : Slices)
+    (e : reading words identifier frame slices ≡ (Read n, out)) (none : NoneBarred n out) where
+  was : (m : Message) × WasRead words identifier frame slices m
+  was = read-was words identifier frame slices (ap (λ (x : Reading × Slices). readingNumber (x .0)) e)
+
+  pub packs-again : PacksAgain words identifier frame n (out .raws)
+  packs-again = renews words identifier frame small slices n out e (was .0) (was .1) none
+
+  -- and a frame that has 1 in every unplaced bit packs again to itself, 503 and all
+  pub packs-same : (m : Message) → messageOf identifier (messagesOf words) ≡ some m → OnesElsewhere m frame → (lent : List ℕ) → length lent ≡ frameBytes
+      → packing words identifier (take n (out .raws)) lent ≡ (Packed, frame)
+  packs-same m found ones lent eight =
+      let one : some (was .0) ≡ some m = sym (was .1 .found) ∙ found in
+      let same : was .0 ≡ m = (cc) in
+      packs words identifier frame small slices n out e (was .0) (was .1) none lent eight
+      ∙ ap (λ (f : List ℕ). (Packed, f)) (sym (own-frame words identifier frame small slices n out e (was .0) (was .1) none (subst⁻¹ (λ (x : Message). OnesElsewhere x frame) same ones)))

@@ -9,7 +9,7 @@ use native.Mathlib.Omega.{arith}
 use lib.Dec.{eqb, lit<, lit≤}
 use lib.ListN.{length}
 use borrow.Author.Tests.{eqb-true}
-use Rattle.bits.specs.Word.{fieldOf, bytesOf}
+use Rattle.bits.specs.Word.{bytesOf}
 use Rattle.bits.specs.Frame.{frameBit, countAt}
 use Rattle.bits.specs.Checksum.{checksumOf}
 use Rattle.bits.proofs.Placing.{ones}
@@ -44,16 +44,13 @@ places-more p ps e = go (eqb checksumNumber (p .number)) (isIn checksumNumber (n
     go true b e = refl
     go false b e = e
 
-carries-sum : (w sum : ℕ) → w < 2 ^ frameBits → {ps : List Placement} → Sound ps → (placesChecksum ps ≡ true → fieldOf w checksumStart checksumBits ≡ sum) → Summed (bytesOf w) sum ps
+-- where the field at 503's place is this sum, each placement of 503 has it
+pub sum-placed : (f : List ℕ) (sum : ℕ) {ps : List Placement} → Sound ps → (placesChecksum ps ≡ true → countAt f checksumStart checksumBits ≡ sum) → Summed f sum ps
 unfolding Summed
-carries-sum w sum hw Sound.none h = tt
-carries-sum w sum hw (Sound.more {p} {ps} sits b s) h = (
-  λ e.
-      read-bytes w (p .start) (bitsOf (p .number)) hw (sits .fits .inside)
-      ∙ ap (λ (k : ℕ). fieldOf w k (bitsOf (p .number))) (sits .check e)
-      ∙ ap (λ (k : ℕ). fieldOf w checksumStart k) (check-bits p e)
-      ∙ h (placed-there p ps e),
-  carries-sum w sum hw s (λ e. h (places-more p ps e)),
+sum-placed f sum Sound.none h = tt
+sum-placed f sum (Sound.more {p} {ps} sits b s) h = (
+  λ e. ap (λ (k : ℕ). countAt f k (bitsOf (p .number))) (sits .check e) ∙ ap (countAt f checksumStart) (check-bits p e) ∙ h (placed-there p ps e),
+  sum-placed f sum s (λ e. h (places-more p ps e)),
 )
 
 unplaced-off : (k : ℕ) (ps : List Placement) → Unplaced k ps → Off k 1 ps
@@ -95,6 +92,10 @@ module _ (m : Message) (vs : List ℕ) (s : Sound (m .placements)) (a : Accepted
       ∙ put-keeps allOnes k 1 a (unplaced-off k (m .placements) u)
       ∙ ones k 1 (omega arith)
 
+  put-checksum : placesChecksum (m .placements) ≡ true → countAt (putFrame m vs) checksumStart checksumBits ≡ checksumOf (m .identifier) (putFrame m vs)
+  unfolding putFrame
+  put-checksum e = read-bytes Whole checksumStart checksumBits whole-lt (lit≤ tt) ∙ summed-sum (m .identifier) Filled (m .placements) e
+
   put-packed : IsPacked m vs (putFrame m vs)
   unfolding putFrame
   put-packed =
@@ -102,7 +103,7 @@ module _ (m : Message) (vs : List ℕ) (s : Sound (m .placements)) (a : Accepted
         bytes = of-bytes Whole .many;
         small = of-bytes Whole .small;
         counts = carries Whole whole-lt s (summed-has (m .identifier) Filled (m .placements) (clear s) (put-has allOnes s a));
-        checksum = carries-sum Whole (checksumOf (m .identifier) (bytesOf Whole)) whole-lt s (summed-sum (m .identifier) Filled (m .placements));
+        checksum = sum-placed (bytesOf Whole) (checksumOf (m .identifier) (bytesOf Whole)) s put-checksum;
         ones = bit-one;
       }
 
@@ -112,10 +113,6 @@ module _ (m : Message) (vs : List ℕ) (s : Sound (m .placements)) (a : Accepted
 
   pub is-packed : IsPacked m vs (packedFrame m vs)
   is-packed = subst (IsPacked m vs) put-sent put-packed
-
-  put-checksum : placesChecksum (m .placements) ≡ true → countAt (putFrame m vs) checksumStart checksumBits ≡ checksumOf (m .identifier) (putFrame m vs)
-  unfolding putFrame
-  put-checksum e = read-bytes Whole checksumStart checksumBits whole-lt (lit≤ tt) ∙ summed-sum (m .identifier) Filled (m .placements) e
 
   -- the field at 503's place is the checksum of the frame
   pub own-checksum : placesChecksum (m .placements) ≡ true → countAt (packedFrame m vs) checksumStart checksumBits ≡ checksumOf (m .identifier) (packedFrame m vs)

@@ -1,5 +1,5 @@
--- Demand 2: what is packed reads back, and what is read can be packed again. The theorems are in proofs/ReadBack.antt and
--- proofs/PackAgain.antt. Assumes nothing: these are definitions.
+-- Demand 2: what is packed is the one frame that carries the values, it reads back, and what is read can be packed again. The theorems
+-- are in proofs/PackedBy.antt, proofs/ReadBack.antt and proofs/PackAgain.antt. Assumes nothing: these are definitions.
 use mathlib.Core.Path.{_≡_}
 use mathlib.Core.List.{List}
 use mathlib.Core.Option.{some}
@@ -7,7 +7,8 @@ use Prim.Native.Nat.{ℕ, _+_, _≤_, _<_}
 use lib.ListN.{length, getD, take}
 use Rattle.books.specs.Book.{Placement, Message}
 use Rattle.books.specs.Words.{messagesOf}
-use Rattle.bits.specs.Frame.{frameBytes, frameBits, frameBit}
+use Rattle.bits.specs.Frame.{frameBytes, frameBit}
+use Rattle.bits.specs.Checksum.{checksumOf}
 use Rattle.catalogue.specs.Find.{bitsOf}
 use Rattle.catalogue.specs.declared.Raw.{Raw}
 use Rattle.catalogue.specs.declared.Class.the-variants.{Reserved, Outside}
@@ -17,7 +18,14 @@ use Rattle.framing.specs.declared.Packing.the-variants.{Packed}
 use Rattle.framing.specs.Messages.{checksumNumber, messageOf}
 use Rattle.framing.specs.Reading.{Slices, classCode, room, reading}
 use Rattle.framing.specs.Packing.{packing}
-use Rattle.framing.specs.Packed.{Unplaced}
+use Rattle.framing.specs.Packed.{Summed, OnesElsewhere, IsPacked}
+
+-- a frame is packed of these values: it carries them as the message with the identifier asks, and no other frame does
+pub record PackedBy (words : List ℕ) (identifier : ℕ) (vs frame : List ℕ) : Type 0 where
+  pub message : Message
+  pub found : messageOf identifier (messagesOf words) ≡ some message
+  pub packed : IsPacked message vs frame
+  pub only : (other : List ℕ) → IsPacked message vs other → other ≡ frame
 
 -- the i-th placement of a message
 abbrev pub placementAt : Message → ℕ → Placement
@@ -53,11 +61,12 @@ outsideCode = classCode (Outside someRaw)
 abbrev pub NoneBarred : ℕ → Slices → Type 0
 NoneBarred n out = (i : ℕ) → i < n → (getD (out .classes) i 0 ≡ reservedCode → ⊥) × (getD (out .classes) i 0 ≡ outsideCode → ⊥)
 
--- a frame packed anew keeps every placed bit of the old one apart from the checksum, and has 1 in every other
+-- a frame packed anew keeps every placed bit of the old one apart from 503's, which hold its own checksum, and has 1 in every other
 pub record Renewed (m : Message) (old new : List ℕ) : Type 0 where
   pub kept : (i : ℕ) → i < length (m .placements) → Counted m i → (j : ℕ) → j < bitsOf (placementAt m i .number)
       → frameBit new (placementAt m i .start + j) ≡ frameBit old (placementAt m i .start + j)
-  pub ones : (k : ℕ) → k < frameBits → Unplaced k (m .placements) → frameBit new k ≡ 1
+  pub checksum : Summed new (checksumOf (m .identifier) new) (m .placements)
+  pub ones : OnesElsewhere m new
 
 -- a frame packs again from n counts that were read of it, into any lent frame of 8 bytes
 pub record PacksAgain (words : List ℕ) (identifier : ℕ) (frame : List ℕ) (n : ℕ) (raws : List ℕ) : Type 0 where

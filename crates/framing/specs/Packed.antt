@@ -27,10 +27,14 @@ unfoldable pub Unplaced : ℕ → List Placement → Type 0
 Unplaced k [] = Unit
 Unplaced k (p ∷ ps) = ((k < p .start) ⊎ (p .start + bitsOf (p .number) ≤ k)) × Unplaced k ps
 
+-- every frame bit that belongs to no placement is 1
+abbrev pub OnesElsewhere : Message → List ℕ → Type 0
+OnesElsewhere m frame = (k : ℕ) → k < frameBits → Unplaced k (m .placements) → frameBit frame k ≡ 1
+
 -- a frame that carries the values of a message
 pub record IsPacked (m : Message) (vs : List ℕ) (frame : List ℕ) : Type 0 where
   pub bytes : length frame ≡ frameBytes
   pub small : (k : ℕ) → getD frame k 0 < 256
   pub counts : Carries frame (m .placements) vs
   pub checksum : Summed frame (checksumOf (m .identifier) frame) (m .placements)
-  pub ones : (k : ℕ) → k < frameBits → Unplaced k (m .placements) → frameBit frame k ≡ 1
+  pub ones : OnesElsewhere m frame

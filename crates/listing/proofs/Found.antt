@@ -1,16 +1,18 @@
 -- What looking for a message found: parts of the columns, which can be listed. Assumes nothing.
 use mathlib.Core.Path.{_≡_, sym, ap, _∙_, subst}
+use mathlib.Core.Bool.{true}
 use mathlib.Core.List.{List}
 use mathlib.Core.Option.{none}
 use Prim.Native.Nat.{ℕ, _-_, _≤_}
 use native.Mathlib.Omega.{arith}
 use lib.ListN.{length, drop, length-take}
-use Rattle.books.specs.Words.{sideBySide, messagesOf}
+use Rattle.books.specs.Words.{sideBySide, messagesOf, messagesTaken}
 use Rattle.frames.specs.Lookup.{Spans, Finds, part}
 use Rattle.frames.specs.declared.lookup.Found.{Found}
 use Rattle.frames.specs.declared.lookup.Found.the-variants.{Signals, Nothing}
-use Rattle.messages.specs.Signals.{AllFit}
+use Rattle.messages.specs.Signals.{AllFit, messageFrom}
 use Rattle.framing.specs.Messages.{messageOf}
+use Rattle.framing.proofs.Few.{few-signals}
 use Rattle.record.specs.Columns.{numbersOf, startsOf}
 use Rattle.listing.specs.Working.{Listable}
 
@@ -25,12 +27,13 @@ pub column-part : (from to : ℕ) {ns column words : List ℕ} → ns ≡ part f
 column-part from to p e = p ∙ ap (part from to) e
 
 -- parts of the columns that are a message's can be listed
-pub listable : {words : List ℕ} {identifier from to : ℕ} → Spans words identifier from to → {ns ss : List ℕ} → ns ≡ part from to (numbersOf words) → ss ≡ part from to (startsOf words)
+pub listable : {words : List ℕ} {identifier from to : ℕ} → messagesTaken words ≡ true → Spans words identifier from to → {ns ss : List ℕ} → ns ≡ part from to (numbersOf words) → ss ≡ part from to (startsOf words)
     → {out : List ℕ} {at : ℕ} → at ≤ length out → Listable out at ns ss
-listable {words} {identifier} {from} {to} s {ns} {ss} x y h =
+listable {words} {identifier} {from} {to} t s {ns} {ss} x y h =
+    let few = few-signals words identifier (messageFrom identifier (part from to (numbersOf words)) (part from to (startsOf words))) t (s .found) in
     record {
       same = ap length y ∙ s .same ∙ ap length (sym x);
       fit = subst (λ (l : List ℕ). AllFit (sideBySide l ss)) (sym x) (subst (λ (l : List ℕ). AllFit (sideBySide (part from to (numbersOf words)) l)) (sym y) (s .fit));
-      many = omega (arith, ap length x, length-take (to - from) (drop from (numbersOf words)), s .inside);
+      many = omega (arith, ap length x, length-take (to - from) (drop from (numbersOf words)), s .many, few);
       inside = h;
     }

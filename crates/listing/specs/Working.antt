@@ -7,11 +7,11 @@ use lib.Dec.{leb}
 use lib.ListN.{length}
 use lib.Seq.{sets}
 use Rattle.books.specs.Book.{Placement}
+use Rattle.books.specs.Lines.{frameBits}
 use Rattle.books.specs.Words.{sideBySide}
 use Rattle.messages.specs.Signals.{AllFit, classFrom, checkHolds}
 use Rattle.framing.specs.declared.Reading.the-variants.{WrongChecksum}
 use Rattle.framing.specs.Reading.{readingNumber}
-use Rattle.record.specs.Limits.{signalLimit}
 use Rattle.signal_lines.specs.Printed.{signalLine, refusedLine, lineRoom}
 use Rattle.listing.specs.declared.Fitted.{Fitted}
 use Rattle.listing.specs.declared.Fitted.the-variants.{Next, NoRoom}
@@ -27,11 +27,11 @@ pub record Roomy (out : List ℕ) (at : ℕ) (ns ss : List ℕ) : Type 0 where
   pub fit : AllFit (sideBySide ns ss)
   pub inside : at + lineRoom * length ns ≤ length out
 
--- at most 256 of them, to be listed at a place of the room
+-- at most 64 of them, to be listed at a place of the room
 pub record Listable (out : List ℕ) (at : ℕ) (ns ss : List ℕ) : Type 0 where
   pub same : length ss ≡ length ns
   pub fit : AllFit (sideBySide ns ss)
-  pub many : length ns ≤ signalLimit
+  pub many : length ns ≤ frameBits
   pub inside : at ≤ length out
 
 -- a frame's word by its message: refusal 23, or a line for each signal

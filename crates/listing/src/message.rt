@@ -18,8 +18,8 @@ use signal_lines::put_signal;
 
 const WRONG_CHECKSUM: u32 = 23;
 
-// As many of the longest lines as a message may have signals.
-const LONGEST: usize = 16384;
+// As many of the longest lines as a message may have signals: 64.
+const LONGEST: usize = 4096;
 
 // A line for each signal, in the order of the S lines.
 fn put_signals(

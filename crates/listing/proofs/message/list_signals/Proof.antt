@@ -36,7 +36,7 @@ array-share-prefix-aside : tie.Need-array-share-prefix-aside
 array-share-prefix-aside c = search needs
 
 slice-aggregate-fit : tie.Need-slice-aggregate-fit
-slice-aggregate-fit c = aside-long (c .before .before .before .put-signals2 .ensures) (omega (arith, length-replicate {A = ℕ} 16384 0, c .before .before .before .before .before .before .before .before .before .pre .many))
+slice-aggregate-fit c = aside-long (c .before .before .before .put-signals2 .ensures) (omega (arith, length-replicate {A = ℕ} 4096 0, c .before .before .before .before .before .before .before .before .before .pre .many))
 
 fit-requires : tie.Need-fit-requires
 fit-requires c κs = search needs
@@ -45,7 +45,7 @@ same-length-2 : tie.Need-same-length-2
 same-length-2 c = search needs
 
 returns-2 : tie.Need-returns-2
-returns-2 c = fitted-as _ _ (aside-is (c .before .before .before .before .before .before .put-signals2 .ensures) (omega (arith, length-replicate {A = ℕ} 16384 0, c .before .before .before .before .before .before .before .before .before .before .before .before .pre .many))) (c .before .before .fit .ensures)
+returns-2 c = fitted-as _ _ (aside-is (c .before .before .before .before .before .before .put-signals2 .ensures) (omega (arith, length-replicate {A = ℕ} 4096 0, c .before .before .before .before .before .before .before .before .before .before .before .before .pre .many))) (c .before .before .fit .ensures)
 
 pub list-signals-spec : {M : Type 1} → statement M
 list-signals-spec =
