@@ -17,12 +17,13 @@ use Rattle.answers.specs.declared.Refusal.the-variants as refusal
 use Rattle.answers.specs.declared.Answer.{Answer}
 use Rattle.answers.specs.declared.Answer.the-variants as answer
 use Rattle.answers.specs.Numbers.{number, Said, taken, refused, said}
+use Rattle.answers.proofs.Numbered.{number-once}
 use Rattle.books.specs.Book.{Book, allPlacements}
 use Rattle.books.specs.Words.{wordsOf}
 use Rattle.reading.specs.Reading.{Outcome, passed, linesRead}
 use Rattle.reading.specs.Reading as lines
 use Rattle.reading.specs.Taken.{froms, tos}
-use Rattle.taking.proofs.Named.{Named, text-named, number-once}
+use Rattle.taking.proofs.Named.{Named, text-named}
 use Rattle.book.specs.Answered.{Passes, Answered, too-long, bad-line, closed-chain, two-chains, taken-with}
 
 -- what a verdict on the routes of a book comes to

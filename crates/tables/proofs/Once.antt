@@ -3,8 +3,13 @@ use mathlib.Core.Path.{_≡_, refl, sym, ap, _∙_}
 use mathlib.Core.Bool.{Bool, true, false, cond, _||_}
 use mathlib.Core.List.{List}
 use Prim.Native.Nat.{ℕ, zero, suc}
+use native.Mathlib.Omega.{arith}
 use lib.Dec.{eqb, leb}
 use lib.ListN.{length}
+use Rattle.answers.specs.declared.Refusal.{Refusal}
+use Rattle.answers.specs.declared.Refusal.the-variants as refusal
+use Rattle.answers.specs.Numbers.{number}
+use Rattle.answers.proofs.Numbered.{above-0, number-once}
 use Rattle.books.specs.Book.{Placement, Message, Route, Book, identifiers, numbers, allPlacements, lastPlacements, withSignal}
 use Rattle.books.specs.Lines.{isIn, unknownOrOver, misplaced, meetsEarlier, messageRefusal, afterRefusal, signalRefusal, routeRefusal, messageLimit, signalLimit, routeLimit, identifierLimit, busLimit}
 use Rattle.books.specs.Words.{wordsOf}
@@ -21,30 +26,11 @@ use Rattle.tables.proofs.Room.{signal-room}
 use Rattle.tables.proofs.Kept.{fills-signal}
 
 -- ---- no two answers have the same number
-answerOf : ℕ → Added
-answerOf n =
-    cond (eqb n 0) added.Taken
-    (cond (eqb n 3) added.OverLimit
-    (cond (eqb n 4) added.BeforeAnyMessage
-    (cond (eqb n 5) added.MessageRepeated
-    (cond (eqb n 6) added.SignalRepeated
-    (cond (eqb n 7) added.Misplaced
-    (cond (eqb n 8) added.BitsMeet
-    added.Full))))))
-
-answer-back : (r : Added) → answerOf (refusalOf r) ≡ r
-unfolding answerOf
-answer-back added.Taken = refl
-answer-back added.OverLimit = refl
-answer-back added.BeforeAnyMessage = refl
-answer-back added.MessageRepeated = refl
-answer-back added.SignalRepeated = refl
-answer-back added.Misplaced = refl
-answer-back added.BitsMeet = refl
-answer-back added.Full = refl
-
 answers-apart : (r r′ : Added) → refusalOf r ≡ refusalOf r′ → r ≡ r′
-answers-apart r r′ e = sym (answer-back r) ∙ ap answerOf e ∙ answer-back r′
+answers-apart added.Taken added.Taken e = refl
+answers-apart added.Taken (added.Refused why) e = absurd (omega (arith, above-0 why .1))
+answers-apart (added.Refused why) added.Taken e = absurd (omega (arith, above-0 why .1))
+answers-apart (added.Refused why) (added.Refused why′) e = ap added.Refused (number-once why why′ e)
 
 pub judged-once : (refusal : ℕ) (old new : Book) (r r′ : Added) (w w′ : List ℕ) → Judged refusal old new r w → Judged refusal old new r′ w′ → (r ≡ r′) × (w ≡ w′)
 judged-once refusal old new r r′ w w′ j j′ = (answers-apart r r′ (j .answer ∙ sym (j′ .answer)), j .words ∙ sym (j′ .words))
@@ -60,9 +46,9 @@ pub record Answers (n : ℕ) : Type 0 where
   pub answer : Added
   pub is : refusalOf answer ≡ n
 
-or : (t : Bool) (r : Added) (n : ℕ) → Answers n → Answers (cond t (refusalOf r) n)
-or true r n a = record { answer = r; is = refl }
-or false r n a = a
+or : (t : Bool) (why : Refusal) (n : ℕ) → Answers n → Answers (cond t (number why) n)
+or true why n a = record { answer = added.Refused why; is = refl }
+or false why n a = a
 
 taken : Answers 0
 taken = record { answer = added.Taken; is = refl }
@@ -70,24 +56,24 @@ taken = record { answer = added.Taken; is = refl }
 pub message-answer : (ms : List Message) (i : ℕ) → Answers (messageRefusal ms i)
 unfolding messageRefusal
 message-answer ms i =
-    or (leb identifierLimit i) added.OverLimit _
-    (or (isIn i (identifiers ms)) added.MessageRepeated _ (or (leb messageLimit (length ms)) added.Full 0 taken))
+    or (leb identifierLimit i) refusal.OverLimit _
+    (or (isIn i (identifiers ms)) refusal.MessageRepeated _ (or (leb messageLimit (length ms)) refusal.Full 0 taken))
 
-signal-answer : (ms : List Message) (p : Placement) → Answers (signalRefusal ms p)
+pub signal-answer : (ms : List Message) (p : Placement) → Answers (signalRefusal ms p)
 unfolding signalRefusal afterRefusal
 signal-answer ms p =
-    or (unknownOrOver p) added.OverLimit _
-    (or (eqb (length ms) 0) added.BeforeAnyMessage _
-    (or (isIn (p .number) (numbers (lastPlacements ms))) added.SignalRepeated _
-    (or (misplaced p) added.Misplaced _
-    (or (meetsEarlier (lastPlacements ms) p) added.BitsMeet _
-    (or (leb signalLimit (length (allPlacements ms))) added.Full 0 taken)))))
+    or (unknownOrOver p) refusal.OverLimit _
+    (or (eqb (length ms) 0) refusal.BeforeAnyMessage _
+    (or (isIn (p .number) (numbers (lastPlacements ms))) refusal.SignalRepeated _
+    (or (misplaced p) refusal.Misplaced _
+    (or (meetsEarlier (lastPlacements ms) p) refusal.BitsMeet _
+    (or (leb signalLimit (length (allPlacements ms))) refusal.Full 0 taken)))))
 
 pub route-answer : (rs : List Route) (x i y j : ℕ) → Answers (routeRefusal rs x i y j)
 unfolding routeRefusal
 route-answer rs x i y j =
-    or ((leb busLimit x || leb identifierLimit i) || (leb busLimit y || leb identifierLimit j)) added.OverLimit _
-    (or (leb routeLimit (length rs)) added.Full 0 taken)
+    or ((leb busLimit x || leb identifierLimit i) || (leb busLimit y || leb identifierLimit j)) refusal.OverLimit _
+    (or (leb routeLimit (length rs)) refusal.Full 0 taken)
 
 pub judged-there : (refusal : ℕ) (old new : Book) (a : Answers refusal) → Judged refusal old new (a .answer) (wordsOf (unless refusal old new))
 judged-there refusal old new a = record { answer = a .is; words = refl }

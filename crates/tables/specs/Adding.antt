@@ -5,6 +5,7 @@ use mathlib.Core.Bool.{cond}
 use lib.Dec.{ltb}
 use mathlib.Core.List.{List}
 use lib.ListN.{length, getD}
+use Rattle.answers.specs.Numbers.{number}
 use Rattle.books.specs.Book.{Placement, Book, numbers, allPlacements, lastPlacements, withSignal}
 use Rattle.books.specs.Lines.{signalRefusal, messageLimit, signalLimit, routeLimit}
 use Rattle.books.specs.Words.{wordsOf}
@@ -17,13 +18,7 @@ use Rattle.tables.specs.declared.Placed.{Placed}
 -- the refusal number of each answer, 0 where the line is taken
 abbrev pub refusalOf : Added → ℕ
 refusalOf added.Taken = 0
-refusalOf added.OverLimit = 3
-refusalOf added.BeforeAnyMessage = 4
-refusalOf added.MessageRepeated = 5
-refusalOf added.SignalRepeated = 6
-refusalOf added.Misplaced = 7
-refusalOf added.BitsMeet = 8
-refusalOf added.Full = 9
+refusalOf (added.Refused why) = number why
 
 -- no more lines of each kind than a book may have
 pub record Within (b : Book) : Type 0 where

@@ -10,6 +10,7 @@ use crate::judging::over_limit;
 use crate::storing::put_message;
 use crate::storing::put_route;
 use crate::storing::put_signal;
+use answers::Refusal;
 use placing::Filled;
 use placing::filled_with;
 use record::BOOK_WORDS;
@@ -24,14 +25,14 @@ pub fn add_message(book: &mut [u32; BOOK_WORDS], identifier: u32) -> Added
     ensures { λ r. ⌜ ((b : Book) → Holds (now (book .entry)) b → Judged (messageRefusal (b .messages) identifier) b (withMessage b identifier) r (now (book .exit))) ⌝ }
 {
     if identifier >= IDENTIFIER_LIMIT {
-        return Added::OverLimit;
+        return Added::Refused(Refusal::OverLimit);
     }
     let count = record::message_count(&*book);
     if has_message(&*book, count, identifier) {
-        return Added::MessageRepeated;
+        return Added::Refused(Refusal::MessageRepeated);
     }
     if wide(count) >= MESSAGES {
-        return Added::Full;
+        return Added::Refused(Refusal::Full);
     }
     let end = record::signal_count(&*book);
     put_message(book, count, identifier, end);
@@ -69,14 +70,14 @@ pub fn add_route(
     ensures { λ r. ⌜ ((b : Book) → Holds (now (book .entry)) b → Judged (routeRefusal (b .routes) «from_bus» «from_identifier» «to_bus» «to_identifier») b (withRoute b (route «from_bus» «from_identifier» «to_bus» «to_identifier»)) r (now (book .exit))) ⌝ }
 {
     if over_limit(from_bus, from_identifier) {
-        return Added::OverLimit;
+        return Added::Refused(Refusal::OverLimit);
     }
     if over_limit(to_bus, to_identifier) {
-        return Added::OverLimit;
+        return Added::Refused(Refusal::OverLimit);
     }
     let count = record::route_count(&*book);
     if wide(count) >= ROUTES {
-        return Added::Full;
+        return Added::Refused(Refusal::Full);
     }
     let from = record::place(from_bus, from_identifier);
     let to = record::place(to_bus, to_identifier);

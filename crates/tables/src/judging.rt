@@ -12,6 +12,7 @@ ghost use Rattle.books.specs.Lines.{isIn, afterRefusal, signalRefusal, messageL
 ghost use Rattle.record.specs.Columns.{idsOf, endsOf};
 ghost use Rattle.tables.specs.Adding.{OfKept, Kept, Earlier, refusalOf, lastBegin};
 use crate::Added;
+use answers::Refusal;
 use placing::Filled;
 use placing::is_misplaced;
 use placing::is_repeated;
@@ -66,16 +67,16 @@ fn judge_after(
     ensures { λ r. ⌜ ((ps : List Placement) → Earlier (now (before .entry)) filled ps → refusalOf r ≡ afterRefusal ps count (placement number start)) ⌝ }
 {
     if is_repeated(before, filled, number) {
-        return Added::SignalRepeated;
+        return Added::Refused(Refusal::SignalRepeated);
     }
     if is_misplaced(number, start, bits) {
-        return Added::Misplaced;
+        return Added::Refused(Refusal::Misplaced);
     }
     if masks::meet(filled.bits, run(start, bits)) {
-        return Added::BitsMeet;
+        return Added::Refused(Refusal::BitsMeet);
     }
     if count >= SIGNALS {
-        return Added::Full;
+        return Added::Refused(Refusal::Full);
     }
     Added::Taken
 }
@@ -92,14 +93,14 @@ pub fn judge_signal(
     ensures { λ r. ⌜ ((b : Book) → Kept (now (book .entry)) filled b → refusalOf r ≡ signalRefusal (b .messages) (placement number start)) ⌝ }
 {
     if bits == 0 {
-        return Added::OverLimit;
+        return Added::Refused(Refusal::OverLimit);
     }
     if start >= START_LIMIT {
-        return Added::OverLimit;
+        return Added::Refused(Refusal::OverLimit);
     }
     let messages = record::message_count(book);
     if messages == 0 {
-        return Added::BeforeAnyMessage;
+        return Added::Refused(Refusal::BeforeAnyMessage);
     }
     let end = wide(record::signal_count(book));
     let first = last_begin(book, messages);

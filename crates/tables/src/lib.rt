@@ -8,26 +8,14 @@ mod testing;
 pub use adding::add_message;
 pub use adding::add_route;
 pub use adding::add_signal;
+use answers::Refusal;
 use placing::Filled;
 pub use testing::messages_taken;
 
 // What becomes of a line.
 pub enum Added {
     Taken,
-    // An identifier, a bus or a start is over its limit, or the catalogue does not have the number.
-    OverLimit,
-    // A signal before any message.
-    BeforeAnyMessage,
-    // The message is there already.
-    MessageRepeated,
-    // The signal is in this message already.
-    SignalRepeated,
-    // The signal ends past the frame, or has a start of its own and is not there.
-    Misplaced,
-    // The signal's bits meet those of an earlier one of the message.
-    BitsMeet,
-    // The book has as many lines of this kind as it may have.
-    Full,
+    Refused(Refusal),
 }
 
 // What becomes of an `S` line, and what the signals of the last message fill then.

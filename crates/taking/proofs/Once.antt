@@ -5,6 +5,7 @@ use Prim.Native.Nat.{ℕ, suc}
 use native.Mathlib.Omega.{arith}
 use Rattle.record.specs.Columns.{emptyBook}
 use Rattle.answers.specs.Numbers.{number}
+use Rattle.answers.proofs.Numbered.{number-once}
 use Rattle.line.specs.declared.Line.{Line}
 use Rattle.books.specs.Book.{Book, noBook}
 use Rattle.books.specs.Words.{wordsOf}
@@ -16,7 +17,7 @@ use Rattle.taking.specs.declared.Lines.{Lines}
 use Rattle.taking.specs.declared.Lines.the-variants as came
 use Rattle.taking.specs.Taking.{PassedTo, Came}
 use Rattle.taking.proofs.Steps.{within-line}
-use Rattle.taking.proofs.Named.{text-named, number-once}
+use Rattle.taking.proofs.Named.{text-named}
 
 -- a book that lines give is within the limits
 within-on : (n : ℕ) (b : Book) (at : List ℕ) (ls : List Line) {c : Book} {to : List ℕ} → Within b → readFrom n b at ls ≡ passed c to → Within c

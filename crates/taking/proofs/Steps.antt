@@ -6,6 +6,7 @@ use mathlib.Core.List.{List}
 use Rattle.answers.specs.declared.Refusal.{Refusal}
 use Rattle.answers.specs.declared.Refusal.the-variants as refusal
 use Rattle.answers.specs.Numbers.{number}
+use Rattle.answers.proofs.Numbered.{above-0}
 use Rattle.line.specs.declared.Line.{Line}
 use Rattle.line.specs.declared.Line.the-variants as line
 use Rattle.books.specs.Book.{Placement, Book, inLast, lastPlacements, placement, route, withMessage, withRoute}
@@ -16,18 +17,19 @@ use Rattle.placing.specs.Filling.{Fills}
 use Rattle.tables.specs.declared.Added.{Added}
 use Rattle.tables.specs.declared.Placed.{Placed}
 use Rattle.tables.specs.Adding.{Within, Holds, unless, Judged, SignalJudged}
+use Rattle.tables.specs.Adding as adding
 use Rattle.tables.proofs.Room.{within-message, within-signal, within-route}
 use Rattle.tables.proofs.Kept.{fills-fresh}
 use Rattle.taking.specs.declared.Step.{Step}
 use Rattle.taking.specs.declared.Step.the-variants as step
-use Rattle.taking.specs.Taking.{stepNumber, addedNumber, Carries, FillsThen, Took}
+use Rattle.taking.specs.Taking.{stepNumber, Carries, FillsThen, Took}
 
 -- what the step carries is what the signals fill, where the line is taken
 told : (ps : List Placement) (r : Step) (f : Filled) → Carries f r → (stepNumber r ≡ 0 → Fills ps f) → FillsThen ps r
 told ps (step.Taken g) f e h = subst (Fills ps) (sym e) (h refl)
 told ps (step.Refused why) f e h = tt
 
-module _ (b : Book) {l : Line} {r : Step} {a : Added} {w : List ℕ} {f : Filled} (s : (stepNumber r ≡ addedNumber a) × Carries f r) where
+module _ (b : Book) {l : Line} {r : Step} {a : Added} {w : List ℕ} {f : Filled} (s : (stepNumber r ≡ adding.refusalOf a) × Carries f r) where
   pub took-message : (i : ℕ) → l ≡ line.Message i → Judged (messageRefusal (b .messages) i) b (withMessage b i) a w → (f .bits ≡ 0) × (f .marks ≡ 0) → Took b l r w
   unfolding refusalOf withLine
   took-message i e j z = rw e (record {
@@ -41,7 +43,7 @@ module _ (b : Book) {l : Line} {r : Step} {a : Added} {w : List ℕ} {f : Filled
   unfolding refusalOf withLine unless
   took-signal n t e placed ea ef k =
       let j = k .judged in
-      let answer = s .0 ∙ ap addedNumber ea ∙ j .answer in
+      let answer = s .0 ∙ ap adding.refusalOf ea ∙ j .answer in
       rw e (record {
         answer = answer;
         words = j .words;
@@ -60,17 +62,7 @@ took-none b e h = rw e (record { answer = refl; words = h .words; fills = tt })
 -- a refusal has a number, at which the lines stop
 pub stops : (why : Refusal) (n : ℕ) (later : Outcome) → onward (number why) n later ≡ refused (number why) n
 unfolding onward
-stops refusal.TooLong n later = refl
-stops refusal.IllFormed n later = refl
-stops refusal.OverLimit n later = refl
-stops refusal.BeforeAnyMessage n later = refl
-stops refusal.MessageRepeated n later = refl
-stops refusal.SignalRepeated n later = refl
-stops refusal.Misplaced n later = refl
-stops refusal.BitsMeet n later = refl
-stops refusal.Full n later = refl
-stops refusal.ClosedChain n later = refl
-stops refusal.TwoChains n later = refl
+stops why n later = rw (above-0 why .1)
 
 -- a line that is taken is well formed, and the book with it is within the limits
 pub taken-well : (b : Book) (l : Line) → refusalOf b l ≡ 0 → l ≡ line.IllFormed → ⊥

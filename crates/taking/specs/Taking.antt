@@ -12,9 +12,7 @@ use Rattle.books.specs.Words.{wordsOf}
 use Rattle.reading.specs.Reading.{passed, refused, refusalOf, withLine, linesRead}
 use Rattle.placing.specs.declared.Filled.{Filled}
 use Rattle.placing.specs.Filling.{Fills}
-use Rattle.tables.specs.declared.Added.{Added}
 use Rattle.tables.specs.Adding.{Holds, unless}
-use Rattle.tables.specs.Adding as adding
 use Rattle.taking.specs.declared.Step.{Step}
 use Rattle.taking.specs.declared.Step.the-variants as step
 use Rattle.taking.specs.declared.Lines.{Lines}
@@ -24,9 +22,6 @@ use Rattle.taking.specs.declared.Lines.the-variants as came
 abbrev pub stepNumber : Step → ℕ
 stepNumber (step.Taken filled) = 0
 stepNumber (step.Refused why) = number why
-
-abbrev pub addedNumber : Added → ℕ
-addedNumber added = adding.refusalOf added
 
 -- where a line is taken, the step carries what is filled
 abbrev pub Carries : Filled → Step → Type 0

@@ -15,8 +15,8 @@ ghost use Rattle.record.specs.Limits.{textLimit};
 ghost use Rattle.books.specs.Book.{Book};
 ghost use Rattle.reading.specs.Reading.{meanings};
 ghost use Rattle.reading.specs.Taken.{rLinesFrom};
-ghost use Rattle.tables.specs.Adding.{OfKept, Kept};
-ghost use Rattle.taking.specs.Taking.{stepNumber, addedNumber, Carries, isRoute, Took, Empty, Came, Well};
+ghost use Rattle.tables.specs.Adding.{refusalOf, OfKept, Kept};
+ghost use Rattle.taking.specs.Taking.{stepNumber, Carries, isRoute, Took, Empty, Came, Well};
 
 // What came of one line: it was taken, with what the signals of the last message fill then, or refused.
 pub enum Step {
@@ -31,17 +31,11 @@ pub enum Lines {
 }
 
 fn step_of(added: Added, filled: Filled) -> Step
-    ensures { λ r. ⌜ (stepNumber r ≡ addedNumber added) × Carries filled r ⌝ }
+    ensures { λ r. ⌜ (stepNumber r ≡ refusalOf added) × Carries filled r ⌝ }
 {
     match added {
         Added::Taken => Step::Taken(filled),
-        Added::OverLimit => Step::Refused(Refusal::OverLimit),
-        Added::BeforeAnyMessage => Step::Refused(Refusal::BeforeAnyMessage),
-        Added::MessageRepeated => Step::Refused(Refusal::MessageRepeated),
-        Added::SignalRepeated => Step::Refused(Refusal::SignalRepeated),
-        Added::Misplaced => Step::Refused(Refusal::Misplaced),
-        Added::BitsMeet => Step::Refused(Refusal::BitsMeet),
-        Added::Full => Step::Refused(Refusal::Full),
+        Added::Refused(why) => Step::Refused(why),
     }
 }
 

@@ -1,15 +1,9 @@
 -- `tables::adding::add_signal` meets its contract: where the line is taken its words are stored, and else the words stay. Assumes nothing.
-use mathlib.Core.Path.{_≡_, refl, sym, ap, _∙_}
-use Prim.Native.Nat.{ℕ, suc}
-use mathlib.Core.List.{[], _∷_}
+use mathlib.Core.Path.{sym, ap, _∙_}
 use native.Mathlib.Omega.{arith}
-use types.Run.{OneOf, miss}
-use denote.Enum.Declared.{tagOf}
+use Rattle.answers.proofs.Numbered.{above-0}
 use Rattle.books.specs.Book.{placement}
 use Rattle.placing.proofs.Placing.{alone-room}
-use Rattle.tables.specs.declared.Added.{Added}
-use Rattle.tables.proofs.Added.{the-type}
-use Rattle.tables.specs.declared.Added.the-variants as added
 use Rattle.tables.specs.Adding.{refusalOf}
 use Rattle.tables.proofs.Held.{messages-held, signals-held}
 use Rattle.tables.proofs.Stored.{signal-stored}
@@ -18,17 +12,6 @@ use Rattle.tables.proofs.Kept.{fills-signal, signal-stays, signal-takes
 use borrow.Author.Needs.{needs}
 use Rattle.tables.proofs.adding.add_signal.Statement.{statement}
 use Rattle.tables.proofs.adding.add_signal.Tie as tie
-
--- an answer that is not `Taken` has a refusal
-refused : (r : Added) → OneOf (1 ∷ 2 ∷ 3 ∷ 4 ∷ 5 ∷ 6 ∷ 7 ∷ []) (tagOf the-type r) → (n : ℕ) × (refusalOf r ≡ suc n)
-refused added.Taken k = absurd (miss (1 ∷ 2 ∷ 3 ∷ 4 ∷ 5 ∷ 6 ∷ 7 ∷ []) 0 tt k)
-refused added.OverLimit k = (2, refl)
-refused added.BeforeAnyMessage k = (3, refl)
-refused added.MessageRepeated k = (4, refl)
-refused added.SignalRepeated k = (5, refl)
-refused added.Misplaced k = (6, refl)
-refused added.BitsMeet k = (7, refl)
-refused added.Full k = (8, refl)
 
 bits-of-requires : tie.Need-bits-of-requires
 bits-of-requires c κs = search needs
@@ -72,11 +55,14 @@ returns c = λ b k.
     let stored = signal-stored (b .messages) (b .routes) p (h .within) (r .some) (r .room) in
     signal-takes b p _ _ f taken (rw (c .before .put-signal .ensures, messages, signals, h .words) stored) (fills-signal (b .messages) p taken (c .before .before .before .before .before .before .before .before .before .before .before .before .args .filled) (k .fills) _ (c .before .before .before .before .before .before .before .before .before .before .before .bits-of .ensures) _ (c .filled-with .ensures))
 
+enum-told-2 : tie.Need-enum-told-2
+enum-told-2 c = search needs
+
 returns-2 : tie.Need-returns-2
 returns-2 c = λ b k.
-    let f = c .before .judge-signal .ensures b k in
-    let n = refused (c .before .judge-signal .result) (c .match .keys2) in
-    signal-stays b _ _ _ f (n .0) (sym f ∙ n .1) k
+    let f = c .before .before .judge-signal .ensures b k in
+    let n = above-0 (c .enum-told2 .given .0 .0) in
+    signal-stays b _ _ _ f (n .0) (sym f ∙ ap refusalOf (c .enum-told2 .given .1) ∙ n .1) k
 
 pub add-signal-spec : {M : Type 1} → statement M
 add-signal-spec =
@@ -90,4 +76,5 @@ add-signal-spec =
     put-signal-requires
     filled-with-requires
     returns
+    enum-told-2
     returns-2)
