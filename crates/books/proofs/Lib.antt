@@ -4,4 +4,5 @@ pub mod Order
 pub mod Building
 pub mod Sides
 pub mod Columns
+pub mod RouteColumns
 pub mod Known

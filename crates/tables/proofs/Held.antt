@@ -9,10 +9,11 @@ use lib.Seq.{take-at, drop-at, getD-at}
 use borrow.Author.Tests.{le-ltb}
 use Rattle.books.specs.Book.{Placement, Message, Book, identifiers, numbers, allPlacements, lastPlacements}
 use Rattle.books.specs.Lines.{messageLimit, signalLimit}
-use Rattle.books.specs.Words.{column, endsAfter, endColumn, numberColumn, messageColumns, routeColumns, wordsOf, messagesOf, Stands}
+use Rattle.books.specs.Words.{column, endsAfter, endColumn, numberColumn, messagesOf, Stands, RoutesStand}
 use Rattle.books.proofs.Ends.{map-append, last-placements, last}
-use Rattle.books.proofs.Columns.{take-column, length-ends, columns-long, ids-stand, ends-stand, numbers-stand, shows}
-use Rattle.record.specs.Columns.{messageWords, messageCountOf, signalCountOf, routeCountOf, idsOf, endsOf, numbersOf}
+use Rattle.books.proofs.Columns.{take-column, length-ends, ids-stand, ends-stand, numbers-stand, shows, words-stand}
+use Rattle.books.proofs.RouteColumns.{words-routes}
+use Rattle.record.specs.Columns.{messageCountOf, signalCountOf, routeCountOf, idsOf, endsOf, numbersOf}
 use Rattle.tables.specs.Adding.{Holds, lastBegin}
 use Rattle.tables.proofs.Longer.{all-last, ends-last}
 
@@ -80,14 +81,10 @@ part (x ∷ xs) h = let l = last x xs in subst Part (sym (l .whole)) (part-last 
 
 module _ (w : List ℕ) (b : Book) (h : Holds w b) where
   stands : Stands w (b .messages)
-  unfolding wordsOf
-  stands =
-      subst (λ (v : List ℕ). Stands v (b .messages)) (sym (h .words))
-      (record {
-        messages = refl;
-        signals = refl;
-        columns = take-at (messageColumns (b .messages)) (routeColumns (b .routes)) messageWords (columns-long (b .messages) (h .within .messages) (h .within .signals));
-      })
+  stands = subst (λ (v : List ℕ). Stands v (b .messages)) (sym (h .words)) (words-stand b (h .within .messages) (h .within .signals))
+
+  pub routes-stand : RoutesStand w (b .routes)
+  routes-stand = subst (λ (v : List ℕ). RoutesStand v (b .routes)) (sym (h .words)) (words-routes b (h .within .messages) (h .within .signals) (h .within .routes))
 
   pub messages-shown : messagesOf w ≡ b .messages
   messages-shown = shows w (b .messages) (h .within .messages) (h .within .signals) stands
@@ -99,8 +96,7 @@ module _ (w : List ℕ) (b : Book) (h : Holds w b) where
   signals-held = stands .signals
 
   pub routes-held : routeCountOf w ≡ length (b .routes)
-  unfolding wordsOf
-  routes-held = ap routeCountOf (h .words)
+  routes-held = routes-stand .count
 
   pub ids-held : take (messageCountOf w) (idsOf w) ≡ identifiers (b .messages)
   ids-held =
