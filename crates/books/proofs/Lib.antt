@@ -5,4 +5,5 @@ pub mod Building
 pub mod Sides
 pub mod Columns
 pub mod RouteColumns
+pub mod Parts
 pub mod Known
