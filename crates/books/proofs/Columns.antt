@@ -6,8 +6,8 @@ use Prim.Native.Nat.{ℕ, zero, suc, _+_, _-_, _≤_}
 use native.Mathlib.Omega.{arith}
 use mathlib.Core.List.{List, [], _∷_, _++_}
 use lib.Dec.{eqb, leb}
-use lib.ListN.{length, take, drop, replicate, length-append, length-replicate, length-map}
-use lib.Seq.{take-at, drop-at, take-take, drop-drop, take-all}
+use lib.ListN.{length, take, drop, replicate, length-append, length-replicate, length-map, take-append-drop}
+use lib.Seq.{take-at, drop-at, take-take, drop-drop, take-all, length-take-le}
 use borrow.Author.Tests.{eqb-true, eq-eqb, leb-true}
 use Rattle.record.specs.Columns.{messageCountOf, signalCountOf, idsAt, messageWords, idsOf, endsOf, numbersOf, startsOf}
 use Rattle.books.specs.Book.{Placement, Message, Book, identifiers, numbers, allPlacements}
@@ -26,6 +26,17 @@ length-column n l h = omega (arith, length-append l (replicate (n - length l) 0)
 pub take-column : (n k : ℕ) (l : List ℕ) → length l ≡ k → take k (column n l) ≡ l
 unfolding column
 take-column n k l e = take-at l (replicate (n - length l) 0) k e
+
+-- past its entries a column has 0
+pub past-column : (n k : ℕ) (l : List ℕ) → length l ≡ k → drop k (column n l) ≡ replicate (n - k) 0
+unfolding column
+past-column n k l e = drop-at l (replicate (n - length l) 0) k e ∙ ap (λ (j : ℕ). replicate (n - j) 0) e
+
+-- and what has 0 past its first entries is the column of those
+pub filled : (n k : ℕ) (l : List ℕ) → length l ≡ n → k ≤ n → drop k l ≡ replicate (n - k) 0 → l ≡ column n (take k l)
+unfolding column
+filled n k l e h z =
+    sym (take-append-drop k l) ∙ ap (λ (r : List ℕ). take k l ++ r) (z ∙ ap (λ (j : ℕ). replicate (n - j) 0) (sym (length-take-le k l (omega arith))))
 
 -- a part of what was taken is that part of the whole
 pub part-of : (n k m : ℕ) (l : List ℕ) → n + k ≤ m → take n (drop k (take m l)) ≡ take n (drop k l)
@@ -171,9 +182,9 @@ stands-taken w ms s g =
     (with (eqb (signalCountOf w) (length (allPlacements ms))) _ (eq-eqb _ _ (s .signals)) (rw (s .columns) (equal-same (messageColumns ms))))) g)
 
 -- the words of a book have its messages
-pub words-stand : (b : Book) → good (b .messages) ≡ true → Stands (wordsOf b) (b .messages)
+pub words-stand : (b : Book) → length (b .messages) ≤ messageLimit → length (allPlacements (b .messages)) ≤ signalLimit → Stands (wordsOf b) (b .messages)
 unfolding wordsOf
-words-stand b g = record { messages = refl; signals = refl; columns = take-at (messageColumns (b .messages)) (routeColumns (b .routes)) messageWords (columns-long (b .messages) (within (b .messages) g .few) (within (b .messages) g .room)) }
+words-stand b few room = record { messages = refl; signals = refl; columns = take-at (messageColumns (b .messages)) (routeColumns (b .routes)) messageWords (columns-long (b .messages) few room) }
 
 -- refusal 12 for the message and signal tables, exactly: they are those of messages that lines build
 pub record Shown (w : List ℕ) : Type 0 where

@@ -4,4 +4,6 @@ pub mod Order
 pub mod Building
 pub mod Sides
 pub mod Columns
+pub mod RouteColumns
+pub mod Parts
 pub mod Known

@@ -6,7 +6,7 @@ use mathlib.Core.Bool.{Bool, true, false, _&&_}
 use mathlib.Core.List.{List, [], _∷_, _++_, map}
 use lib.Dec.{eqb}
 use lib.ListN.{length, take, drop, replicate}
-use Rattle.record.specs.Columns.{messageCountOf, signalCountOf, idsOf, endsOf, numbersOf, startsOf, messageColumnsOf}
+use Rattle.record.specs.Columns.{messageCountOf, signalCountOf, routeCountOf, idsOf, endsOf, numbersOf, startsOf, messageColumnsOf, routeColumnsOf}
 use Rattle.books.specs.Book.{Placement, Message, Route, Book, identifiers, numbers, allPlacements, placement}
 use Rattle.books.specs.Lines.{messageLimit, signalLimit, routeLimit}
 use Rattle.books.specs.Good.{good}
@@ -39,8 +39,21 @@ startColumn ms = column signalLimit (starts (allPlacements ms))
 unfoldable pub messageColumns : List Message → List ℕ
 messageColumns ms = idColumn ms ++ (endColumn ms ++ (numberColumn ms ++ startColumn ms))
 
+-- the places that routes lead from, and those they lead to, and their columns
+abbrev pub froms : List Route → List ℕ
+froms rs = map (λ (r : Route). r .from) rs
+
+abbrev pub tos : List Route → List ℕ
+tos rs = map (λ (r : Route). r .to) rs
+
+abbrev pub fromColumn : List Route → List ℕ
+fromColumn rs = column routeLimit (froms rs)
+
+abbrev pub toColumn : List Route → List ℕ
+toColumn rs = column routeLimit (tos rs)
+
 unfoldable pub routeColumns : List Route → List ℕ
-routeColumns rs = column routeLimit (map (λ (r : Route). r .from) rs) ++ column routeLimit (map (λ (r : Route). r .to) rs)
+routeColumns rs = fromColumn rs ++ toColumn rs
 
 unfoldable pub wordsOf : Book → List ℕ
 wordsOf b =
@@ -85,3 +98,8 @@ pub record Stands (w : List ℕ) (ms : List Message) : Type 0 where
   pub messages : messageCountOf w ≡ length ms
   pub signals : signalCountOf w ≡ length (allPlacements ms)
   pub columns : messageColumnsOf w ≡ messageColumns ms
+
+-- the routes stand in the words: their count and their columns. The messages are not asked.
+pub record RoutesStand (w : List ℕ) (rs : List Route) : Type 0 where
+  pub count : routeCountOf w ≡ length rs
+  pub columns : routeColumnsOf w ≡ routeColumns rs

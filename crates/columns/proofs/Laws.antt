@@ -1,14 +1,19 @@
--- A search in a column, one entry at a time. Assumes nothing.
-use mathlib.Core.Path.{_≡_, refl, sym}
+-- One entry of a column, and a search of them one at a time. Assumes nothing.
+use mathlib.Core.Path.{_≡_, refl, sym, ap}
 use mathlib.Core.Bool.{true, false}
 use mathlib.Core.List.{List, [], _∷_}
-use Prim.Native.Nat.{ℕ, zero, suc, _+_, _≤_, _<_}
+use Prim.Native.Nat.{ℕ, zero, suc, _+_, _-_, _≤_, _<_}
 use native.Mathlib.Omega.{arith}
 use native.Mathlib.Numerals.{add-one}
 use lib.ListN.{length, take, drop, getD, drop-of-length-le}
 use lib.Seq.{drop-cons}
 use borrow.Author.Tests.{eq-eqb, ne-eqb}
 use Rattle.books.specs.Lines.{isIn}
+
+-- the entry before, and 0 before all
+pub one-before : (l : List ℕ) (at : ℕ) → (at ≡ 0 → ⊥) → getD l (at - 1) 0 ≡ getD (0 ∷ l) at 0
+one-before l zero h = absurd (h refl)
+one-before l (suc k) h = let e : suc k - 1 ≡ k = omega arith in ap (λ (i : ℕ). getD l i 0) e
 
 module _ (l : List ℕ) (i x : ℕ) where
   pub in-none : length l ≤ i → isIn x (drop i l) ≡ false

@@ -1,12 +1,13 @@
-// One column of a book: a part of it, whether a number stands in it, and whether identifiers repeat.
+// One column of a book: a part of it, where a message's part begins, whether a number stands in it, and whether identifiers repeat.
 ghost use mathlib.Core.Path.{_≡_};
-ghost use mathlib.Core.List.{[]};
+ghost use mathlib.Core.List.{[], _∷_};
 ghost use Prim.Native.Nat.{_-_, _≤_, _<_};
-ghost use lib.ListN.{length, take, drop};
+ghost use lib.ListN.{length, getD, take, drop};
 ghost use Rattle.books.specs.Lines.{isIn};
 ghost use Rattle.columns.specs.Identifiers.{distinctAfter};
 ghost use Rattle.columns.specs.Slots.{slotCount, slotOf};
 use record::IDENTIFIER_LIMIT;
+use record::wide;
 
 // How many slots there are, and the largest prime below their count.
 const SLOTS: usize = 256;
@@ -27,6 +28,17 @@ pub fn part(column: &[u32], first: usize, end: usize) -> &[u32]
     ensures { λ r. ⌜ (now r ≡ take (end - first) (drop first (now (column .entry)))) × (length (now r) ≡ end - first) ⌝ }
 {
     &column[first..end]
+}
+
+// Where the signals of the message at a place begin, by the ends of all: where the message before it ends.
+pub fn begin(ends: &[u32], at: usize) -> usize
+    requires { ⌜ at < length (now ends) ⌝ }
+    ensures { λ r. ⌜ r ≡ getD (0 ∷ now (ends .entry)) at 0 ⌝ }
+{
+    if at == 0 {
+        return 0;
+    }
+    wide(ends[at - 1])
 }
 
 // Whether `number` stands in the column.

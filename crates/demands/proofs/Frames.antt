@@ -8,7 +8,7 @@ use Rattle.line.specs.declared.Line.{Line}
 use Rattle.line.specs.declared.Line.the-variants as line
 use Rattle.books.specs.Book.{Book, Message, Placement, noBook, fresh, inLast, withPlacement}
 use Rattle.books.specs.Good.{good}
-use Rattle.books.specs.Words.{messagesOf, messagesTaken, wordsOf}
+use Rattle.books.specs.Words.{messagesOf, messagesTaken, wordsOf, Stands}
 use Rattle.books.proofs.Building.{built-good}
 use Rattle.books.proofs.Columns.{within, shows, stands-taken, words-stand}
 use Rattle.books.proofs.Ends.{in-last}
@@ -68,14 +68,17 @@ module _ (text : List ℕ) (b : Book) (t : TakenWith text b) where
   is-good : good (b .messages) ≡ true
   is-good = built-good (read-built text (t .read))
 
+  stand : Stands (wordsOf b) (b .messages)
+  stand = words-stand b (within (b .messages) is-good .few) (within (b .messages) is-good .room)
+
   -- the words of the book pass the test of reading and packing
   passes : messagesTaken (wordsOf b) ≡ true
-  passes = stands-taken (wordsOf b) (b .messages) (words-stand b is-good) is-good
+  passes = stands-taken (wordsOf b) (b .messages) stand is-good
 
   -- and show the messages of the text
   shown : messagesOf (wordsOf b) ≡ textMessages text
   shown =
-      shows (wordsOf b) (b .messages) (within (b .messages) is-good .few) (within (b .messages) is-good .room) (words-stand b is-good) ∙
+      shows (wordsOf b) (b .messages) (within (b .messages) is-good .few) (within (b .messages) is-good .room) stand ∙
       messages-of-text text (t .read)
 
   -- a frame is read by the text's messages: 22 where none has the identifier, else each signal in the order of the S lines

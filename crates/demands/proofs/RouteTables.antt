@@ -3,85 +3,29 @@
 use mathlib.Core.Path.{_≡_, refl, sym, ap, _∙_}
 use Prim.Native.Nat.{ℕ, zero, suc, _+_, _-_, _≤_, _<_}
 use native.Mathlib.Omega.{arith}
-use mathlib.Core.Bool.{true}
 use mathlib.Core.List.{List, [], _∷_, _++_}
-use lib.ListN.{length, getD, take, drop, replicate, length-append, length-map, length-drop, take-append-drop}
-use lib.Seq.{take-at, drop-at, take-all, drop-drop, take-add, length-take-le, getD-drop}
+use lib.ListN.{length, getD, take, drop, length-map, length-drop}
+use lib.Seq.{drop-drop, take-add, length-take-le, getD-drop}
 use Rattle.record.specs.Limits.{routeLimit}
-use Rattle.record.specs.Columns.{fromsAt, tosAt, messageWords, routeWords, routeCountOf, fromsOf, tosOf, bookWords}
+use Rattle.record.specs.Columns.{fromsAt, tosAt, routeCountOf, fromsOf, tosOf}
 use Rattle.routes.specs.Answers.{startPlaces, endPlaces, RoutesTaken}
-use Rattle.books.specs.Book.{Book, Route}
-use Rattle.books.specs.Good.{good}
-use Rattle.books.specs.Words.{column, messageColumns, routeColumns, wordsOf}
-use Rattle.books.proofs.Columns.{length-column, take-column, part-of, columns-long, within}
+use Rattle.books.specs.Book.{Route}
+use Rattle.books.specs.Words.{column, routeColumns, RoutesStand}
+use Rattle.books.proofs.Columns.{past-column, filled}
+use Rattle.books.proofs.RouteColumns.{froms-stand, tos-stand, from-count, to-count, froms-are, tos-are}
 use Rattle.reading.specs.Written.{Places, no-route, route}
-use Rattle.reading.specs.Taken.{froms, tos, Sound, RoutesStand}
-use Rattle.reading.specs.Taken.{RoutesFrom}
+use Rattle.reading.specs.Taken.{froms, tos, Sound, RoutesFrom}
 use Rattle.reading.proofs.Exact.{RoutesIn, from-routes, routes-from}
 use Rattle.demands.specs.Loops.{Record}
 
--- a column past its entries
-past-column : (n k : ℕ) (l : List ℕ) → length l ≡ k → drop k (column n l) ≡ replicate (n - k) 0
-unfolding column
-past-column n k l e = drop-at l (replicate (n - length l) 0) k e ∙ ap (λ (j : ℕ). replicate (n - j) 0) e
-
--- routes that stand in the words
-module _ (w : List ℕ) (rs : List Route) (few : length rs ≤ routeLimit) (s : RoutesStand w rs) where
-  from-count : length (froms rs) ≡ routeCountOf w
-  from-count = length-map rs (λ (r : Route). r .from) ∙ sym (s .count)
-
-  to-count : length (tos rs) ≡ routeCountOf w
-  to-count = length-map rs (λ (r : Route). r .to) ∙ sym (s .count)
-
-  froms-long : length (column routeLimit (froms rs)) ≡ routeLimit
-  froms-long = length-column routeLimit (froms rs) (omega (arith, length-map rs (λ (r : Route). r .from)))
-
-  froms-stand : fromsOf w ≡ column routeLimit (froms rs)
-  unfolding routeColumns
-  froms-stand = sym (part-of routeLimit 0 routeWords (drop fromsAt w) (omega arith)) ∙ ap (take routeLimit) (s .columns) ∙ take-at (column routeLimit (froms rs)) (column routeLimit (tos rs)) routeLimit froms-long
-
-  tos-stand : tosOf w ≡ column routeLimit (tos rs)
-  unfolding routeColumns
-  tos-stand =
-      ap (take routeLimit) (sym (drop-drop routeLimit fromsAt w)) ∙ sym (part-of routeLimit routeLimit routeWords (drop fromsAt w) (omega arith)) ∙ ap (λ (l : List ℕ). take routeLimit (drop routeLimit l)) (s .columns) ∙
-      ap (take routeLimit) (drop-at (column routeLimit (froms rs)) (column routeLimit (tos rs)) routeLimit froms-long) ∙
-      take-all routeLimit (column routeLimit (tos rs)) (omega (arith, length-column routeLimit (tos rs) (omega (arith, length-map rs (λ (r : Route). r .to)))))
-
-  pub starts-are : startPlaces w ≡ froms rs
-  starts-are = ap (take (routeCountOf w)) froms-stand ∙ take-column routeLimit (routeCountOf w) (froms rs) from-count
-
-  pub ends-are : endPlaces w ≡ tos rs
-  ends-are = ap (take (routeCountOf w)) tos-stand ∙ take-column routeLimit (routeCountOf w) (tos rs) to-count
-
-  pub stand-taken : Sound rs → RoutesTaken w
-  stand-taken h = record {
-    few = omega (arith, s .count);
-    no-more-froms = ap (drop (routeCountOf w)) froms-stand ∙ past-column routeLimit (routeCountOf w) (froms rs) from-count;
-    no-more-tos = ap (drop (routeCountOf w)) tos-stand ∙ past-column routeLimit (routeCountOf w) (tos rs) to-count;
-    sound = rw (starts-are, ends-are) (record { loop-free = h .loop-free; single = h .single });
-  }
-
--- two columns, each at its greatest length
-routes-long : (rs : List Route) → length rs ≤ routeLimit → length (routeColumns rs) ≡ routeWords
-unfolding routeColumns
-routes-long rs few =
-    omega (arith, length-append (column routeLimit (froms rs)) (column routeLimit (tos rs)), length-column routeLimit (froms rs) (omega (arith, length-map rs (λ (r : Route). r .from))), length-column routeLimit (tos rs) (omega (arith, length-map rs (λ (r : Route). r .to))))
-
--- the words of a book have its routes
-pub words-routes : (b : Book) → good (b .messages) ≡ true → length (b .routes) ≤ routeLimit → RoutesStand (wordsOf b) (b .routes)
-unfolding wordsOf routeColumns
-words-routes b g few = record {
-  count = refl;
-  columns =
-      ap (take routeWords) (drop-at (messageColumns (b .messages)) (routeColumns (b .routes)) messageWords (columns-long (b .messages) (within (b .messages) g .few) (within (b .messages) g .room))) ∙
-      take-all routeWords (routeColumns (b .routes)) (omega (arith, routes-long (b .routes) few));
+-- sound routes that stand in the words
+pub stand-taken : (w : List ℕ) (rs : List Route) → length rs ≤ routeLimit → RoutesStand w rs → Sound rs → RoutesTaken w
+stand-taken w rs few s h = record {
+  few = omega (arith, s .count);
+  no-more-froms = ap (drop (routeCountOf w)) (froms-stand w rs few s) ∙ past-column routeLimit (routeCountOf w) (froms rs) (from-count w rs few s);
+  no-more-tos = ap (drop (routeCountOf w)) (tos-stand w rs few s) ∙ past-column routeLimit (routeCountOf w) (tos rs) (to-count w rs few s);
+  sound = rw (froms-are w rs few s, tos-are w rs few s) (record { loop-free = h .loop-free; single = h .single });
 }
-
--- a book has as many words as a record
-pub words-long : (b : Book) → good (b .messages) ≡ true → length (b .routes) ≤ routeLimit → length (wordsOf b) ≡ bookWords
-unfolding wordsOf
-words-long b g few =
-    omega (arith, length-append (messageColumns (b .messages)) (routeColumns (b .routes)), columns-long (b .messages) (within (b .messages) g .few) (within (b .messages) g .room), routes-long (b .routes) few)
 
 -- routes of two columns in step
 pairs : List ℕ → List ℕ → List Route
@@ -122,12 +66,6 @@ small-take zero l h k = omega arith
 small-take (suc n) [] h k = h k
 small-take (suc n) (x ∷ l) h zero = h 0
 small-take (suc n) (x ∷ l) h (suc k) = small-take n l (λ j. h (suc j)) k
-
--- a column that has 0 past its first entries is those entries, filled up with 0
-filled : (n k : ℕ) (c : List ℕ) → length c ≡ n → k ≤ n → drop k c ≡ replicate (n - k) 0 → c ≡ column n (take k c)
-unfolding column
-filled n k c l h z =
-    sym (take-append-drop k c) ∙ ap (λ (x : List ℕ). take k c ++ x) (z ∙ ap (λ (j : ℕ). replicate (n - j) 0) (sym (length-take-le k c (omega arith))))
 
 module _ (w : List ℕ) (r : Record w) (t : RoutesTaken w) where
   f-long : length (fromsOf w) ≡ routeLimit

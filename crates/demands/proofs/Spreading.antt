@@ -12,9 +12,11 @@ use Rattle.routes.specs.declared.Sent.{Sent}
 use Rattle.routes.specs.declared.Sent.the-variants as sent
 use Rattle.routes.specs.Answers.{endPlaces, RoutesTaken, IsPlace, spreadBy, Answer}
 use Rattle.books.specs.Book.{Book, Route}
-use Rattle.books.specs.Words.{wordsOf}
+use Rattle.books.specs.Words.{wordsOf, RoutesStand}
 use Rattle.books.proofs.Building.{built-good}
-use Rattle.reading.specs.Taken.{froms, tos, TakenWith, RoutesStand}
+use Rattle.books.proofs.Columns.{Within, within}
+use Rattle.books.proofs.RouteColumns.{froms-are, tos-are, words-routes, words-long}
+use Rattle.reading.specs.Taken.{froms, tos, TakenWith}
 use Rattle.reading.proofs.Passing.{read-built}
 use Rattle.reading.proofs.Counts.{Routed, text-routed}
 use Rattle.routes.specs.Listed.{Lists}
@@ -22,20 +24,23 @@ use Rattle.routes.proofs.Listed.{listed}
 use Rattle.demands.specs.Text.{textRoutes}
 use Rattle.demands.specs.Loops.{Spread}
 use Rattle.demands.proofs.LineNumbers.{routes-of-text}
-use Rattle.demands.proofs.RouteTables.{starts-are, ends-are, stand-taken, words-routes, words-long}
+use Rattle.demands.proofs.RouteTables.{stand-taken}
 
 module _ (text : List ℕ) (b : Book) (t : TakenWith text b) where
   routed : Routed (b .routes)
   routed = text-routed text (t .read)
 
+  limits : Within (b .messages)
+  limits = within (b .messages) (built-good (read-built text (t .read)))
+
   stands : RoutesStand (wordsOf b) (b .routes)
-  stands = words-routes b (built-good (read-built text (t .read))) (routed .few)
+  stands = words-routes b (limits .few) (limits .room) (routed .few)
 
   is-taken : RoutesTaken (wordsOf b)
   is-taken = stand-taken (wordsOf b) (b .routes) (routed .few) stands (t .sound)
 
   spread-is : (place : ℕ) → spreadBy (wordsOf b) place ≡ spreadOf (froms (b .routes)) (tos (b .routes)) place
-  spread-is place = rw (starts-are (wordsOf b) (b .routes) (routed .few) stands, ends-are (wordsOf b) (b .routes) (routed .few) stands) refl
+  spread-is place = rw (froms-are (wordsOf b) (b .routes) (routed .few) stands, tos-are (wordsOf b) (b .routes) (routed .few) stands) refl
 
   spread-small : (place : ℕ) → length (spreadBy (wordsOf b) place) ≤ length (b .routes)
   spread-small place =
@@ -50,9 +55,9 @@ module _ (text : List ℕ) (b : Book) (t : TakenWith text b) where
   by-routes : (bus identifier : ℕ) (room : List ℕ) (n : ℕ) (after : List ℕ) → Answer (wordsOf b) bus identifier room (sent.Places n) after
       → Lists (froms (b .routes)) (tos (b .routes)) (placeKey bus identifier) (take n after)
   by-routes bus identifier room n after a =
-      subst (λ (ts : List ℕ). Lists (froms (b .routes)) ts (placeKey bus identifier) (take n after)) (ends-are (wordsOf b) (b .routes) (routed .few) stands)
-      (subst (λ (fs : List ℕ). Lists fs (endPlaces (wordsOf b)) (placeKey bus identifier) (take n after)) (starts-are (wordsOf b) (b .routes) (routed .few) stands)
-      (listed (wordsOf b) (words-long b (built-good (read-built text (t .read))) (routed .few)) bus identifier room n after a))
+      subst (λ (ts : List ℕ). Lists (froms (b .routes)) ts (placeKey bus identifier) (take n after)) (tos-are (wordsOf b) (b .routes) (routed .few) stands)
+      (subst (λ (fs : List ℕ). Lists fs (endPlaces (wordsOf b)) (placeKey bus identifier) (take n after)) (froms-are (wordsOf b) (b .routes) (routed .few) stands)
+      (listed (wordsOf b) (words-long b (limits .few) (limits .room) (routed .few)) bus identifier room n after a))
 
   -- with room for as many places as the text has routes the call refuses nothing
   pub spread-of-taken : (bus identifier : ℕ) → IsPlace bus identifier → (room : List ℕ) → length (textRoutes text) ≤ length room

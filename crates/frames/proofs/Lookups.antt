@@ -1,21 +1,21 @@
 -- The message of an identifier stands in the columns where its end and the end before it say. Assumes nothing.
 use mathlib.Core.Path.{_≡_, refl, sym, ap, _∙_, subst⁻¹}
 use mathlib.Core.Bool.{Bool, true, false, cond}
-use mathlib.Core.List.{List, [], _∷_, _++_, map}
+use mathlib.Core.List.{List, [], _∷_}
 use mathlib.Core.Option.{none, some}
-use Prim.Native.Nat.{ℕ, zero, suc, _+_, _-_, _≤_, _<_}
+use Prim.Native.Nat.{ℕ, suc, _+_, _≤_, _<_}
 use native.Mathlib.Nat.{not-suc-le-zero, le-of-suc-le-suc, add-suc}
 use native.Mathlib.Omega.{arith}
 use lib.Dec.{eqb}
-use lib.ListN.{length, getD, take, drop, replicate, length-append, length-take, length-drop, length-map, List·getD-append, drop-of-length-le}
-use lib.Seq.{take-at, drop-append-add, take-append-le, drop-append-le}
+use lib.ListN.{length, getD, take, drop, length-map, drop-of-length-le}
 use borrow.Author.Tests.{eqb-true, eq-eqb, ne-eqb}
 use Rattle.books.specs.Book.{Placement, Message, identifiers, numbers, allPlacements}
 use Rattle.books.specs.Lines.{messageLimit, signalLimit}
 use Rattle.books.specs.Good.{good}
-use Rattle.books.specs.Words.{column, starts, endsAfter, sideBySide, messagesOf, messagesTaken, Stands}
+use Rattle.books.specs.Words.{starts, sideBySide, messagesOf, messagesTaken, Stands}
 use Rattle.books.proofs.Sides.{side-back}
-use Rattle.books.proofs.Columns.{taken-stands, within, take-column, ids-stand, ends-stand, numbers-stand, starts-stand, length-ends}
+use Rattle.books.proofs.Columns.{taken-stands, within, take-column, ids-stand, ends-stand, numbers-stand, starts-stand}
+use Rattle.books.proofs.Parts.{beginOf, endOf, placementsAt, order, inside, part-long, part-stands, begin-stands, end-stands}
 use Rattle.framing.specs.Messages.{messageOf}
 use Rattle.framing.proofs.Sound.{Sound, sound-message}
 use Rattle.record.specs.Columns.{messageCountOf, idsOf, endsOf, numbersOf, startsOf}
@@ -50,25 +50,18 @@ first-within n (x ∷ l) = go (eqb n x) (first-within n l)
     go true h = omega arith
     go false h = omega arith
 
-pub one-before : (l : List ℕ) (at : ℕ) → (at ≡ 0 → ⊥) → getD l (at - 1) 0 ≡ getD (0 ∷ l) at 0
-one-before l zero h = absurd (h refl)
-one-before l (suc k) h = let e : suc k - 1 ≡ k = omega arith in ap (λ (i : ℕ). getD l i 0) e
-
 -- ---- the message at that place
-
-abbrev pub blank : Message
-blank = record { identifier = 0; placements = [] }
 
 -- the message with an identifier is the first that has it
 message-there : (identifier : ℕ) (ms : List Message) → firstAt identifier (identifiers ms) < length ms
-    → messageOf identifier ms ≡ some (record { identifier = identifier; placements = getD ms (firstAt identifier (identifiers ms)) blank .placements })
+    → messageOf identifier ms ≡ some (record { identifier = identifier; placements = placementsAt ms (firstAt identifier (identifiers ms)) })
 unfolding messageOf firstAt
 message-there identifier [] h = absurd (not-suc-le-zero h)
 message-there identifier (m ∷ ms) h = go (eqb identifier (m .identifier)) refl h (message-there identifier ms)
   where
     go : (b : Bool) → eqb identifier (m .identifier) ≡ b → cond b 0 (suc (firstAt identifier (identifiers ms))) < length (m ∷ ms)
-        → (firstAt identifier (identifiers ms) < length ms → messageOf identifier ms ≡ some (record { identifier = identifier; placements = getD ms (firstAt identifier (identifiers ms)) blank .placements }))
-        → cond b (some m) (messageOf identifier ms) ≡ some (record { identifier = identifier; placements = getD (m ∷ ms) (cond b 0 (suc (firstAt identifier (identifiers ms)))) blank .placements })
+        → (firstAt identifier (identifiers ms) < length ms → messageOf identifier ms ≡ some (record { identifier = identifier; placements = placementsAt ms (firstAt identifier (identifiers ms)) }))
+        → cond b (some m) (messageOf identifier ms) ≡ some (record { identifier = identifier; placements = placementsAt (m ∷ ms) (cond b 0 (suc (firstAt identifier (identifiers ms)))) })
     go true e h rest = ap (λ (i : ℕ). some (record { identifier = i; placements = m .placements })) (sym (eqb-true identifier (m .identifier) e))
     go false e h rest = rest (le-of-suc-le-suc h)
 
@@ -81,82 +74,6 @@ message-nowhere identifier (m ∷ ms) h = go (eqb identifier (m .identifier)) h 
         → cond b (some m) (messageOf identifier ms) ≡ none
     go true h rest = absurd (not-suc-le-zero h)
     go false h rest = rest (le-of-suc-le-suc h)
-
--- ---- its placements among all, between the end before it and its own
-
-abbrev pub Ends : ℕ → List Message → ℕ → ℕ
-Ends n ms i = getD (endsAfter n ms) i 0
-
-abbrev pub Begins : ℕ → List Message → ℕ → ℕ
-Begins n ms i = getD (n ∷ endsAfter n ms) i 0
-
-begins-after : (n : ℕ) (ms : List Message) (i : ℕ) → i < length ms → n ≤ Begins n ms i
-unfolding endsAfter
-begins-after n [] i h = absurd (not-suc-le-zero h)
-begins-after n (m ∷ ms) zero h = omega arith
-begins-after n (m ∷ ms) (suc i) h = let k = begins-after (n + length (m .placements)) ms i (le-of-suc-le-suc h) in omega arith
-
-part-is : (n : ℕ) (ms : List Message) (i : ℕ) → i < length ms
-    → take (Ends n ms i - Begins n ms i) (drop (Begins n ms i - n) (allPlacements ms)) ≡ getD ms i blank .placements
-unfolding endsAfter allPlacements
-part-is n [] i h = absurd (not-suc-le-zero h)
-part-is n (m ∷ ms) zero h =
-    let a : n + length (m .placements) - n ≡ length (m .placements) = omega arith in
-    let b : n - n ≡ 0 = omega arith in
-    rw (a, b) (take-at (m .placements) (allPlacements ms) (length (m .placements)) refl)
-part-is n (m ∷ ms) (suc i) h =
-    let n' = n + length (m .placements) in
-    let k = begins-after n' ms i (le-of-suc-le-suc h) in
-    let e : Begins n' ms i - n ≡ length (m .placements) + (Begins n' ms i - n') = omega arith in
-    ap (λ (j : ℕ). take (Ends n' ms i - Begins n' ms i) (drop j (m .placements ++ allPlacements ms))) e
-    ∙ ap (take (Ends n' ms i - Begins n' ms i)) (drop-append-add (m .placements) (allPlacements ms) (Begins n' ms i - n'))
-    ∙ part-is n' ms i (le-of-suc-le-suc h)
-
--- ends rise, and none is past all signals
-ends-rise : (n : ℕ) (ms : List Message) (i : ℕ) → i < length ms → Begins n ms i ≤ Ends n ms i
-unfolding endsAfter
-ends-rise n [] i h = absurd (not-suc-le-zero h)
-ends-rise n (m ∷ ms) zero h = omega arith
-ends-rise n (m ∷ ms) (suc i) h = ends-rise (n + length (m .placements)) ms i (le-of-suc-le-suc h)
-
-ends-within : (n : ℕ) (ms : List Message) (i : ℕ) → i < length ms → Ends n ms i ≤ n + length (allPlacements ms)
-unfolding endsAfter allPlacements
-ends-within n [] i h = absurd (not-suc-le-zero h)
-ends-within n (m ∷ ms) zero h = omega (arith, length-append (m .placements) (allPlacements ms))
-ends-within n (m ∷ ms) (suc i) h =
-    let k = ends-within (n + length (m .placements)) ms i (le-of-suc-le-suc h) in
-    omega (arith, length-append (m .placements) (allPlacements ms))
-
--- ---- in the columns
-
-map-take : {A : Type 0} (f : A → ℕ) (k : ℕ) (l : List A) → take k (map f l) ≡ map f (take k l)
-map-take f zero l = refl
-map-take f (suc k) [] = refl
-map-take f (suc k) (x ∷ l) = ap (λ (r : List ℕ). f x ∷ r) (map-take f k l)
-
-map-drop : {A : Type 0} (f : A → ℕ) (k : ℕ) (l : List A) → drop k (map f l) ≡ map f (drop k l)
-map-drop f zero l = refl
-map-drop f (suc k) [] = refl
-map-drop f (suc k) (x ∷ l) = map-drop f k l
-
--- a part of a column that ends before the zeros
-column-part : {A : Type 0} (f : A → ℕ) (n b e : ℕ) (l : List A) → b ≤ e → e ≤ length l → take (e - b) (drop b (column n (map f l))) ≡ map f (take (e - b) (drop b l))
-unfolding column
-column-part f n b e l h k =
-    let zs = replicate {A = ℕ} (n - length (map f l)) 0 in
-    let many = length-map l f in
-    ap (take (e - b)) (drop-append-le b (map f l) zs (omega arith))
-    ∙ take-append-le (e - b) (drop b (map f l)) zs (omega (arith, length-drop b (map f l)))
-    ∙ ap (take (e - b)) (map-drop f b l)
-    ∙ map-take f (e - b) (drop b l)
-
-column-at : (n i : ℕ) (l : List ℕ) → i < length l → getD (column n l) i 0 ≡ getD l i 0
-unfolding column
-column-at n i l h = List·getD-append l (replicate (n - length l) 0) 0 i h
-
-column-before : (n i : ℕ) (l : List ℕ) → i ≤ length l → getD (0 ∷ column n l) i 0 ≡ getD (0 ∷ l) i 0
-column-before n zero l h = refl
-column-before n (suc i) l h = column-at n i l h
 
 fit-all : {ps : List Placement} → Sound ps → AllFit ps
 fit-all Sound.none = AllFit.none
@@ -207,56 +124,34 @@ module _ (w : List ℕ) (t : messagesTaken w ≡ true) where
 
   module _ (identifier at : ℕ) (first : at ≡ firstAt identifier (identifiers Ms)) (there : at < length Ms) where
     abbrev From : ℕ
-    From = Begins 0 Ms at
+    From = beginOf 0 Ms at
 
     abbrev To : ℕ
-    To = Ends 0 Ms at
+    To = endOf 0 Ms at
 
     abbrev Ps : List Placement
-    Ps = getD Ms at blank .placements
-
-    order : From ≤ To
-    order = ends-rise 0 Ms at there
-
-    inside : To ≤ length (allPlacements Ms)
-    inside = let h = ends-within 0 Ms at there in omega arith
-
-    placements-are : take (To - From) (drop From (allPlacements Ms)) ≡ Ps
-    placements-are = let e : From - 0 ≡ From = omega arith in ap (λ (k : ℕ). take (To - From) (drop k (allPlacements Ms))) (sym e) ∙ part-is 0 Ms at there
-
-    long : length (take (To - From) (drop From (allPlacements Ms))) ≡ To - From
-    long = omega (arith, length-take (To - From) (drop From (allPlacements Ms)), length-drop From (allPlacements Ms), order, inside)
+    Ps = placementsAt Ms at
 
     numbers-are : part From To (numbersOf w) ≡ numbers Ps
-    numbers-are =
-        ap (λ (l : List ℕ). part From To l) (numbers-stand w Ms few roomy stand)
-        ∙ column-part (λ (p : Placement). p .number) signalLimit From To (allPlacements Ms) order inside
-        ∙ ap numbers placements-are
+    numbers-are = ap (λ (l : List ℕ). part From To l) (numbers-stand w Ms few roomy stand) ∙ part-stands Ms at there (λ (p : Placement). p .number)
 
     starts-are : part From To (startsOf w) ≡ starts Ps
-    starts-are =
-        ap (λ (l : List ℕ). part From To l) (starts-stand w Ms few roomy stand)
-        ∙ column-part (λ (p : Placement). p .start) signalLimit From To (allPlacements Ms) order inside
-        ∙ ap starts placements-are
+    starts-are = ap (λ (l : List ℕ). part From To l) (starts-stand w Ms few roomy stand) ∙ part-stands Ms at there (λ (p : Placement). p .start)
 
     here : messageOf identifier Ms ≡ some (record { identifier = identifier; placements = Ps })
     here =
         message-there identifier Ms (omega arith)
-        ∙ ap (λ (i : ℕ). some (record { identifier = identifier; placements = getD Ms i blank .placements })) (sym first)
+        ∙ ap (λ (i : ℕ). some (record { identifier = identifier; placements = placementsAt Ms i })) (sym first)
 
     both-are : sideBySide (part From To (numbersOf w)) (part From To (startsOf w)) ≡ Ps
     both-are = ap (λ (l : List ℕ). sideBySide l (part From To (startsOf w))) numbers-are ∙ ap (sideBySide (numbers Ps)) starts-are ∙ side-back Ps
 
     -- the ends that stand in the words say where its signals are
     begins-so : getD (0 ∷ endsOf w) at 0 ≡ From
-    begins-so =
-        ap (λ (l : List ℕ). getD (0 ∷ l) at 0) (ends-stand w Ms few roomy stand)
-        ∙ column-before messageLimit at (endsAfter 0 Ms) (omega (arith, length-ends 0 Ms))
+    begins-so = ap (λ (l : List ℕ). getD (0 ∷ l) at 0) (ends-stand w Ms few roomy stand) ∙ begin-stands Ms at there
 
     ends-so : getD (endsOf w) at 0 ≡ To
-    ends-so =
-        ap (λ (l : List ℕ). getD l at 0) (ends-stand w Ms few roomy stand)
-        ∙ column-at messageLimit at (endsAfter 0 Ms) (omega (arith, length-ends 0 Ms))
+    ends-so = ap (λ (l : List ℕ). getD l at 0) (ends-stand w Ms few roomy stand) ∙ end-stands Ms at there
 
     at-is : at ≡ before w identifier
     at-is = first ∙ sym (ap (firstAt identifier) ids-are)
@@ -266,10 +161,10 @@ module _ (w : List ℕ) (t : messagesTaken w ≡ true) where
         record {
           begins = sym begins-so ∙ ap (λ (i : ℕ). getD (0 ∷ endsOf w) i 0) at-is;
           ends = sym ends-so ∙ ap (λ (i : ℕ). getD (endsOf w) i 0) at-is;
-          order = order;
-          inside = omega (arith, inside, roomy);
+          order = order Ms at there;
+          inside = omega (arith, inside Ms at there, roomy);
           found = here ∙ ap (λ (ps : List Placement). some (record { identifier = identifier; placements = ps })) (sym both-are);
-          many = ap length (both-are ∙ sym placements-are) ∙ long;
+          many = ap length both-are ∙ part-long Ms at there;
           same = ap length starts-are ∙ length-map Ps (λ (p : Placement). p .start) ∙ sym (length-map Ps (λ (p : Placement). p .number)) ∙ sym (ap length numbers-are);
           fit = subst⁻¹ AllFit both-are (fit-all (sound-message identifier Ms (record { identifier = identifier; placements = Ps }) is-good here));
         }

@@ -1,9 +1,6 @@
 // The message of a book that has an identifier, and where its signals stand in the columns.
 ghost use mathlib.Core.Path.{_≡_};
 ghost use mathlib.Core.Bool.{true};
-ghost use mathlib.Core.List.{_∷_};
-ghost use Prim.Native.Nat.{_<_};
-ghost use lib.ListN.{length, getD};
 ghost use Rattle.books.specs.Words.{messagesTaken};
 ghost use Rattle.frames.specs.Lookup.{firstAt, Finds};
 use record::BOOK_WORDS;
@@ -29,17 +26,6 @@ fn find(ids: &[u32], identifier: u32) -> usize
     i
 }
 
-// Where the signals of a message begin: at the end of those before it.
-fn begin(ends: &[u32], at: usize) -> usize
-    requires { ⌜ at < length (now ends) ⌝ }
-    ensures { λ r. ⌜ r ≡ getD (0 ∷ now (ends .entry)) at 0 ⌝ }
-{
-    if at == 0 {
-        return 0;
-    }
-    wide(ends[at - 1])
-}
-
 // The signals of the message that has the identifier, in a book whose messages are those of a taken book.
 pub fn find_message(book: &[u32; BOOK_WORDS], identifier: u32) -> Found
     requires { ⌜ messagesTaken (now book) ≡ true ⌝ }
@@ -52,5 +38,5 @@ pub fn find_message(book: &[u32; BOOK_WORDS], identifier: u32) -> Found
         return Found::Nothing;
     }
     let ends = record::ends(book);
-    Found::Signals(begin(ends, at), wide(ends[at]))
+    Found::Signals(columns::begin(ends, at), wide(ends[at]))
 }

@@ -7,11 +7,11 @@ use mathlib.Core.List.{List, [], _∷_}
 use Rattle.chains.specs.Chain.{Chain}
 use Rattle.books.specs.Book.{Book, Route}
 use Rattle.books.specs.Built.{Built, none}
-use Rattle.books.specs.Words.{messagesTaken, messagesOf}
+use Rattle.books.specs.Words.{messagesTaken, messagesOf, RoutesStand}
 use Rattle.books.proofs.Building.{good-built, built-good}
 use Rattle.books.proofs.Columns.{taken-stands, stands-taken}
 use Rattle.reading.specs.Written.{bookText, no-route}
-use Rattle.reading.specs.Taken.{Sound, TakenWith, RoutesStand, MessagesFrom, RoutesFrom}
+use Rattle.reading.specs.Taken.{Sound, TakenWith, MessagesFrom, RoutesFrom}
 use Rattle.reading.proofs.Passing.{read-built}
 use Rattle.reading.proofs.Texts.{text-read, text-short}
 use Rattle.reading.proofs.Counts.{Routed, text-routed}

@@ -1,23 +1,16 @@
 -- When a text is taken, and with what book; and what its lines are counted to. Assumes nothing: these are definitions.
 use mathlib.Core.Path.{_≡_}
 use Prim.Native.Nat.{ℕ, suc, _≤_}
-use mathlib.Core.List.{List, [], _∷_, map}
+use mathlib.Core.List.{List, [], _∷_}
 use lib.ListN.{length}
 use Rattle.record.specs.Limits.{textLimit}
-use Rattle.record.specs.Columns.{routeCountOf, routeColumnsOf}
 use Rattle.line.specs.declared.Line.{Line}
 use Rattle.line.specs.declared.Line.the-variants as line
 use Rattle.chains.specs.Chain.{IsSound}
 use Rattle.books.specs.Book.{Book, Route}
-use Rattle.books.specs.Words.{routeColumns, Stands}
+pub use Rattle.books.specs.Words.{froms, tos}
+use Rattle.books.specs.Words.{Stands, RoutesStand}
 use Rattle.reading.specs.Reading.{passed, linesRead}
-
--- the places that routes lead from, and those they lead to
-abbrev pub froms : List Route → List ℕ
-froms rs = map (λ (r : Route). r .from) rs
-
-abbrev pub tos : List Route → List ℕ
-tos rs = map (λ (r : Route). r .to) rs
 
 -- no closed chain of the routes, and no two different chains that join the same two places
 abbrev pub Sound : List Route → Type 0
@@ -29,11 +22,6 @@ pub record TakenWith (text : List ℕ) (b : Book) : Type 0 where
   pub at : List ℕ
   pub read : linesRead text ≡ passed b at
   pub sound : Sound (b .routes)
-
--- the routes stand in the words: their count and their columns. The messages are not asked.
-pub record RoutesStand (w : List ℕ) (rs : List Route) : Type 0 where
-  pub count : routeCountOf w ≡ length rs
-  pub columns : routeColumnsOf w ≡ routeColumns rs
 
 -- "that of no taken book" (12): tables are those of a taken book where some text is taken with a book whose tables they are.
 -- The message and signal tables:

@@ -1,15 +1,15 @@
 -- The words of a book as three counts and six columns, and one word of a column stored. Assumes nothing.
 use mathlib.Core.Path.{_≡_, refl, sym, ap, _∙_}
-use mathlib.Core.List.{List, [], _∷_, _++_, map, append-assoc}
+use mathlib.Core.List.{List, [], _∷_, _++_, append-assoc}
 use Prim.Native.Nat.{ℕ, suc, _+_, _-_, _<_}
 use native.Mathlib.Nat.{zero-add, suc-add}
 use native.Mathlib.Omega.{arith}
 use lib.ListN.{length, set, replicate, length-append}
 use lib.Seq.{set-append-left, set-append-seam, append-snoc}
 use Rattle.record.specs.Columns.{messageCountAt, signalCountAt, routeCountAt, idsAt, endsAt, numbersAt, startsAt, fromsAt, tosAt}
-use Rattle.books.specs.Book.{Route, Book, allPlacements}
+use Rattle.books.specs.Book.{Book, allPlacements}
 use Rattle.books.specs.Lines.{messageLimit, signalLimit, routeLimit}
-use Rattle.books.specs.Words.{column, idColumn, endColumn, numberColumn, startColumn, messageColumns, routeColumns, wordsOf}
+use Rattle.books.specs.Words.{column, idColumn, endColumn, numberColumn, startColumn, messageColumns, fromColumn, toColumn, routeColumns, wordsOf}
 
 -- ---- a column with one entry more
 
@@ -42,12 +42,6 @@ set-part p c r n i v e h = set-past-at p (c ++ r) n i v e ∙ ap (λ (l : List �
 -- three counts and six columns, one after the other
 pub flat : ℕ → ℕ → ℕ → List ℕ → List ℕ → List ℕ → List ℕ → List ℕ → List ℕ → List ℕ
 flat m s r a b c d e f = m ∷ s ∷ r ∷ (a ++ (b ++ (c ++ (d ++ (e ++ f)))))
-
-abbrev pub fromColumn : List Route → List ℕ
-fromColumn rs = column routeLimit (map (λ (r : Route). r .from) rs)
-
-abbrev pub toColumn : List Route → List ℕ
-toColumn rs = column routeLimit (map (λ (r : Route). r .to) rs)
 
 pub words-flat : (b : Book) → wordsOf b ≡ flat (length (b .messages)) (length (allPlacements (b .messages))) (length (b .routes))
     (idColumn (b .messages)) (endColumn (b .messages)) (numberColumn (b .messages)) (startColumn (b .messages)) (fromColumn (b .routes)) (toColumn (b .routes))

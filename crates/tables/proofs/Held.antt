@@ -1,93 +1,46 @@
 -- What the columns say in words that hold a book. Assumes nothing.
-use mathlib.Core.Path.{_≡_, refl, sym, ap, _∙_, subst}
-use mathlib.Core.List.{List, [], _∷_, _++_, map, append-assoc}
-use Prim.Native.Nat.{ℕ, _+_, _-_, _≤_, _<_}
+use mathlib.Core.Path.{_≡_, sym, ap, _∙_, subst}
+use mathlib.Core.List.{List, [], _∷_}
+use Prim.Native.Nat.{ℕ, _-_, _≤_, _<_}
 use native.Mathlib.Nat.{zero-add}
 use native.Mathlib.Omega.{arith}
-use lib.ListN.{length, take, drop, getD, replicate, length-append, length-map}
-use lib.Seq.{take-at, drop-at, getD-at}
-use borrow.Author.Tests.{le-ltb}
+use lib.ListN.{length, take, drop, getD, length-map}
 use Rattle.books.specs.Book.{Placement, Message, Book, identifiers, numbers, allPlacements, lastPlacements}
-use Rattle.books.specs.Lines.{messageLimit, signalLimit}
-use Rattle.books.specs.Words.{column, endsAfter, endColumn, numberColumn, messageColumns, routeColumns, wordsOf, messagesOf, Stands}
-use Rattle.books.proofs.Ends.{map-append, last-placements, last}
-use Rattle.books.proofs.Columns.{take-column, length-ends, columns-long, ids-stand, ends-stand, numbers-stand, shows}
-use Rattle.record.specs.Columns.{messageWords, messageCountOf, signalCountOf, routeCountOf, idsOf, endsOf, numbersOf}
-use Rattle.tables.specs.Adding.{Holds, lastBegin}
-use Rattle.tables.proofs.Longer.{all-last, ends-last}
+use Rattle.books.specs.Lines.{messageLimit}
+use Rattle.books.specs.Words.{endColumn, numberColumn, messagesOf, Stands, RoutesStand}
+use Rattle.books.proofs.Columns.{take-column, ids-stand, ends-stand, numbers-stand, shows, words-stand}
+use Rattle.books.proofs.RouteColumns.{words-routes}
+use Rattle.books.proofs.Parts.{beginOf, endOf, order, part-stands, begin-stands, last-end, last-at}
+use Rattle.record.specs.Columns.{messageCountOf, signalCountOf, routeCountOf, idsOf, endsOf, numbersOf}
+use Rattle.tables.specs.Adding.{Holds}
 
--- what stands past the first part of a column's entries
-rest-of-column {ℓ} : {A : Type ℓ} (k n e : ℕ) (f : A → ℕ) (l r : List A) → n ≡ length l → e ≡ length (l ++ r) → take (e - n) (drop n (column k (map f (l ++ r)))) ≡ map f r
-unfolding column
-rest-of-column k n e f l r p q =
-    let z : List ℕ = replicate (k - length (map f (l ++ r))) 0 in
-    let whole : map f (l ++ r) ++ z ≡ map f l ++ (map f r ++ z) = ap (λ (x : List ℕ). x ++ z) (map-append f l r) ∙ append-assoc (map f l) (map f r) z in
-    let m : length (map f l) ≡ n = length-map l f ∙ sym p in
-    let g : length (map f r) ≡ e - n = omega (arith, length-map r f, length-append l r) in
-    ap (λ (x : List ℕ). take (e - n) (drop n x)) whole ∙ ap (take (e - n)) (drop-at (map f l) (map f r ++ z) n m) ∙ take-at (map f r) z (e - n) g
+-- where the signals of the last message begin
+abbrev Begin : List Message → ℕ
+Begin ms = getD (0 ∷ endColumn ms) (length ms - 1) 0
 
--- the last message begins where the one before it ends, and the first at 0
-begin-second : (n : ℕ) (ends : List ℕ) → 2 ≤ n → lastBegin n ends ≡ getD ends (n - 2) 0
-unfolding lastBegin
-begin-second n ends h = rw (le-ltb n 2 h)
-
-column-at : (k : ℕ) (l : List ℕ) (x y n : ℕ) → length l ≡ n → getD (column k ((l ++ (x ∷ [])) ++ (y ∷ []))) n 0 ≡ x
-unfolding column
-column-at k l x y n e = simp append-assoc (getD-at l x (y ∷ replicate (k - length (l ++ (x ∷ y ∷ []))) 0) 0 n e)
-
-begin-next : (front : List Message) (k m : Message)
-    → lastBegin (length ((front ++ (k ∷ [])) ++ (m ∷ []))) (endColumn ((front ++ (k ∷ [])) ++ (m ∷ []))) ≡ length (allPlacements (front ++ (k ∷ [])))
-begin-next front k m =
-    let before = front ++ (k ∷ []) in
-    let all = length (before ++ (m ∷ [])) in
-    let t = 0 + length (allPlacements before) in
-    let u = 0 + length (allPlacements (before ++ (m ∷ []))) in
-    let e : endsAfter 0 (before ++ (m ∷ [])) ≡ (endsAfter 0 front ++ (t ∷ [])) ++ (u ∷ []) =
-    ends-last 0 before m ∙ ap (λ (l : List ℕ). l ++ (u ∷ [])) (ends-last 0 front k)
-    in
-    let two : 2 ≤ all = omega (arith, length-append before (m ∷ []), length-append front (k ∷ [])) in
-    let at : length (endsAfter 0 front) ≡ all - 2 = omega (arith, length-append before (m ∷ []), length-append front (k ∷ []), length-ends 0 front) in
-    begin-second all (endColumn (before ++ (m ∷ []))) two ∙ ap (λ (l : List ℕ). getD (column messageLimit l) (all - 2) 0) e ∙
-    column-at messageLimit (endsAfter 0 front) t u (all - 2) at ∙ zero-add (length (allPlacements before))
-
-begin-last : (before : List Message) (m : Message) → lastBegin (length (before ++ (m ∷ []))) (endColumn (before ++ (m ∷ []))) ≡ length (allPlacements before)
-unfolding lastBegin allPlacements
-begin-last [] m = refl
-begin-last (x ∷ xs) m =
-    let l = last x xs in
-    subst (λ (ms : List Message). lastBegin (length (ms ++ (m ∷ []))) (endColumn (ms ++ (m ∷ []))) ≡ length (allPlacements ms)) (sym (l .whole)) (begin-next (l .before) (l .last) m)
-
--- the last message's part of the numbers
+-- its part of the numbers, which is the last
 record Part (ms : List Message) : Type 0 where
-  first : lastBegin (length ms) (endColumn ms) ≤ length (allPlacements ms)
-  numbers-part : take (length (allPlacements ms) - lastBegin (length ms) (endColumn ms)) (drop (lastBegin (length ms) (endColumn ms)) (numberColumn ms)) ≡ numbers (lastPlacements ms)
-
-part-last : (before : List Message) (m : Message) → Part (before ++ (m ∷ []))
-part-last before m =
-    let ms = before ++ (m ∷ []) in
-    let b = begin-last before m in
-    let all = all-last before m in
-    record {
-      first = omega (arith, b, ap length all, length-append (allPlacements before) (m .placements));
-      numbers-part = rw (last-placements before m)
-          (ap (λ (ps : List Placement). take (length (allPlacements ms) - lastBegin (length ms) (endColumn ms)) (drop (lastBegin (length ms) (endColumn ms)) (column signalLimit (numbers ps)))) all ∙
-          rest-of-column signalLimit (lastBegin (length ms) (endColumn ms)) (length (allPlacements ms)) (λ (p : Placement). p .number) (allPlacements before) (m .placements) b (ap length all));
-    }
+  first : Begin ms ≤ length (allPlacements ms)
+  numbers-part : take (length (allPlacements ms) - Begin ms) (drop (Begin ms) (numberColumn ms)) ≡ numbers (lastPlacements ms)
 
 part : (ms : List Message) → 0 < length ms → Part ms
 part [] h = absurd (omega arith)
-part (x ∷ xs) h = let l = last x xs in subst Part (sym (l .whole)) (part-last (l .before) (l .last))
+part (m ∷ ms) h =
+    let there : length ms < length (m ∷ ms) = omega arith in
+    let at : length (m ∷ ms) - 1 ≡ length ms = omega arith in
+    let b : Begin (m ∷ ms) ≡ beginOf 0 (m ∷ ms) (length ms) = ap (λ (i : ℕ). getD (0 ∷ endColumn (m ∷ ms)) i 0) at ∙ begin-stands (m ∷ ms) (length ms) there in
+    let e : length (allPlacements (m ∷ ms)) ≡ endOf 0 (m ∷ ms) (length ms) = sym (last-end 0 m ms ∙ zero-add (length (allPlacements (m ∷ ms)))) in
+    record {
+      first = omega (arith, b, e, order (m ∷ ms) (length ms) there);
+      numbers-part = rw (b, e) (part-stands (m ∷ ms) (length ms) there (λ (p : Placement). p .number)) ∙ ap numbers (last-at m ms);
+    }
 
 module _ (w : List ℕ) (b : Book) (h : Holds w b) where
   stands : Stands w (b .messages)
-  unfolding wordsOf
-  stands =
-      subst (λ (v : List ℕ). Stands v (b .messages)) (sym (h .words))
-      (record {
-        messages = refl;
-        signals = refl;
-        columns = take-at (messageColumns (b .messages)) (routeColumns (b .routes)) messageWords (columns-long (b .messages) (h .within .messages) (h .within .signals));
-      })
+  stands = subst (λ (v : List ℕ). Stands v (b .messages)) (sym (h .words)) (words-stand b (h .within .messages) (h .within .signals))
+
+  pub routes-stand : RoutesStand w (b .routes)
+  routes-stand = subst (λ (v : List ℕ). RoutesStand v (b .routes)) (sym (h .words)) (words-routes b (h .within .messages) (h .within .signals) (h .within .routes))
 
   pub messages-shown : messagesOf w ≡ b .messages
   messages-shown = shows w (b .messages) (h .within .messages) (h .within .signals) stands
@@ -99,8 +52,7 @@ module _ (w : List ℕ) (b : Book) (h : Holds w b) where
   signals-held = stands .signals
 
   pub routes-held : routeCountOf w ≡ length (b .routes)
-  unfolding wordsOf
-  routes-held = ap routeCountOf (h .words)
+  routes-held = routes-stand .count
 
   pub ids-held : take (messageCountOf w) (idsOf w) ≡ identifiers (b .messages)
   ids-held =
@@ -111,11 +63,11 @@ module _ (w : List ℕ) (b : Book) (h : Holds w b) where
   ends-held = ends-stand w (b .messages) (h .within .messages) (h .within .signals) stands
 
   -- the last message's signals
-  module _ (m s f : ℕ) (em : m ≡ messageCountOf w) (es : s ≡ signalCountOf w) (ef : f ≡ lastBegin m (endsOf w)) (some : 0 < m) where
+  module _ (m s f : ℕ) (em : m ≡ messageCountOf w) (es : s ≡ signalCountOf w) (ef : f ≡ getD (0 ∷ endsOf w) (m - 1) 0) (some : 0 < m) where
     some-held : 0 < length (b .messages)
     some-held = rw (em ∙ messages-held) at some
 
-    begins : f ≡ lastBegin (length (b .messages)) (endColumn (b .messages))
+    begins : f ≡ Begin (b .messages)
     begins = ef ∙ rw (em ∙ messages-held, ends-held)
 
     pub last-in : f ≤ s

@@ -14,7 +14,7 @@ unfolding allPlacements
 all-one m = append-nil (m .placements)
 
 -- the placements of messages that end with m
-pub all-last : (ms : List Message) (m : Message) → allPlacements (ms ++ (m ∷ [])) ≡ allPlacements ms ++ m .placements
+all-last : (ms : List Message) (m : Message) → allPlacements (ms ++ (m ∷ [])) ≡ allPlacements ms ++ m .placements
 all-last ms m = all-append ms (m ∷ []) ∙ ap (λ (l : List Placement). allPlacements ms ++ l) (all-one m)
 
 pub ends-last : (n : ℕ) (ms : List Message) (m : Message) → endsAfter n (ms ++ (m ∷ [])) ≡ endsAfter n ms ++ ((n + length (allPlacements (ms ++ (m ∷ [])))) ∷ [])

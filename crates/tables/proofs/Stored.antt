@@ -8,11 +8,11 @@ use lib.ListN.{length, set, length-append, length-map, length-set}
 use Rattle.record.specs.Columns.{messageCountAt, signalCountAt, routeCountAt, idsAt, endsAt, numbersAt, startsAt, fromsAt, tosAt}
 use Rattle.books.specs.Book.{Placement, Message, Route, Book, identifiers, numbers, allPlacements, fresh, withPlacement, inLast, withMessage, withRoute}
 use Rattle.books.specs.Lines.{messageLimit, signalLimit, routeLimit}
-use Rattle.books.specs.Words.{column, starts, endsAfter, idColumn, endColumn, numberColumn, startColumn, wordsOf}
+use Rattle.books.specs.Words.{column, starts, endsAfter, idColumn, endColumn, numberColumn, startColumn, fromColumn, toColumn, wordsOf}
 use Rattle.books.proofs.Ends.{map-append, in-last, last}
 use Rattle.books.proofs.Columns.{length-column, length-ends, ids-long, ends-long, numbers-long, starts-long}
 use Rattle.tables.specs.Adding.{Within}
-use Rattle.tables.proofs.Flat.{fromColumn, toColumn, words-flat, column-more, column-last, set-messages, set-signals, set-routes, set-ids, set-ends, set-numbers, set-starts, set-froms, set-tos}
+use Rattle.tables.proofs.Flat.{words-flat, column-more, column-last, set-messages, set-signals, set-routes, set-ids, set-ends, set-numbers, set-starts, set-froms, set-tos}
 use Rattle.tables.proofs.Longer.{ends-last, placements-stay, ends-more, identifiers-stay, placements-more}
 
 -- a column of what f reads off each of a list, with one more

@@ -4,8 +4,8 @@ use mathlib.Core.Bool.{Bool, true, false, _&&_}
 use mathlib.Core.List.{List, [], _++_}
 use Prim.Native.Nat.{ℕ, _+_, _-_, _≤_, _<_}
 use native.Mathlib.Omega.{arith}
-use lib.ListN.{length, take, drop, replicate, length-drop, length-map, take-append-drop}
-use lib.Seq.{length-take-le, take-add, drop-drop, drop-at}
+use lib.ListN.{length, take, drop, replicate, length-drop, length-map}
+use lib.Seq.{length-take-le, take-add, drop-drop}
 use borrow.Author.Tests.{le-leb}
 use Rattle.books.specs.Book.{Placement, Message, identifiers, numbers, allPlacements}
 use Rattle.books.specs.Good.{goodFrom, good}
@@ -13,7 +13,7 @@ use Rattle.books.specs.Lines.{messageLimit, signalLimit}
 use Rattle.books.specs.Words.{column, starts, endsAfter, idColumn, endColumn, numberColumn, startColumn, messageColumns, sideBySide, messagesOf, messagesTaken, Stands}
 use Rattle.books.proofs.Tests.{both, with}
 use Rattle.books.proofs.Sides.{side-back, side-length, side-numbers, side-starts}
-use Rattle.books.proofs.Columns.{take-column, length-ends, within, ids-stand, ends-stand, numbers-stand, starts-stand, taken-stands, stands-taken}
+use Rattle.books.proofs.Columns.{take-column, past-column, filled, length-ends, within, ids-stand, ends-stand, numbers-stand, starts-stand, taken-stands, stands-taken}
 use Rattle.columns.specs.Identifiers.{distinctAfter}
 use Rattle.record.specs.Columns.{idsAt, endsAt, numbersAt, messageCountOf, signalCountOf, idsOf, endsOf, numbersOf, startsOf, messageColumnsOf}
 use Rattle.zeros.specs.Zeros.{zeros}
@@ -23,14 +23,12 @@ use Rattle.tables.proofs.Parted.{shown-ids, shown-ends, shown-all, show
 
 -- ---- a column whose rest is 0
 column-zero : (k n : ℕ) (l : List ℕ) → length l ≡ k → n ≤ k → zeros (drop n l) ≡ true → l ≡ column k (take n l)
-unfolding column
 column-zero k n l e h z =
-    let d : length (drop n l) ≡ k - length (take n l) = omega (arith, length-drop n l, length-take-le n l (omega arith)) in
-    sym (take-append-drop n l) ∙ ap (λ (r : List ℕ). take n l ++ r) (zeros-are (drop n l) z ∙ ap (λ (j : ℕ). replicate j 0) d)
+    let d : length (drop n l) ≡ k - n = omega (arith, length-drop n l) in
+    filled k n l e h (zeros-are (drop n l) z ∙ ap (λ (j : ℕ). replicate j 0) d)
 
 zero-column : (k n : ℕ) (l : List ℕ) → length l ≡ n → zeros (drop n (column k l)) ≡ true
-unfolding column
-zero-column k n l e = ap zeros (drop-at l (replicate (k - length l) 0) n e) ∙ are-zeros (k - length l)
+zero-column k n l e = ap zeros (past-column k n l e) ∙ are-zeros (k - n)
 
 -- the four columns are one after the other
 columns-whole : (w : List ℕ) → messageColumnsOf w ≡ idsOf w ++ (endsOf w ++ (numbersOf w ++ startsOf w))

@@ -1,10 +1,8 @@
 -- One line more in a book's words: what is answered, and what the words are then. Assumes nothing: these are definitions.
 use mathlib.Core.Path.{_≡_}
-use Prim.Native.Nat.{ℕ, zero, suc, _≤_, _-_}
-use mathlib.Core.Bool.{cond}
-use lib.Dec.{ltb}
+use Prim.Native.Nat.{ℕ, zero, suc, _≤_}
 use mathlib.Core.List.{List}
-use lib.ListN.{length, getD}
+use lib.ListN.{length}
 use Rattle.answers.specs.Numbers.{number}
 use Rattle.books.specs.Book.{Placement, Book, numbers, allPlacements, lastPlacements, withSignal}
 use Rattle.books.specs.Lines.{signalRefusal, messageLimit, signalLimit, routeLimit}
@@ -63,7 +61,3 @@ pub record SignalJudged (b : Book) (p : Placement) (r : Placed) (w : List ℕ) :
 pub record Earlier (column : List ℕ) (f : Filled) (ps : List Placement) : Type 0 where
   pub listed : numbers ps ≡ column
   pub fills : Fills ps f
-
--- where the signals of the last message begin, by the ends of all
-unfoldable pub lastBegin : ℕ → List ℕ → ℕ
-lastBegin count ends = cond (ltb count 2) 0 (getD ends (count - 2) 0)

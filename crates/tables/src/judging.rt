@@ -1,16 +1,16 @@
 // Whether a line may be added, by what the book holds already.
 ghost use mathlib.Core.Path.{_≡_};
 ghost use mathlib.Core.Bool.{_||_};
-ghost use mathlib.Core.List.{List};
-ghost use Prim.Native.Nat.{_≤_, _<_};
+ghost use mathlib.Core.List.{List, _∷_};
+ghost use Prim.Native.Nat.{_-_, _≤_, _<_};
 ghost use lib.Dec.{leb};
-ghost use lib.ListN.{take};
+ghost use lib.ListN.{take, getD};
 ghost use Rattle.rows.specs.Rule.{mostBits};
 ghost use Rattle.catalogue.specs.Find.{bitsOf};
 ghost use Rattle.books.specs.Book.{Placement, Book, placement};
 ghost use Rattle.books.specs.Lines.{isIn, afterRefusal, signalRefusal, messageLimit, busLimit, identifierLimit, startLimit};
 ghost use Rattle.record.specs.Columns.{idsOf, endsOf};
-ghost use Rattle.tables.specs.Adding.{OfKept, Kept, Earlier, refusalOf, lastBegin};
+ghost use Rattle.tables.specs.Adding.{OfKept, Kept, Earlier, refusalOf};
 use crate::Added;
 use answers::Refusal;
 use placing::Filled;
@@ -41,17 +41,12 @@ pub fn has_message(book: &[u32; BOOK_WORDS], count: u32, identifier: u32) -> boo
     columns::holds(&ids[..n], identifier)
 }
 
-// Where the signals of the last of the messages begin: where the message before it ends.
+// Where the signals of the last of the messages begin.
 fn last_begin(book: &[u32; BOOK_WORDS], messages: u32) -> usize
-    requires { ⌜ messages ≤ messageLimit ⌝ }
-    ensures { λ r. ⌜ r ≡ lastBegin messages (endsOf (now (book .entry))) ⌝ }
+    requires { ⌜ (0 < messages) × (messages ≤ messageLimit) ⌝ }
+    ensures { λ r. ⌜ r ≡ getD (0 ∷ endsOf (now (book .entry))) (messages - 1) 0 ⌝ }
 {
-    if messages < 2 {
-        return 0;
-    }
-    let ends = record::ends(book);
-    let at = wide(messages) - 2;
-    wide(ends[at])
+    columns::begin(record::ends(book), wide(messages) - 1)
 }
 
 // A signal of the catalogue, after those before it in its message, which have filled so much, where the book has `count` signals.

@@ -30,7 +30,7 @@ wide-requires : tie.Need-wide-requires
 wide-requires c κs = search needs
 
 last-begin-requires : tie.Need-last-begin-requires
-last-begin-requires c κs = omega (arith, c .before .before .before .message-count .ensures, messages-held _ (c .before .before .before .before .before .before .pre .0 .0) (c .before .before .before .before .before .before .pre .0 .1 .holds), c .before .before .before .before .before .before .pre .0 .1 .holds .within .messages)
+last-begin-requires c κs = (pos-of-ne-zero (c .before .before .if3 .left), omega (arith, c .before .before .before .message-count .ensures, messages-held _ (c .before .before .before .before .before .before .pre .0 .0) (c .before .before .before .before .before .before .pre .0 .1 .holds), c .before .before .before .before .before .before .pre .0 .1 .holds .within .messages))
 
 numbers-requires : tie.Need-numbers-requires
 numbers-requires c κs = search needs

@@ -1,10 +1,9 @@
--- `frames::lookup::begin` meets its contract: the signals of a message begin where those before it end.
--- Assumes nothing.
+-- `columns::begin` meets its contract: the signals of a message begin where those before it end. Assumes nothing.
 use mathlib.Core.Path.{_∙_}
-use Rattle.frames.proofs.Lookups.{one-before}
+use Rattle.columns.proofs.Laws.{one-before}
 use borrow.Author.Needs.{needs}
-use Rattle.frames.proofs.lookup.begin.Statement.{statement}
-use Rattle.frames.proofs.lookup.begin.Tie as tie
+use Rattle.columns.proofs.begin.Statement.{statement}
+use Rattle.columns.proofs.begin.Tie as tie
 
 returns : tie.Need-returns
 returns c = search needs
