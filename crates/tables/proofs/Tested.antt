@@ -17,7 +17,7 @@ use Rattle.books.proofs.Columns.{take-column, length-ends, within, ids-stand, e
 use Rattle.columns.specs.Identifiers.{distinctAfter}
 use Rattle.record.specs.Columns.{idsAt, endsAt, numbersAt, messageCountOf, signalCountOf, idsOf, endsOf, numbersOf, startsOf, messageColumnsOf}
 use Rattle.zeros.specs.Zeros.{zeros}
-use Rattle.zeros.proofs.Laws.{zeros-are, are-zeros}
+use Rattle.zeros.proofs.Gathering.{zeros-are, are-zeros}
 use Rattle.tables.specs.Testing.{parted}
 use Rattle.tables.proofs.Parted.{shown-ids, shown-ends, shown-all, shown-good, good-parted, good-distinct}
 
