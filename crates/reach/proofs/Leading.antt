@@ -1,7 +1,7 @@
 -- Masks that are real, and to which all routes have handed on, say what each route leads on to. Assumes nothing.
 use mathlib.Core.Path.{_≡_, refl, sym, ap, _∙_, subst}
 use mathlib.Core.Logic.{⊎-elim}
-use mathlib.Core.Bool.{true, false, _||_}
+use mathlib.Core.Bool.{true, false, _||_, true≢false}
 use Prim.Native.Nat.{ℕ, zero, suc, _+_, _<_, _≤_}
 use native.Mathlib.Omega.{arith}
 use mathlib.Core.List.{List, [], _∷_}
@@ -14,7 +14,7 @@ use Rattle.masks.specs.Bit.{bit}
 use Rattle.masks.proofs.Bits.{bit-zero}
 use Rattle.chains.specs.Chain.{Walk, LeadsOn}
 use Rattle.chains.specs.Tests.{Tells}
-use Rattle.chains.proofs.Bools.{true-false, or-cases, or-left, or-right, test-tells}
+use Rattle.chains.proofs.Bools.{or-cases, or-left, or-right, test-tells}
 use Rattle.reach.specs.Led.{Led, Filled}
 use Rattle.reach.specs.Handing.{Real, Settled}
 use Rattle.reach.proofs.Handed.{as-walk}
@@ -31,7 +31,7 @@ bit-empty n x k = ap (λ (m : ℕ). bit m k) (empty n x) ∙ bit-zero k
 module _ (starts ends : List ℕ) where
   pub real-start : (n : ℕ) → Real starts ends (replicate n 0)
   unfolding Real
-  real-start n x y h = absurd (true-false h (bit-empty n x y))
+  real-start n x y h = absurd (true≢false (sym h ∙ bit-empty n x y))
 
   module _ (m : List ℕ) (is : Settled starts ends m) where
     -- where a walk goes from the end of route i is among what the route hands on
