@@ -130,6 +130,10 @@ never e = absurd (let z : _≡_ {A = ℕ} 0 1 = cc in omega arith)
 from-digits : (b : ℕ) (t : List ℕ) (n : ℕ) → length t < 5 → needlessZero (b ∷ t) ≡ false → NumeralText 10 (b ∷ t) (suc (length t)) n
     → DecimalWritten (b ∷ t) n
 unfolding digitsOf
+
+pub length-decimal : (n : ℕ) → n < decimalLimit → length (decimalText n) ≤ decimalDigits
+unfolding decimalText
+length-decimal n h = rw (length-digits 10 (decimalWidth n) n) (width-few n h)
 from-digits b t n f z w =
     of-wide (b ∷ t) n (length t) (wide-of (length t) n f (w .fits) (not-less b t n z (ap (λ (l : List ℕ). getD l 0 0) (w .text)))) (w .text)
 
@@ -148,5 +152,5 @@ decimal-written (b ∷ t) n e = go (ltb (suc (length t)) 1) (ltb 5 (suc (length 
         from-digits b t n few z (numeral-written 10 (omega arith) (omega arith) (b ∷ t) (suc (length t)) n refl e)
 
 -- no more digits are written than can be read
-pub width-few : (n : ℕ) → n < decimalLimit → decimalWidth n ≤ decimalDigits
+width-few : (n : ℕ) → n < decimalLimit → decimalWidth n ≤ decimalDigits
 width-few n h = let s : Some n = some-width n h in omega (arith, s .wide .width, s .wide .few)
