@@ -19,7 +19,7 @@ use Rattle.books.proofs.Ends.{in-last, Last, last, count-last, length-more}
 use Rattle.reading.specs.Reading.{passed, refusalOf, withLine, numberedWith, readFrom, meanings, linesRead}
 use Rattle.reading.specs.Written.{Places, no-route, route}
 use Rattle.reading.specs.Taken.{mLines, sLines, rLinesFrom}
-use Rattle.reading.proofs.Passing.{went, same-book}
+use Rattle.reading.proofs.Passing.{went, same-book, text-kept}
 use Rattle.reading.proofs.Writes.{no-message, between}
 
 -- what is counted of a book that lines give after the book b: each count grows by the lines of its kind
@@ -115,18 +115,11 @@ routed-with b (line.Signal n s) h e = h
 routed-with b (line.Route x i y j) h e = routed-route (b .routes) x i y j h e
 routed-with b line.IllFormed h e = h
 
-routed-on : (n : ℕ) (b : Book) (at : List ℕ) (ls : List Line) {c : Book} {to : List ℕ} → Routed (b .routes) → readFrom n b at ls ≡ passed c to → Routed (c .routes)
-unfolding readFrom
-routed-on n b at [] h e = subst (λ (x : Book). Routed (x .routes)) (same-book e) h
-routed-on n b at (l ∷ ls) h e =
-    let w = went (refusalOf b l) n (readFrom (suc n) (withLine b l) (numberedWith at n l) ls) e in
-    routed-on (suc n) (withLine b l) (numberedWith at n l) ls (routed-with b l h (w .taken)) (w .after)
-
 -- of a text
 pub text-counted : (text : List ℕ) {c : Book} {to : List ℕ} → linesRead text ≡ passed c to → Counted 1 noBook [] (meanings text) c to
 unfolding linesRead
 text-counted text e = counted 1 noBook [] (meanings text) e
 
 pub text-routed : (text : List ℕ) {c : Book} {to : List ℕ} → linesRead text ≡ passed c to → Routed (c .routes)
-unfolding linesRead
-text-routed text e = routed-on 1 noBook [] (meanings text) (record { few = omega arith; places = no-route }) e
+text-routed text e =
+    text-kept (λ b ls. Routed (b .routes)) (λ b l ls r h. routed-with b l h r) text e (record { few = omega arith; places = no-route })
