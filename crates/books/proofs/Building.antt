@@ -67,12 +67,12 @@ record Kept (ms : List Message) : Type 0 where
 none-of : (a b : Bool) → a ≡ false → b ≡ false → not (a || b) ≡ true
 none-of a b e f = rw (e, f) refl
 
--- a refusal list of an `M` line not-refused
-record Message-taken (ms : List Message) (i : ℕ) : Type 0 where
-  fresh-one : Fresh (identifiers ms) i ≡ true
-  few : length ms < messageLimit
+-- what an `M` line that is taken tells, and an `S` line
+pub record Message-taken (ms : List Message) (i : ℕ) : Type 0 where
+  pub fresh-one : Fresh (identifiers ms) i ≡ true
+  pub few : length ms < messageLimit
 
-message-taken : (ms : List Message) (i : ℕ) → messageRefusal ms i ≡ 0 → Message-taken ms i
+pub message-taken : (ms : List Message) (i : ℕ) → messageRefusal ms i ≡ 0 → Message-taken ms i
 unfolding messageRefusal
 message-taken ms i e =
     let a = not-refused (leb identifierLimit i) 2 _ e in
@@ -86,12 +86,12 @@ taken-message ms i t =
     let n = neither (leb identifierLimit i) (isIn i (identifiers ms)) (t .fresh-one) in
     no-refusal _ 3 _ (n .0) (no-refusal _ 5 _ (n .1) (no-refusal _ 9 0 (lt-leb _ _ (t .few)) refl))
 
-record Signal-taken (ms : List Message) (p : Placement) : Type 0 where
-  there : length ms ≡ 0 → ⊥
-  fits : Fits (lastPlacements ms) p ≡ true
-  room : length (allPlacements ms) < signalLimit
+pub record Signal-taken (ms : List Message) (p : Placement) : Type 0 where
+  pub there : length ms ≡ 0 → ⊥
+  pub fits : Fits (lastPlacements ms) p ≡ true
+  pub room : length (allPlacements ms) < signalLimit
 
-signal-taken : (ms : List Message) (p : Placement) → signalRefusal ms p ≡ 0 → Signal-taken ms p
+pub signal-taken : (ms : List Message) (p : Placement) → signalRefusal ms p ≡ 0 → Signal-taken ms p
 unfolding signalRefusal afterRefusal
 signal-taken ms p e =
     let a = not-refused (unknownOrOver p) 2 _ e in

@@ -1,5 +1,5 @@
 -- What lines that pass are counted to: the book's counts are counts of lines, and the line numbers kept are those of the R lines. Assumes nothing.
-use mathlib.Core.Path.{_≡_, sym, ap, _∙_, subst}
+use mathlib.Core.Path.{_≡_, ap, _∙_}
 use Prim.Native.Nat.{ℕ, suc, _+_, _≤_, _<_}
 use native.Mathlib.Omega.{arith}
 use native.Mathlib.Nat.{add-suc}
@@ -12,10 +12,10 @@ use Rattle.line.specs.declared.Line.{Line}
 use Rattle.line.specs.declared.Line.the-variants as line
 use Rattle.record.specs.Limits.{identifierLimit}
 use Rattle.record.specs.Place.{placeKey, placeLimit, key-fits}
-use Rattle.books.specs.Book.{Book, Message, Placement, Route, noBook, fresh, inLast, withPlacement, allPlacements}
+use Rattle.books.specs.Book.{Book, Message, Placement, Route, noBook, fresh, inLast, allPlacements}
 use Rattle.books.specs.Lines.{routeRefusal, signalRefusal, busLimit, routeLimit}
 use Rattle.books.proofs.Tests.{not-refused, both-false}
-use Rattle.books.proofs.Ends.{in-last, Last, last, count-last, length-more}
+use Rattle.books.proofs.Ends.{count-last, length-more, one-more}
 use Rattle.reading.specs.Reading.{passed, refusalOf, withLine, numberedWith, readFrom, meanings, linesRead}
 use Rattle.reading.specs.Written.{Places, no-route, route}
 use Rattle.reading.specs.Taken.{mLines, sLines, rLinesFrom}
@@ -33,16 +33,7 @@ pub record Counted (n : ℕ) (b : Book) (at : List ℕ) (ls : List Line) (c : Bo
 one-signal : (ms : List Message) (p : Placement) → signalRefusal ms p ≡ 0
     → (length (inLast ms p) ≡ length ms) × (length (allPlacements (inLast ms p)) ≡ length (allPlacements ms) + 1)
 one-signal [] p e = absurd (no-message p e)
-one-signal (m ∷ ms) p e = go (last m ms)
-  where
-    at : (x : List Message) (l : Message) → (length (inLast (x ++ (l ∷ [])) p) ≡ length (x ++ (l ∷ []))) × (length (allPlacements (inLast (x ++ (l ∷ [])) p)) ≡ length (allPlacements (x ++ (l ∷ []))) + 1)
-    at x l = rw in-last (
-      omega (arith, length-more x (withPlacement l p), length-more x l),
-      omega (arith, count-last x (withPlacement l p), count-last x l, length-more (l .placements) p),
-    )
-
-    go : Last (m ∷ ms) → (length (inLast (m ∷ ms) p) ≡ length (m ∷ ms)) × (length (allPlacements (inLast (m ∷ ms) p)) ≡ length (allPlacements (m ∷ ms)) + 1)
-    go r = subst (λ (l : List Message). (length (inLast l p) ≡ length l) × (length (allPlacements (inLast l p)) ≡ length (allPlacements l) + 1)) (sym (r .whole)) (at (r .before) (r .last))
+one-signal (m ∷ ms) p e = one-more (m ∷ ms) p (omega arith)
 
 -- what follows a line is counted on from it
 module _ (n : ℕ) (b : Book) (at : List ℕ) (ls : List Line) {c : Book} {to : List ℕ} where
