@@ -31,7 +31,7 @@ use Rattle.frames.proofs.lookup.find_message as find-message
 use Rattle.frames.proofs.read as read
 use Rattle.frames.proofs.pack as pack
 
--- the three slices as a pair of lists and a list
+-- the three slices as three lists
 parts : Slices → List ℕ × (List ℕ × List ℤ)
 parts s = (s .raws, (s .classes, s .thousandths))
 
@@ -39,7 +39,7 @@ same-parts : (s t : Slices) → parts s ≡ parts t → s ≡ t
 unfolding parts
 same-parts s t e = λ i. record { raws = e i .0; classes = e i .1 .0; thousandths = e i .1 .1 }
 
-codedSlices : Coded Slices
+pub codedSlices : Coded Slices
 codedSlices = codedVia (coded× (codedList codedℕ) (coded× (codedList codedℕ) (codedList codedℤ))) parts same-parts
 
 module _ {M : Type 1} (𝓤 : URA M) (H : Heap 𝓤) (A : Atoms 𝓤) (mem : Memory → SProp 𝓤) (run : Routine → Fun 𝓤) where
