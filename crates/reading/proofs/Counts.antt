@@ -2,7 +2,7 @@
 use mathlib.Core.Path.{_≡_, ap, _∙_}
 use Prim.Native.Nat.{ℕ, suc, _+_, _≤_, _<_}
 use native.Mathlib.Omega.{arith}
-use native.Mathlib.Nat.{add-suc}
+use native.Mathlib.Nat.{add-suc, pos-of-ne-zero}
 use mathlib.Core.Bool.{_||_}
 use mathlib.Core.List.{List, [], _∷_, _++_, append-assoc, append-nil}
 use lib.ListN.{length}
@@ -12,15 +12,16 @@ use Rattle.line.specs.declared.Line.{Line}
 use Rattle.line.specs.declared.Line.the-variants as line
 use Rattle.record.specs.Limits.{identifierLimit}
 use Rattle.record.specs.Place.{placeKey, placeLimit, key-fits}
-use Rattle.books.specs.Book.{Book, Message, Placement, Route, noBook, fresh, inLast, allPlacements}
-use Rattle.books.specs.Lines.{routeRefusal, signalRefusal, busLimit, routeLimit}
+use Rattle.books.specs.Book.{Book, Message, Placement, Route, noBook, fresh, allPlacements}
+use Rattle.books.specs.Lines.{routeRefusal, busLimit, routeLimit}
 use Rattle.books.proofs.Tests.{not-refused, both-false}
 use Rattle.books.proofs.Ends.{count-last, length-more, one-more}
+use Rattle.books.proofs.Building.{signal-taken}
 use Rattle.reading.specs.Reading.{passed, refusalOf, withLine, numberedWith, readFrom, meanings, linesRead}
 use Rattle.reading.specs.Written.{Places, no-route, route}
 use Rattle.reading.specs.Taken.{mLines, sLines, rLinesFrom}
 use Rattle.reading.proofs.Passing.{went, same-book, text-kept}
-use Rattle.reading.proofs.Writes.{no-message, between}
+use Rattle.reading.proofs.Writes.{between}
 
 -- what is counted of a book that lines give after the book b: each count grows by the lines of its kind
 pub record Counted (n : ℕ) (b : Book) (at : List ℕ) (ls : List Line) (c : Book) (to : List ℕ) : Type 0 where
@@ -28,12 +29,6 @@ pub record Counted (n : ℕ) (b : Book) (at : List ℕ) (ls : List Line) (c : Bo
   pub signals : length (allPlacements (c .messages)) ≡ length (allPlacements (b .messages)) + sLines ls
   pub routes : length (c .routes) ≡ length (b .routes) + length (rLinesFrom n ls)
   pub numbers : to ≡ at ++ rLinesFrom n ls
-
--- an S line adds one placement, and no message
-one-signal : (ms : List Message) (p : Placement) → signalRefusal ms p ≡ 0
-    → (length (inLast ms p) ≡ length ms) × (length (allPlacements (inLast ms p)) ≡ length (allPlacements ms) + 1)
-one-signal [] p e = absurd (no-message p e)
-one-signal (m ∷ ms) p e = one-more (m ∷ ms) p (omega arith)
 
 -- what follows a line is counted on from it
 module _ (n : ℕ) (b : Book) (at : List ℕ) (ls : List Line) {c : Book} {to : List ℕ} where
@@ -46,7 +41,8 @@ module _ (n : ℕ) (b : Book) (at : List ℕ) (ls : List Line) {c : Book} {to : 
     numbers = k .numbers;
   }
   after (line.Signal m s) e k =
-      let one = one-signal (b .messages) (record { number = m; start = s }) e in
+      let p : Placement = record { number = m; start = s } in
+      let one = one-more (b .messages) p (pos-of-ne-zero (signal-taken (b .messages) p e .there)) in
       record {
         messages = omega (arith, k .messages, one .0);
         signals = omega (arith, k .signals, one .1, add-suc (length (allPlacements (b .messages))) (sLines ls));
