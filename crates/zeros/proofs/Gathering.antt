@@ -38,3 +38,9 @@ pub are-zeros : (n : ℕ) → zeros (replicate n 0) ≡ true
 unfolding zeros
 are-zeros zero = refl
 are-zeros (suc n) = are-zeros n
+
+-- each of them is 0, and so is what stands past them
+pub zero-at : (n i : ℕ) → getD {A = ℕ} (replicate n 0) i 0 ≡ 0
+zero-at zero i = refl
+zero-at (suc n) zero = refl
+zero-at (suc n) (suc i) = zero-at n i
