@@ -1,6 +1,6 @@
 -- Messages that pass the test are those that lines build. Assumes nothing.
 use mathlib.Core.Path.{_≡_, refl, sym, ap, _∙_, subst}
-use mathlib.Core.Bool.{Bool, true, false, _&&_, _||_, not}
+use mathlib.Core.Bool.{Bool, true, false, _&&_, _||_, not, and-true, and-assoc, and-eq-true-iff}
 use Prim.Native.Nat.{ℕ, _+_, _≤_, _<_}
 use native.Mathlib.Omega.{arith}
 use mathlib.Core.List.{List, [], _∷_, _++_, append-assoc, append-nil}
@@ -11,7 +11,7 @@ use Rattle.books.specs.Book.{Placement, Message, identifiers, numbers, a
 use Rattle.books.specs.Lines.{isIn, unknownOrOver, misplaced, meetsEarlier, messageRefusal, afterRefusal, signalRefusal, identifierLimit, messageLimit, signalLimit}
 use Rattle.books.specs.Built.{Built, none, message, signal}
 use Rattle.books.specs.Good.{goodAfter, goodFrom, good}
-use Rattle.books.proofs.Tests.{both, with, neither, nor, not-refused, no-refusal}
+use Rattle.books.proofs.Tests.{neither, nor, not-refused, no-refusal}
 use Rattle.books.proofs.Ends.{map-append, all-append, all-one, count-last, length-more, in-last, last-placements, Last, last}
 
 -- what the test says of one placement after those before it
@@ -21,33 +21,20 @@ Fits before p = not (unknownOrOver p || (isIn (p .number) (numbers before) || (m
 abbrev Fresh : List ℕ → ℕ → Bool
 Fresh before i = not (leb identifierLimit i || isIn i before)
 
-and-end : (a b c : Bool) → (a && b) && c ≡ a && (b && c)
-and-end true b c = refl
-and-end false b c = refl
-
 -- one placement more at the end
 after-more : (before ps : List Placement) (p : Placement) → goodAfter before (ps ++ (p ∷ [])) ≡ goodAfter before ps && Fits (before ++ ps) p
 unfolding goodAfter
-after-more before [] p = rw append-nil (go (Fits before p))
-  where
-    go : (b : Bool) → b && true ≡ b
-    go true = refl
-    go false = refl
+after-more before [] p = rw append-nil (and-true (Fits before p))
 after-more before (q ∷ ps) p =
     ap (λ (t : Bool). Fits before q && t)
     (after-more (before ++ (q ∷ [])) ps p ∙ ap (λ (l : List Placement). goodAfter (before ++ (q ∷ [])) ps && Fits l p) (append-assoc before (q ∷ []) ps)) ∙
-    sym (and-end (Fits before q) (goodAfter (before ++ (q ∷ [])) ps) (Fits (before ++ (q ∷ ps)) p))
+    sym (and-assoc (Fits before q) (goodAfter (before ++ (q ∷ [])) ps) (Fits (before ++ (q ∷ ps)) p))
 
 -- one message more at the end
 from-more : (before : List ℕ) (ms : List Message) (m : Message)
     → goodFrom before (ms ++ (m ∷ [])) ≡ goodFrom before ms && (Fresh (before ++ identifiers ms) (m .identifier) && goodAfter [] (m .placements))
 unfolding goodFrom
-from-more before [] m = rw append-nil (go (Fresh before (m .identifier)) (goodAfter [] (m .placements)))
-  where
-    go : (a b : Bool) → a && (b && true) ≡ a && b
-    go true true = refl
-    go true false = refl
-    go false b = refl
+from-more before [] m = rw append-nil (ap (λ (t : Bool). Fresh before (m .identifier) && t) (and-true (goodAfter [] (m .placements))))
 from-more before (x ∷ ms) m =
     ap (λ (t : Bool). Fresh before (x .identifier) && (goodAfter [] (x .placements) && t))
     (from-more (before ++ (x .identifier ∷ [])) ms m ∙
@@ -57,20 +44,18 @@ from-more before (x ∷ ms) m =
     (Fresh (before ++ (x .identifier ∷ identifiers ms)) (m .identifier) && goodAfter [] (m .placements))
   where
     go : (a b c d : Bool) → a && (b && (c && d)) ≡ (a && (b && c)) && d
-    go true true c d = refl
-    go true false c d = refl
-    go false b c d = refl
+    go a b c d = ap (λ (t : Bool). a && t) (sym (and-assoc b c d)) ∙ sym (and-assoc a (b && c) d)
 
 -- the last message with one placement more
 last-more : (before : List Message) (m : Message) (p : Placement)
     → goodFrom [] (before ++ (m ∷ [])) ≡ true → Fits (m .placements) p ≡ true → goodFrom [] (before ++ (withPlacement m p ∷ [])) ≡ true
 last-more before m p h f =
-    let a = both (goodFrom [] before) (Fresh (identifiers before) (m .identifier) && goodAfter [] (m .placements)) (sym (from-more [] before m) ∙ h) in
-    let b = both (Fresh (identifiers before) (m .identifier)) (goodAfter [] (m .placements)) (a .1) in
+    let a = and-eq-true-iff (goodFrom [] before) (Fresh (identifiers before) (m .identifier) && goodAfter [] (m .placements)) .0 (sym (from-more [] before m) ∙ h) in
+    let b = and-eq-true-iff (Fresh (identifiers before) (m .identifier)) (goodAfter [] (m .placements)) .0 (a .1) in
+    let c = after-more [] (m .placements) p ∙ and-eq-true-iff (goodAfter [] (m .placements)) (Fits (m .placements) p) .1 (b .1, f) in
     from-more [] before (withPlacement m p) ∙
-    with (goodFrom [] before) (Fresh (identifiers before) (m .identifier) && goodAfter [] (m .placements ++ (p ∷ []))) (a .0)
-    (with (Fresh (identifiers before) (m .identifier)) (goodAfter [] (m .placements ++ (p ∷ []))) (b .0)
-    (after-more [] (m .placements) p ∙ with (goodAfter [] (m .placements)) (Fits (m .placements) p) (b .1) f))
+    and-eq-true-iff (goodFrom [] before) (Fresh (identifiers before) (m .identifier) && goodAfter [] (m .placements ++ (p ∷ []))) .1
+    (a .0, and-eq-true-iff (Fresh (identifiers before) (m .identifier)) (goodAfter [] (m .placements ++ (p ∷ []))) .1 (b .0, c))
 
 -- what holds of messages that lines build
 record Kept (ms : List Message) : Type 0 where
@@ -82,12 +67,12 @@ record Kept (ms : List Message) : Type 0 where
 none-of : (a b : Bool) → a ≡ false → b ≡ false → not (a || b) ≡ true
 none-of a b e f = rw (e, f) refl
 
--- a refusal list of an `M` line not-refused
-record Message-taken (ms : List Message) (i : ℕ) : Type 0 where
-  fresh-one : Fresh (identifiers ms) i ≡ true
-  few : length ms < messageLimit
+-- what an `M` line that is taken tells, and an `S` line
+pub record Message-taken (ms : List Message) (i : ℕ) : Type 0 where
+  pub fresh-one : Fresh (identifiers ms) i ≡ true
+  pub few : length ms < messageLimit
 
-message-taken : (ms : List Message) (i : ℕ) → messageRefusal ms i ≡ 0 → Message-taken ms i
+pub message-taken : (ms : List Message) (i : ℕ) → messageRefusal ms i ≡ 0 → Message-taken ms i
 unfolding messageRefusal
 message-taken ms i e =
     let a = not-refused (leb identifierLimit i) 2 _ e in
@@ -101,12 +86,12 @@ taken-message ms i t =
     let n = neither (leb identifierLimit i) (isIn i (identifiers ms)) (t .fresh-one) in
     no-refusal _ 3 _ (n .0) (no-refusal _ 5 _ (n .1) (no-refusal _ 9 0 (lt-leb _ _ (t .few)) refl))
 
-record Signal-taken (ms : List Message) (p : Placement) : Type 0 where
-  there : length ms ≡ 0 → ⊥
-  fits : Fits (lastPlacements ms) p ≡ true
-  room : length (allPlacements ms) < signalLimit
+pub record Signal-taken (ms : List Message) (p : Placement) : Type 0 where
+  pub there : length ms ≡ 0 → ⊥
+  pub fits : Fits (lastPlacements ms) p ≡ true
+  pub room : length (allPlacements ms) < signalLimit
 
-signal-taken : (ms : List Message) (p : Placement) → signalRefusal ms p ≡ 0 → Signal-taken ms p
+pub signal-taken : (ms : List Message) (p : Placement) → signalRefusal ms p ≡ 0 → Signal-taken ms p
 unfolding signalRefusal afterRefusal
 signal-taken ms p e =
     let a = not-refused (unknownOrOver p) 2 _ e in
@@ -137,7 +122,7 @@ taken-signal ms p t =
 kept-message : (ms : List Message) (i : ℕ) → Kept ms → Message-taken ms i → Kept (ms ++ (fresh i ∷ []))
 unfolding goodAfter
 kept-message ms i k t = record {
-  each = from-more [] ms (fresh i) ∙ with (goodFrom [] ms) (Fresh (identifiers ms) i && true) (k .each) (with (Fresh (identifiers ms) i) true (t .fresh-one) refl);
+  each = from-more [] ms (fresh i) ∙ and-eq-true-iff (goodFrom [] ms) (Fresh (identifiers ms) i && true) .1 (k .each, and-eq-true-iff (Fresh (identifiers ms) i) true .1 (t .fresh-one, refl));
   few = omega (arith, length-more ms (fresh i), k .few, t .few);
   room = omega (arith, count-last ms (fresh i), k .room);
 }
@@ -166,7 +151,7 @@ pub built-good : {ms : List Message} → Built ms → good ms ≡ true
 unfolding good
 built-good {ms} b =
     let k = kept b in
-    with (goodFrom [] ms) _ (k .each) (with (leb (length ms) messageLimit) _ (le-leb _ _ (k .few)) (le-leb _ _ (k .room)))
+    and-eq-true-iff (goodFrom [] ms) _ .1 (k .each, and-eq-true-iff (leb (length ms) messageLimit) _ .1 (le-leb _ _ (k .few), le-leb _ _ (k .room)))
 
 -- the placements of a message, one after the other
 build-placements : (ms : List Message) (i : ℕ) (before ps : List Placement)
@@ -177,7 +162,7 @@ unfolding goodAfter
 build-placements ms i before [] b g r = rw append-nil b
 build-placements ms i before (p ∷ ps) b g r =
     let m : Message = record { identifier = i; placements = before } in
-    let h = both (Fits before p) (goodAfter (before ++ (p ∷ [])) ps) g in
+    let h = and-eq-true-iff (Fits before p) (goodAfter (before ++ (p ∷ [])) ps) .0 g in
     let t : Signal-taken (ms ++ (m ∷ [])) p = record {
       there = λ z. omega (arith, length-more ms m, z);
       fits = rw last-placements (h .0);
@@ -192,8 +177,8 @@ build-from : (ms ns : List Message) → Built ms → goodFrom (identifiers ms) n
 unfolding goodFrom
 build-from ms [] b g l r = rw append-nil b
 build-from ms (m ∷ ns) b g l r =
-    let h = both (Fresh (identifiers ms) (m .identifier)) _ g in
-    let k = both (goodAfter [] (m .placements)) _ (h .1) in
+    let h = and-eq-true-iff (Fresh (identifiers ms) (m .identifier)) _ .0 g in
+    let k = and-eq-true-iff (goodAfter [] (m .placements)) _ .0 (h .1) in
     let t : Message-taken ms (m .identifier) = record { fresh-one = h .0; few = omega arith } in
     let count : length (allPlacements (m ∷ ns)) ≡ length (m .placements) + length (allPlacements ns) = count-first m ns in
     let one = build-placements ms (m .identifier) [] (m .placements) (message (m .identifier) b (taken-message ms (m .identifier) t)) (k .0) (omega (arith, count, r)) in
@@ -208,6 +193,6 @@ build-from ms (m ∷ ns) b g l r =
 pub good-built : (ms : List Message) → good ms ≡ true → Built ms
 unfolding good allPlacements
 good-built ms g =
-    let a = both (goodFrom [] ms) _ g in
-    let b = both (leb (length ms) messageLimit) _ (a .1) in
+    let a = and-eq-true-iff (goodFrom [] ms) _ .0 g in
+    let b = and-eq-true-iff (leb (length ms) messageLimit) _ .0 (a .1) in
     build-from [] ms none (a .0) (omega (arith, leb-true (length ms) messageLimit (b .0))) (omega (arith, leb-true (length (allPlacements ms)) signalLimit (b .1)))

@@ -1,7 +1,7 @@
 -- Messages in words, and back: what stands in words is what they show, and the test behind refusal 12 says when words are those of a taken book.
 -- Assumes nothing.
 use mathlib.Core.Path.{_≡_, refl, sym, ap, _∙_}
-use mathlib.Core.Bool.{true}
+use mathlib.Core.Bool.{true, and-eq-true-iff}
 use Prim.Native.Nat.{ℕ, zero, suc, _+_, _-_, _≤_}
 use native.Mathlib.Omega.{arith}
 use mathlib.Core.List.{List, [], _∷_, _++_}
@@ -15,7 +15,6 @@ use Rattle.books.specs.Lines.{messageLimit, signalLimit}
 use Rattle.books.specs.Built.{Built}
 use Rattle.books.specs.Good.{good, goodFrom}
 use Rattle.books.specs.Words.{column, idColumn, endColumn, numberColumn, startColumn, starts, endsAfter, messageColumns, routeColumns, wordsOf, shown, messagesOf, same, messagesTaken, Stands}
-use Rattle.books.proofs.Tests.{both, with}
 use Rattle.books.proofs.Building.{good-built, built-good}
 use Rattle.books.proofs.Sides.{side-back}
 
@@ -143,12 +142,12 @@ unfolding same
 same-equal [] [] e = refl
 same-equal [] (y ∷ m) e = let z : _≡_ {A = ℕ} 0 1 = cc in absurd (omega arith)
 same-equal (x ∷ l) [] e = let z : _≡_ {A = ℕ} 0 1 = cc in absurd (omega arith)
-same-equal (x ∷ l) (y ∷ m) e = let h = both (eqb x y) (same l m) e in let a = eqb-true x y (h .0) in let b = same-equal l m (h .1) in cc
+same-equal (x ∷ l) (y ∷ m) e = let h = and-eq-true-iff (eqb x y) (same l m) .0 e in let a = eqb-true x y (h .0) in let b = same-equal l m (h .1) in cc
 
 equal-same : (l : List ℕ) → same l l ≡ true
 unfolding same
 equal-same [] = refl
-equal-same (x ∷ l) = with (eqb x x) (same l l) (eq-eqb x x refl) (equal-same l)
+equal-same (x ∷ l) = and-eq-true-iff (eqb x x) (same l l) .1 (eq-eqb x x refl, equal-same l)
 
 -- what holds of messages that pass the test
 pub record Within (ms : List Message) : Type 0 where
@@ -158,8 +157,8 @@ pub record Within (ms : List Message) : Type 0 where
 pub within : (ms : List Message) → good ms ≡ true → Within ms
 unfolding good
 within ms g =
-    let a = both (goodFrom [] ms) _ g in
-    let b = both (leb (length ms) messageLimit) _ (a .1) in
+    let a = and-eq-true-iff (goodFrom [] ms) _ .0 g in
+    let b = and-eq-true-iff (leb (length ms) messageLimit) _ .0 (a .1) in
     record { few = leb-true _ _ (b .0); room = leb-true _ _ (b .1) }
 
 -- words that pass the test are those of the messages that they show, which lines build
@@ -167,9 +166,9 @@ pub taken-stands : (w : List ℕ) → messagesTaken w ≡ true → Stands w (mes
 unfolding messagesTaken
 taken-stands w e =
     let ms = messagesOf w in
-    let a = both _ (good ms) e in
-    let b = both (eqb (messageCountOf w) (length ms)) _ (a .0) in
-    let c = both (eqb (signalCountOf w) (length (allPlacements ms))) _ (b .1) in
+    let a = and-eq-true-iff _ (good ms) .0 e in
+    let b = and-eq-true-iff (eqb (messageCountOf w) (length ms)) _ .0 (a .0) in
+    let c = and-eq-true-iff (eqb (signalCountOf w) (length (allPlacements ms))) _ .0 (b .1) in
     (record { messages = eqb-true _ _ (b .0); signals = eqb-true _ _ (c .0); columns = same-equal _ _ (c .1) }, a .1)
 
 -- and words in which good messages stand pass it
@@ -177,9 +176,13 @@ pub stands-taken : (w : List ℕ) (ms : List Message) → Stands w ms → good m
 unfolding messagesTaken
 stands-taken w ms s g =
     rw (shows w ms (within ms g .few) (within ms g .room) s)
-    (with _ (good ms)
-    (with (eqb (messageCountOf w) (length ms)) _ (eq-eqb _ _ (s .messages))
-    (with (eqb (signalCountOf w) (length (allPlacements ms))) _ (eq-eqb _ _ (s .signals)) (rw (s .columns) (equal-same (messageColumns ms))))) g)
+    (and-eq-true-iff _ (good ms) .1 (
+      and-eq-true-iff (eqb (messageCountOf w) (length ms)) _ .1 (
+        eq-eqb _ _ (s .messages),
+        and-eq-true-iff (eqb (signalCountOf w) (length (allPlacements ms))) _ .1 (eq-eqb _ _ (s .signals), rw (s .columns) (equal-same (messageColumns ms))),
+      ),
+      g,
+    ))
 
 -- the words of a book have its messages
 pub words-stand : (b : Book) → length (b .messages) ≤ messageLimit → length (allPlacements (b .messages)) ≤ signalLimit → Stands (wordsOf b) (b .messages)

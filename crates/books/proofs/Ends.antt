@@ -1,6 +1,7 @@
 -- One message or one placement more at the end of a book's messages. Assumes nothing.
-use mathlib.Core.Path.{_≡_, refl, sym, ap, _∙_}
-use Prim.Native.Nat.{_+_}
+use mathlib.Core.Path.{_≡_, refl, sym, ap, _∙_, subst}
+use Prim.Native.Nat.{_+_, _<_}
+use native.Mathlib.Omega.{arith}
 use mathlib.Core.List.{List, [], _∷_, _++_, map, append-assoc, append-nil}
 use lib.ListN.{length, length-append}
 use Rattle.books.specs.Book.{Placement, Message, allPlacements, withPlacement, inLast, lastPlacements}
@@ -47,3 +48,15 @@ pub record Last (ms : List Message) : Type 0 where
 pub last : (m : Message) (ms : List Message) → Last (m ∷ ms)
 last m [] = record { before = []; last = m; whole = refl }
 last m (n ∷ ms) = let r = last n ms in record { before = m ∷ (r .before); last = r .last; whole = ap (_∷_ m) (r .whole) }
+
+-- one signal more, in the last message
+pub one-more : (ms : List Message) (p : Placement) → 0 < length ms
+    → (length (inLast ms p) ≡ length ms) × (length (allPlacements (inLast ms p)) ≡ length (allPlacements ms) + 1)
+one-more [] p h = absurd (omega arith)
+one-more (x ∷ xs) p h =
+    let r = last x xs in
+    subst (λ (ms : List Message). (length (inLast ms p) ≡ length ms) × (length (allPlacements (inLast ms p)) ≡ length (allPlacements ms) + 1)) (sym (r .whole))
+    (rw (in-last (r .before) (r .last) p) (
+      omega (arith, length-more (r .before) (withPlacement (r .last) p), length-more (r .before) (r .last)),
+      omega (arith, count-last (r .before) (withPlacement (r .last) p), count-last (r .before) (r .last), length-more (r .last .placements) p),
+    ))

@@ -1,9 +1,8 @@
 -- Each count belongs to one class of its row and no other; a mark wins over the range. Assumes nothing.
 use mathlib.Core.Path.{_≡_, refl, sym, ap, _∙_, subst}
-use mathlib.Core.Bool.{Bool, true, false, cond, _&&_}
+use mathlib.Core.Bool.{Bool, true, false, cond, true≢false, and-eq-true-iff}
 use mathlib.Core.Option.{Option, none, some}
 use Prim.Native.Nat.{ℕ, _^_, _≤_, _<_}
-use native.Mathlib.Omega.{arith}
 use lib.Dec.{leb}
 use borrow.Author.Tests.{leb-true, le-leb, lt-leb}
 use Rattle.rows.specs.declared.Mark.{Mark}
@@ -19,15 +18,11 @@ use Rattle.catalogue.proofs.Found.{RuleOf, rule-of}
 
 -- ---- the test of an interval
 
-both : (a b : Bool) → a && b ≡ true → (a ≡ true) × (b ≡ true)
-both true b e = (refl, e)
-both false b e = (e, cc)
-
 module _ (first last count : ℕ) where
   yes-between : between first last count ≡ true → Between first last count
   unfolding between
   yes-between e =
-      let p = both (leb first count) (leb count last) e in
+      let p = and-eq-true-iff (leb first count) (leb count last) .0 e in
       (leb-true first count (p .0), leb-true count last (p .1))
 
   is-between : Between first last count → between first last count ≡ true
@@ -42,7 +37,7 @@ module _ (first last count : ℕ) where
       go false e = refl
 
   none-between : between first last count ≡ false → Between first last count → ⊥
-  none-between e h = let z : true ≡ false = sym (is-between h) ∙ e in let q : _≡_ {A = ℕ} 0 1 = cc in omega arith
+  none-between e h = true≢false (sym (is-between h) ∙ e)
 
 -- ---- a count belongs to its class, and to no other
 

@@ -1,21 +1,12 @@
 -- Laws of bools, and of what they tell. Assumes nothing.
 use mathlib.Core.Path.{_≡_, refl, sym}
 use mathlib.Core.Logic.{_⊎_, inl, inr}
-use mathlib.Core.Bool.{Bool, true, false, _||_, _&&_}
-use Prim.Native.Nat.{ℕ}
-use native.Mathlib.Omega.{arith}
+use mathlib.Core.Bool.{Bool, true, false, _||_, true≢false, false≢true}
 use Rattle.chains.specs.Tests.{Tells}
-
-pub true-false : {b : Bool} → b ≡ true → b ≡ false → ⊥
-true-false p q = let z : _≡_ {A = ℕ} 0 1 = cc in omega arith
 
 pub or-cases : (a b : Bool) → a || b ≡ true → (a ≡ true) ⊎ (b ≡ true)
 or-cases true b e = inl refl
 or-cases false b e = inr e
-
-pub and-parts : (a b : Bool) → a && b ≡ true → (a ≡ true) × (b ≡ true)
-and-parts true b e = (refl, e)
-and-parts false b e = (e, (cc))
 
 pub or-left : (a b : Bool) → a ≡ true → a || b ≡ true
 or-left a b e = rw e refl
@@ -23,9 +14,6 @@ or-left a b e = rw e refl
 pub or-right : (a b : Bool) → b ≡ true → a || b ≡ true
 or-right true b e = refl
 or-right false b e = e
-
-pub and-both : (a b : Bool) → a ≡ true → b ≡ true → a && b ≡ true
-and-both a b e f = rw (e, f) refl
 
 -- two tests are the same where each being true makes the other so
 pub same-test : (a b : Bool) → (a ≡ true → b ≡ true) → (b ≡ true → a ≡ true) → a ≡ b
@@ -36,20 +24,20 @@ same-test false false f g = refl
 -- what an answer that tells says
 pub told-yes : {P : Type 0} (r : Bool) → Tells P r → r ≡ true → P
 told-yes true t e = t
-told-yes false t e = absurd (true-false {b = false} e refl)
+told-yes false t e = absurd (false≢true e)
 
 pub told-of : {P : Type 0} (r : Bool) → Tells P r → P → r ≡ true
 told-of true t p = refl
 told-of false t p = absurd (t p)
 
 pub told-no : {P : Type 0} (r : Bool) → Tells P r → r ≡ false → P → ⊥
-told-no true t e = absurd (true-false refl e)
+told-no true t e = absurd (true≢false e)
 told-no false t e = t
 
 -- a test that is true just where P holds tells P
 pub test-tells : {P : Type 0} (r : Bool) → (r ≡ true → P) → (P → r ≡ true) → Tells P r
 test-tells true f g = f refl
-test-tells false f g = λ p. true-false (g p) refl
+test-tells false f g = λ p. false≢true (g p)
 
 -- two that tell the same are the same
 pub told-same : (P : Type 0) (a b : Bool) → Tells P a → Tells P b → a ≡ b

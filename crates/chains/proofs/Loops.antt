@@ -1,13 +1,12 @@
 -- Closed chains, and what a table without one has. Assumes nothing.
-use mathlib.Core.Path.{_≡_, refl, subst}
-use mathlib.Core.Bool.{Bool, true, false}
+use mathlib.Core.Path.{_≡_, refl, sym, _∙_, subst}
+use mathlib.Core.Bool.{Bool, true, false, true≢false}
 use Prim.Native.Nat.{ℕ, _≤_, _<_}
 use mathlib.Core.List.{List, [], _∷_, _++_, List·Memᴰ, List·Memᴰ·head}
 use lib.ListN.{length, getD}
 use Rattle.chains.specs.Chain.{Walk, OnClosed, LoopFree}
 use Rattle.chains.specs.Spread.{Distinct}
 use Rattle.chains.proofs.Walks.{walk-append, Through, through, chain-walk}
-use Rattle.chains.proofs.Bools.{true-false}
 use Rattle.chains.proofs.Reach.{reach, reach-leads, leads-reach}
 use Rattle.chains.proofs.Pigeons.{below-length}
 
@@ -28,7 +27,7 @@ module _ (fs ts : List ℕ) where
 
   pub loop-free : ((i : ℕ) → i < length fs → comesBack i ≡ false) → LoopFree fs ts
   loop-free h p c w = let s = chain-walk fs ts p c p w in
-      let r = closed-back (s .0) (p, s .0 ∷ s .1, s .3, List·Memᴰ·head refl) in true-false (r .1) (h (s .0) (r .0))
+      let r = closed-back (s .0) (p, s .0 ∷ s .1, s .3, List·Memᴰ·head refl) in true≢false (sym (r .1) ∙ h (s .0) (r .0))
 
   -- without closed chains no chain has a route twice, so that it has at most as many routes as the table
   module _ (free : LoopFree fs ts) where

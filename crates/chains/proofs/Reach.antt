@@ -1,7 +1,7 @@
 -- Warshall's rule over the routes, and that it tells which places a route leads on to. Assumes nothing.
 use mathlib.Core.Path.{_≡_, refl, sym, ap, _∙_, subst}
 use mathlib.Core.Logic.{_⊎_, inl, inr, ⊎-elim}
-use mathlib.Core.Bool.{Bool, true, _||_, _&&_}
+use mathlib.Core.Bool.{Bool, true, _||_, _&&_, and-eq-true-iff}
 use Prim.Native.Nat.{ℕ, zero, suc, _≤_, _<_}
 use native.Mathlib.Nat.{eq-or-lt-of-le, le-of-suc-le-suc}
 use native.Mathlib.Omega.{arith}
@@ -11,7 +11,7 @@ use lib.Dec.{eqb}
 use borrow.Author.Tests.{eqb-true, eq-eqb}
 use Rattle.chains.specs.Chain.{Walk, LeadsOn}
 use Rattle.chains.specs.Tests.{Tells}
-use Rattle.chains.proofs.Bools.{or-cases, and-parts, or-left, or-right, and-both, test-tells}
+use Rattle.chains.proofs.Bools.{or-cases, or-left, or-right, test-tells}
 use Rattle.chains.proofs.Walks.{walk-append}
 
 -- all the routes of c are below k
@@ -42,7 +42,7 @@ module _ (fs ts : List ℕ) where
   reach-walk zero i x n e = ([], eqb-true _ _ e, tt)
   reach-walk (suc k) i x n e =
       ⊎-elim (λ h. up (reach-walk k i x (omega arith) h))
-      (λ h. let g = and-parts (reach k i (getD fs k 0)) (reach k k x) h in
+      (λ h. let g = and-eq-true-iff (reach k i (getD fs k 0)) (reach k k x) .0 h in
       via (reach-walk k i (getD fs k 0) (omega arith) (g .0)) (reach-walk k k x (omega arith) (g .1)))
       (or-cases (reach k i x) (reach k i (getD fs k 0) && reach k k x) e)
     where
@@ -76,7 +76,7 @@ module _ (fs ts : List ℕ) where
   walk-reach zero i x (y ∷ c, w, b) = let z : y < 0 = b .0 in absurd (omega arith)
   walk-reach (suc k) i x (c, w, b) =
       ⊎-elim (λ h. or-left (reach k i x) (reach k i (getD fs k 0) && reach k k x) (walk-reach k i x h))
-      (λ h. or-right (reach k i x) (reach k i (getD fs k 0) && reach k k x) (and-both (reach k i (getD fs k 0)) (reach k k x) (walk-reach k i (getD fs k 0) (h .0)) (walk-reach k k x (h .1))))
+      (λ h. or-right (reach k i x) (reach k i (getD fs k 0) && reach k k x) (and-eq-true-iff (reach k i (getD fs k 0)) (reach k k x) .1 (walk-reach k i (getD fs k 0) (h .0), walk-reach k k x (h .1))))
       (cut k i x c w b)
 
   walk-below : (p : ℕ) (c : List ℕ) (q : ℕ) → Walk fs ts p c q → Below (length fs) c

@@ -1,7 +1,7 @@
 -- Doubling as a test that computes, over which routes reach which places, and that it says what it should. Assumes nothing.
 use mathlib.Core.Path.{_≡_, refl, sym, ap, _∙_}
 use mathlib.Core.Logic.{_⊎_, inl, inr, ⊎-elim}
-use mathlib.Core.Bool.{Bool, true, false, not, _||_, _&&_}
+use mathlib.Core.Bool.{Bool, true, false, not, _||_, _&&_, and-eq-true-iff}
 use Prim.Native.Nat.{ℕ, zero, suc, _<_}
 use native.Mathlib.Nat.{eq-or-lt-of-le, le-of-suc-le-suc}
 use native.Mathlib.Omega.{arith}
@@ -12,7 +12,7 @@ use borrow.Author.Tests.{eqb-true, eqb-false, eq-eqb, ne-eqb, not-true}
 use Rattle.chains.specs.Chain.{LeadsOn, LoopFree, BeginsDoubling}
 use Rattle.chains.specs.Tests.{any, First}
 use Rattle.chains.proofs.Walks.{walk-last}
-use Rattle.chains.proofs.Bools.{or-cases, and-parts, or-left, or-right, and-both}
+use Rattle.chains.proofs.Bools.{or-cases, or-left, or-right}
 use Rattle.chains.proofs.Reach.{reach, reach-leads, leads-reach}
 use Rattle.chains.proofs.Forks.{ComesTo, Fork, LeadsToFork, begins-fork, fork-begins}
 
@@ -72,10 +72,10 @@ module _ (fs ts : List ℕ) where
   fork-is : (a b : ℕ) → a < length fs → b < length fs → fork a b ≡ true → Fork fs ts a b
   unfolding fork meetAgain
   fork-is a b la lb e =
-      let g = and-parts (not (eqb a b) && eqb (getD fs a 0) (getD fs b 0)) (meetAgain a b) e in
-      let h = and-parts (not (eqb a b)) (eqb (getD fs a 0) (getD fs b 0)) (g .0) in
+      let g = and-eq-true-iff (not (eqb a b) && eqb (getD fs a 0) (getD fs b 0)) (meetAgain a b) .0 e in
+      let h = and-eq-true-iff (not (eqb a b)) (eqb (getD fs a 0) (getD fs b 0)) .0 (g .0) in
       let r = any-some (length fs) (λ v. reach fs ts (length fs) a (getD ts v 0) && reach fs ts (length fs) b (getD ts v 0)) (g .1) in
-      let k = and-parts (reach fs ts (length fs) a (getD ts (r .0) 0)) (reach fs ts (length fs) b (getD ts (r .0) 0)) (r .2) in
+      let k = and-eq-true-iff (reach fs ts (length fs) a (getD ts (r .0) 0)) (reach fs ts (length fs) b (getD ts (r .0) 0)) .0 (r .2) in
       record {
         first = la;
         second = lb;
@@ -94,16 +94,20 @@ module _ (fs ts : List ℕ) where
   unfolding fork meetAgain
   is-fork a b k =
       let u = end-of a (k .place) (k .first) (k .along-first) in
-      and-both _ _ (and-both _ _ (ap not (ne-eqb a b (k .apart))) (eq-eqb _ _ (k .same)))
-      (some-any (length fs) (λ v. reach fs ts (length fs) a (getD ts v 0) && reach fs ts (length fs) b (getD ts v 0)) (u .0) (u .1)
-      (and-both (reach fs ts (length fs) a (getD ts (u .0) 0)) (reach fs ts (length fs) b (getD ts (u .0) 0))
-      (rw (u .2) (leads-reach fs ts a (k .place) (k .along-first))) (rw (u .2) (leads-reach fs ts b (k .place) (k .along-second)))))
+      let met : reach fs ts (length fs) a (getD ts (u .0) 0) && reach fs ts (length fs) b (getD ts (u .0) 0) ≡ true =
+      and-eq-true-iff (reach fs ts (length fs) a (getD ts (u .0) 0)) (reach fs ts (length fs) b (getD ts (u .0) 0)) .1
+      (rw (u .2) (leads-reach fs ts a (k .place) (k .along-first)), rw (u .2) (leads-reach fs ts b (k .place) (k .along-second)))
+      in
+      and-eq-true-iff _ _ .1 (
+        and-eq-true-iff _ _ .1 (ap not (ne-eqb a b (k .apart)), eq-eqb _ _ (k .same)),
+        some-any (length fs) (λ v. reach fs ts (length fs) a (getD ts v 0) && reach fs ts (length fs) b (getD ts v 0)) (u .0) (u .1) met,
+      )
 
   pub begins-is : (i : ℕ) → i < length fs → begins i ≡ true → BeginsDoubling fs ts i
   unfolding begins
   begins-is i l e =
       let r = any-some (length fs) (λ a. comesTo i a && any (length fs) (λ b. fork a b)) e in
-      let g = and-parts (comesTo i (r .0)) (any (length fs) (λ b. fork (r .0) b)) (r .2) in
+      let g = and-eq-true-iff (comesTo i (r .0)) (any (length fs) (λ b. fork (r .0) b)) .0 (r .2) in
       let s = any-some (length fs) (λ b. fork (r .0) b) (g .1) in
       fork-begins fs ts i l (r .0, s .0, comes-is i (r .0) (g .0), fork-is (r .0) (s .0) (r .1) (s .1) (s .2))
 
@@ -114,4 +118,4 @@ module _ (fs ts : List ℕ) where
       go : LeadsToFork fs ts i → begins i ≡ true
       go (a, b, s, k) =
           some-any (length fs) (λ a. comesTo i a && any (length fs) (λ b. fork a b)) a (k .first)
-          (and-both _ _ (is-comes i a s) (some-any (length fs) (λ b. fork a b) b (k .second) (is-fork a b k)))
+          (and-eq-true-iff _ _ .1 (is-comes i a s, some-any (length fs) (λ b. fork a b) b (k .second) (is-fork a b k)))

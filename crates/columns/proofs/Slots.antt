@@ -13,7 +13,7 @@ use lib.Seq.{drop-cons, take-suc, getD-set-same, getD-set-other}
 use Rattle.books.specs.Lines.{isIn, identifierLimit}
 use Rattle.columns.specs.Identifiers.{distinctAfter}
 use Rattle.columns.specs.Slots.{slotOf}
-use Rattle.columns.proofs.Laws.{absent}
+use Rattle.columns.proofs.Searching.{absent}
 
 module _ (l : List ℕ) (i : ℕ) where
   pub distinct-end : length l ≤ i → distinctAfter (take i l) (drop i l) ≡ true

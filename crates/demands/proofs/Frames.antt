@@ -1,20 +1,20 @@
 -- Demand 2, from a text on: reading and packing by the book of a taken text are reading and packing by the messages that its M and S
 -- lines say. Assumes nothing.
 use mathlib.Core.Path.{_≡_, refl, sym, ap, _∙_}
-use Prim.Native.Nat.{ℕ, suc}
+use Prim.Native.Nat.{ℕ}
 use mathlib.Core.Bool.{true}
 use mathlib.Core.List.{List, [], _∷_, _++_, append-assoc, append-nil}
 use Rattle.line.specs.declared.Line.{Line}
 use Rattle.line.specs.declared.Line.the-variants as line
-use Rattle.books.specs.Book.{Book, Message, Placement, noBook, fresh, inLast, withPlacement}
+use Rattle.books.specs.Book.{Book, Message, Placement, fresh, inLast, withPlacement}
 use Rattle.books.specs.Good.{good}
 use Rattle.books.specs.Words.{messagesOf, messagesTaken, wordsOf, Stands}
 use Rattle.books.proofs.Building.{built-good}
 use Rattle.books.proofs.Columns.{within, shows, stands-taken, words-stand}
 use Rattle.books.proofs.Ends.{in-last}
-use Rattle.reading.specs.Reading.{passed, refusalOf, withLine, numberedWith, readFrom, meanings, linesRead}
+use Rattle.reading.specs.Reading.{passed, withLine, meanings, linesRead}
 use Rattle.reading.specs.Taken.{TakenWith}
-use Rattle.reading.proofs.Passing.{went, same-book, read-built}
+use Rattle.reading.proofs.Passing.{text-kept, read-built}
 use Rattle.framing.specs.Messages.{messageOf}
 use Rattle.framing.specs.Reading.{Slices, readByMessages, reading}
 use Rattle.framing.specs.Packing.{packByMessage, packing}
@@ -51,18 +51,15 @@ messages-with b (line.Signal n s) ls = refl
 messages-with b (line.Route x i y j) ls = refl
 messages-with b line.IllFormed ls = refl
 
-messages-on : (n : ℕ) (b : Book) (at : List ℕ) (ls : List Line) {c : Book} {to : List ℕ} → readFrom n b at ls ≡ passed c to
-    → c .messages ≡ grown (b .messages) (sPlacements ls) ++ mMessages ls
-unfolding readFrom sPlacements mMessages grown
-messages-on n b at [] e = sym (ap (λ (x : Book). x .messages) (same-book e)) ∙ sym (append-nil (b .messages))
-messages-on n b at (l ∷ ls) e =
-    let w = went (refusalOf b l) n (readFrom (suc n) (withLine b l) (numberedWith at n l) ls) e in
-    messages-on (suc n) (withLine b l) (numberedWith at n l) ls (w .after) ∙ messages-with b l ls
-
 -- the messages that the reader keeps are those that the text's M and S lines say
 pub messages-of-text : (text : List ℕ) {b : Book} {at : List ℕ} → linesRead text ≡ passed b at → b .messages ≡ textMessages text
-unfolding linesRead
-messages-of-text text e = messages-on 1 noBook [] (meanings text) e ∙ ap (λ (ms : List Message). ms ++ textMessages text) (grown-none (sPlacements (meanings text)))
+unfolding sPlacements mMessages grown
+messages-of-text text {b} e =
+    let whole = grown [] (sPlacements (meanings text)) ++ mMessages (meanings text) in
+    let kept : grown (b .messages) [] ++ [] ≡ whole =
+    text-kept (λ c ls. grown (c .messages) (sPlacements ls) ++ mMessages ls ≡ whole) (λ c l ls r h. messages-with c l ls ∙ h) text e refl
+    in
+    sym (append-nil (b .messages)) ∙ kept ∙ ap (λ (ms : List Message). ms ++ textMessages text) (grown-none (sPlacements (meanings text)))
 
 module _ (text : List ℕ) (b : Book) (t : TakenWith text b) where
   is-good : good (b .messages) ≡ true

@@ -1,6 +1,6 @@
 -- "its line": the routes that the reader keeps are those of the text's R lines, each with the number of its own line; and these numbers
 -- rise, so the lowest route is on the lowest R line. Assumes nothing.
-use mathlib.Core.Path.{_≡_, refl, sym, ap, _∙_}
+use mathlib.Core.Path.{_≡_, refl, sym, _∙_}
 use Prim.Native.Nat.{ℕ, zero, suc, _≤_, _<_}
 use native.Mathlib.Omega.{arith}
 use mathlib.Core.List.{List, [], _∷_, _++_, append-assoc, append-nil}
@@ -8,10 +8,10 @@ use lib.ListN.{length, getD}
 use Rattle.record.specs.Place.{placeKey}
 use Rattle.line.specs.declared.Line.{Line}
 use Rattle.line.specs.declared.Line.the-variants as line
-use Rattle.books.specs.Book.{Book, noBook}
-use Rattle.reading.specs.Reading.{passed, refusalOf, withLine, numberedWith, readFrom, linesRead, meanings}
+use Rattle.books.specs.Book.{Book}
+use Rattle.reading.specs.Reading.{passed, withLine, linesRead, meanings}
 use Rattle.reading.specs.Taken.{froms, tos, rLinesFrom}
-use Rattle.reading.proofs.Passing.{went, same-book}
+use Rattle.reading.proofs.Passing.{text-kept}
 use Rattle.reading.proofs.Counts.{text-counted}
 use Rattle.demands.specs.Text.{rRoutes, textRoutes, RouteAt}
 
@@ -47,17 +47,11 @@ routes-with b (line.Signal n s) ls = refl
 routes-with b (line.Route x i y j) ls = append-assoc (b .routes) (record { from = placeKey x i; to = placeKey y j } ∷ []) (rRoutes ls)
 routes-with b line.IllFormed ls = refl
 
-routes-on : (n : ℕ) (b : Book) (at : List ℕ) (ls : List Line) {c : Book} {to : List ℕ} → readFrom n b at ls ≡ passed c to → c .routes ≡ b .routes ++ rRoutes ls
-unfolding readFrom rRoutes
-routes-on n b at [] e = sym (ap (λ (x : Book). x .routes) (same-book e)) ∙ sym (append-nil (b .routes))
-routes-on n b at (l ∷ ls) e =
-    let w = went (refusalOf b l) n (readFrom (suc n) (withLine b l) (numberedWith at n l) ls) e in
-    routes-on (suc n) (withLine b l) (numberedWith at n l) ls (w .after) ∙ routes-with b l ls
-
 -- the routes that the reader keeps are those that the text's R lines say
 pub routes-of-text : (text : List ℕ) {b : Book} {at : List ℕ} → linesRead text ≡ passed b at → b .routes ≡ textRoutes text
-unfolding linesRead
-routes-of-text text e = routes-on 1 noBook [] (meanings text) e
+unfolding rRoutes
+routes-of-text text {b} e =
+    sym (append-nil (b .routes)) ∙ text-kept (λ c ls. c .routes ++ rRoutes ls ≡ textRoutes text) (λ c l ls r h. routes-with c l ls ∙ h) text e refl
 
 -- a line more before them
 later : (n : ℕ) (l : Line) (ls : List Line) {k p q : ℕ} → RouteAt (suc n) ls k p q → RouteAt n (l ∷ ls) k p q

@@ -1,8 +1,9 @@
 -- "1922 set means balanced and 1923 is a count: neither is a fault". Whatever they hold, the sum is the same. Assumes nothing.
 use mathlib.Core.Path.{_≡_, refl}
-use mathlib.Core.Bool.{Bool, true, false, not, _&&_}
+use mathlib.Core.Bool.{Bool, not}
 use mathlib.Core.List.{List, [], _∷_}
 use Prim.Native.Nat.{ℕ, _-_}
+use mir.Facts.{and-yes}
 use borrow.Author.Tests.{eq-eqb}
 use lib.Dec.{T, eqb}
 use lib.ListN.{set}
@@ -11,10 +12,6 @@ use Rattle.faults.specs.Rows.{firstRow, toldRow, counted, levelRows, one
 use Rattle.faults.specs.Counts.{at, standsAt, howMany, allOf, anyOf, highestOf}
 use Rattle.faults.specs.Sum.{isEmergency, sumOf}
 
-both : (a b : Bool) → T (a && b) → T a × T b
-both true b h = (tt, h)
-both false b h = absurd h
-
 -- the row's count stands at another place than i
 abbrev away : ℕ → ℕ → Bool
 away i row = not (eqb (row - firstRow) i)
@@ -22,7 +19,7 @@ away i row = not (eqb (row - firstRow) i)
 module _ (counts : List ℕ) (i v : ℕ) where
   split : (row : ℕ) (rs : List ℕ) → T (allOf (away i) (row ∷ rs)) → T (away i row) × T (allOf (away i) rs)
   unfolding allOf
-  split row rs h = both (away i row) (allOf (away i) rs) h
+  split row rs h = and-yes (away i row) (allOf (away i) rs) h
 
   same-count : (row : ℕ) → T (away i row) → at (set counts i v) row ≡ at counts row
   same-count row h = getD-set-other counts i (row - firstRow) v 0 (λ e. rw (eq-eqb (row - firstRow) i e) at h)

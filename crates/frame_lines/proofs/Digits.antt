@@ -1,6 +1,6 @@
 -- Digits one by one, and the bytes that pairs of them write. Assumes nothing.
 use mathlib.Core.Path.{_≡_, refl, ap, _∙_}
-use mathlib.Core.Bool.{Bool, true, false, _&&_}
+use mathlib.Core.Bool.{Bool, true, false, and-eq-true-iff}
 use mathlib.Core.List.{List, [], _∷_}
 use Prim.Native.Nat.{ℕ, zero, suc, _+_, _*_, _%_, _≤_, _<_}
 use native.Mathlib.Omega.{arith}
@@ -11,19 +11,14 @@ use Rattle.numerals.specs.Numeral.{digitValue}
 use Rattle.parts.specs.Joined.{Free, none, more}
 use Rattle.frame_lines.specs.Meaning.{allDigits, bytesIn}
 
--- the first of two tests that both hold, and the second
-both : (a b : Bool) → a && b ≡ true → (a ≡ true) × (b ≡ true)
-both true b e = (refl, e)
-both false b e = (e, absurd (let z : _≡_ {A = ℕ} 0 1 = cc in omega arith))
-
 module _ (b : ℕ) (t : List ℕ) (e : allDigits (b ∷ t) ≡ true) where
   first-digit : digitValue b < 16
   unfolding allDigits
-  first-digit = ltb-true (digitValue b) 16 (both (ltb (digitValue b) 16) (allDigits t) e .0)
+  first-digit = ltb-true (digitValue b) 16 (and-eq-true-iff (ltb (digitValue b) 16) (allDigits t) .0 e .0)
 
   other-digits : allDigits t ≡ true
   unfolding allDigits
-  other-digits = both (ltb (digitValue b) 16) (allDigits t) e .1
+  other-digits = and-eq-true-iff (ltb (digitValue b) 16) (allDigits t) .0 e .1
 
 digit-small : (l : List ℕ) (i : ℕ) → allDigits l ≡ true → i < length l → digitValue (getD l i 0) < 16
 digit-small [] i e h = absurd (omega arith)

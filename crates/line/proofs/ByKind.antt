@@ -44,9 +44,17 @@ module _ (text fields : List ℕ) (y : fields ≡ drop 2 text) where
   after : {a b : ℕ} {t : List ℕ} → text ≡ a ∷ b ∷ t → fields ≡ t
   after e = y ∙ ap (drop 2) e
 
+  -- what follows from every line that the text may start with
+  started : {A : Type 0} → ((l : Line) (rest : List ℕ) → Starts text l rest → A) → (illFormed ≡ firstLine text) ⊎ A
+  started {A} at = by (first-starts text)
+    where
+      by : (illFormed ≡ firstLine text) ⊎ Started text → (illFormed ≡ firstLine text) ⊎ A
+      by (inl e) = inl e
+      by (inr s) = inr (at (s .line) (s .rest) (s .starts))
+
   pub message-or : OfKind 77 text → (illFormed ≡ firstLine text) ⊎ MessageAt fields
   unfolding lineText fieldsOf join
-  message-or k = by (first-starts text)
+  message-or k = started at
     where
       at : (l : Line) (rest : List ℕ) → Starts text l rest → MessageAt fields
       at (Message i) rest s = record { id = i; rest = rest; small = s .writable; same = after (s .same) }
@@ -54,13 +62,9 @@ module _ (text fields : List ℕ) (y : fields ≡ drop 2 text) where
       at (Route a i b j) rest s = other (s .same) (k .kind) (λ e. omega arith)
       at IllFormed rest s = absurd (s .writable)
 
-      by : (illFormed ≡ firstLine text) ⊎ Started text → (illFormed ≡ firstLine text) ⊎ MessageAt fields
-      by (inl e) = inl e
-      by (inr s) = inr (at (s .line) (s .rest) (s .starts))
-
   pub signal-or : OfKind 83 text → (illFormed ≡ firstLine text) ⊎ SignalAt fields
   unfolding lineText fieldsOf join
-  signal-or k = by (first-starts text)
+  signal-or k = started at
     where
       at : (l : Line) (rest : List ℕ) → Starts text l rest → SignalAt fields
       at (Signal n t) rest s =
@@ -69,13 +73,9 @@ module _ (text fields : List ℕ) (y : fields ≡ drop 2 text) where
       at (Route a i b j) rest s = other (s .same) (k .kind) (λ e. omega arith)
       at IllFormed rest s = absurd (s .writable)
 
-      by : (illFormed ≡ firstLine text) ⊎ Started text → (illFormed ≡ firstLine text) ⊎ SignalAt fields
-      by (inl e) = inl e
-      by (inr s) = inr (at (s .line) (s .rest) (s .starts))
-
   pub route-or : OfKind 82 text → (illFormed ≡ firstLine text) ⊎ RouteAt fields
   unfolding lineText fieldsOf join
-  route-or k = by (first-starts text)
+  route-or k = started at
     where
       at : (l : Line) (rest : List ℕ) → Starts text l rest → RouteAt fields
       at (Route a i b j) rest s =
@@ -83,10 +83,6 @@ module _ (text fields : List ℕ) (y : fields ≡ drop 2 text) where
       at (Message i) rest s = other (s .same) (k .kind) (λ e. omega arith)
       at (Signal n t) rest s = other (s .same) (k .kind) (λ e. omega arith)
       at IllFormed rest s = absurd (s .writable)
-
-      by : (illFormed ≡ firstLine text) ⊎ Started text → (illFormed ≡ firstLine text) ⊎ RouteAt fields
-      by (inl e) = inl e
-      by (inr s) = inr (at (s .line) (s .rest) (s .starts))
 
 -- a line begins with its kind and a tab
 data Kind (k : ℕ) : Type 0 where

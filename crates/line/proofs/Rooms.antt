@@ -8,10 +8,9 @@ use lib.ListN.{length, take, drop, length-append}
 use Rattle.numerals.specs.declared.Number.{Number}
 use Rattle.numerals.specs.declared.Number.the-variants.{Is}
 use Rattle.numerals.specs.Numeral.{identifier, decimal}
-use Rattle.numerals.specs.Written.{identifierText, decimalText, decimalWidth}
-use Rattle.numerals.proofs.Digits.{length-digits}
-use Rattle.numerals.proofs.Identifiers.{identifier-read, identifier-written}
-use Rattle.numerals.proofs.Decimals.{decimal-read, decimal-written, width-few}
+use Rattle.numerals.specs.Written.{identifierText, decimalText}
+use Rattle.numerals.proofs.Identifiers.{length-identifier, identifier-read, identifier-written}
+use Rattle.numerals.proofs.Decimals.{length-decimal, decimal-read, decimal-written}
 use Rattle.parts.specs.Joined.{join}
 use Rattle.fields.specs.declared.Front.{Front}
 use Rattle.fields.specs.declared.Front.the-variants.{Found, Nothing}
@@ -56,14 +55,6 @@ identifier-found stop text n k rest e g y =
 
 pub inside : (form : List ℕ → Number) (stop : ℕ) (text : List ℕ) {f : Front} {n k : ℕ} → f ≡ numberBefore form stop text → f ≡ Found n k → k < length text
 inside form stop text {f} {n} {k} e g = found-field form stop text n k (sym g ∙ e) .inside
-
-length-identifier : (n : ℕ) → length (identifierText n) ≡ 8
-unfolding identifierText
-length-identifier n = length-digits 16 8 n
-
-length-decimal : (n : ℕ) → n < 100000 → length (decimalText n) ≤ 5
-unfolding decimalText
-length-decimal n h = rw (length-digits 10 (decimalWidth n) n) (width-few n h)
 
 -- the first two bytes
 whole : (text : List ℕ) {letter : ℕ} → OfKind letter text → text ≡ letter ∷ 9 ∷ drop 2 text

@@ -12,20 +12,16 @@ use lib.Seq.{getD-set-same, getD-set-other}
 use lib.Dec.{eqb}
 use borrow.Author.Count.{below-more}
 use borrow.Author.Tests.{eqb-true, eq-eqb, ne-eqb}
+use Rattle.zeros.proofs.Gathering.{zero-at}
 use Rattle.numbering.specs.Numbers.{FirstAt, Numbered, NumbersOf}
 use Rattle.numbering.specs.Slots.{slotCount, slotOf, stopsAt, seekFrom, seekEnd, Stops, Laid}
 use Rattle.numbering.proofs.Empties.{empties-set, empties-all}
 use Rattle.numbering.proofs.Firsts.{first-at, first-moved}
 
-empty : (n x : ℕ) → getD {A = ℕ} (replicate n 0) x 0 ≡ 0
-empty zero x = refl
-empty (suc n) zero = refl
-empty (suc n) (suc x) = empty n x
-
 laid-start : (places : List ℕ) → Laid places (replicate slotCount 0) 0
 laid-start places = record {
   long = refl;
-  low = λ x. omega (arith, empty slotCount x);
+  low = λ x. omega (arith, zero-at slotCount x);
   room = omega (arith, empties-all slotCount);
   found = λ k r l. absurd (omega arith);
 }

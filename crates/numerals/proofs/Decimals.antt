@@ -20,34 +20,23 @@ pub record Wide (n k : ℕ) : Type 0 where
   pub above : 0 < k → 10 ^ k ≤ n
   pub width : decimalWidth n ≡ suc k
 
-wide-1 : (n : ℕ) → n < 10 → Wide n 0
+width-of : (k n : ℕ) → k < 5 → n < 10 ^ suc k → (0 < k → 10 ^ k ≤ n) → decimalWidth n ≡ suc k
 unfolding decimalWidth
-wide-1 n h = record { few = omega arith; below = h; above = λ p. absurd (omega arith); width = simp (lt-ltb _ _ h) }
+width-of zero n f h l = simp (lt-ltb n 10 h)
+width-of (suc zero) n f h l = simp (le-ltb n 10 (l (omega arith)), lt-ltb n 100 h)
+width-of (suc (suc zero)) n f h l =
+    let b : 100 ≤ n = l (omega arith) in
+    simp (le-ltb n 10 (omega arith), le-ltb n 100 b, lt-ltb n 1000 h)
+width-of (suc (suc (suc zero))) n f h l =
+    let b : 1000 ≤ n = l (omega arith) in
+    simp (le-ltb n 10 (omega arith), le-ltb n 100 (omega arith), le-ltb n 1000 b, lt-ltb n 10000 h)
+width-of (suc (suc (suc (suc zero)))) n f h l =
+    let b : 10000 ≤ n = l (omega arith) in
+    simp (le-ltb n 10 (omega arith), le-ltb n 100 (omega arith), le-ltb n 1000 (omega arith), le-ltb n 10000 b)
+width-of (suc (suc (suc (suc (suc k))))) n f h l = absurd (omega arith)
 
-wide-2 : (n : ℕ) → 10 ≤ n → n < 100 → Wide n 1
-unfolding decimalWidth
-wide-2 n l h = record { few = omega arith; below = h; above = λ p. l; width = simp (le-ltb _ _ l, lt-ltb _ _ h) }
-
-wide-3 : (n : ℕ) → 100 ≤ n → n < 1000 → Wide n 2
-unfolding decimalWidth
-wide-3 n l h =
-    let a : 10 ≤ n = omega arith in
-    record { few = omega arith; below = h; above = λ p. l; width = simp (le-ltb _ _ a, le-ltb _ _ l, lt-ltb _ _ h) }
-
-wide-4 : (n : ℕ) → 1000 ≤ n → n < 10000 → Wide n 3
-unfolding decimalWidth
-wide-4 n l h =
-    let a : 10 ≤ n = omega arith in
-    let b : 100 ≤ n = omega arith in
-    record { few = omega arith; below = h; above = λ p. l; width = simp (le-ltb _ _ a, le-ltb _ _ b, le-ltb _ _ l, lt-ltb _ _ h) }
-
-wide-5 : (n : ℕ) → 10000 ≤ n → n < 100000 → Wide n 4
-unfolding decimalWidth
-wide-5 n l h =
-    let a : 10 ≤ n = omega arith in
-    let b : 100 ≤ n = omega arith in
-    let c : 1000 ≤ n = omega arith in
-    record { few = omega arith; below = h; above = λ p. l; width = simp (le-ltb _ _ a, le-ltb _ _ b, le-ltb _ _ c, le-ltb _ _ l) }
+wide-of : (k n : ℕ) → k < 5 → n < 10 ^ suc k → (0 < k → 10 ^ k ≤ n) → Wide n k
+wide-of k n f h l = record { few = f; below = h; above = l; width = width-of k n f h l }
 
 -- every number below 100,000
 pub record Some (n : ℕ) : Type 0 where
@@ -58,11 +47,11 @@ some-width : (n : ℕ) → n < decimalLimit → Some n
 some-width n h = go (ltb n 10) (ltb n 100) (ltb n 1000) (ltb n 10000) refl refl refl refl
   where
     go : (a b c d : Bool) → ltb n 10 ≡ a → ltb n 100 ≡ b → ltb n 1000 ≡ c → ltb n 10000 ≡ d → Some n
-    go true b c d p q r s = record { k = 0; wide = wide-1 n (ltb-true _ _ p) }
-    go false true c d p q r s = record { k = 1; wide = wide-2 n (ltb-false _ _ p) (ltb-true _ _ q) }
-    go false false true d p q r s = record { k = 2; wide = wide-3 n (ltb-false _ _ q) (ltb-true _ _ r) }
-    go false false false true p q r s = record { k = 3; wide = wide-4 n (ltb-false _ _ r) (ltb-true _ _ s) }
-    go false false false false p q r s = record { k = 4; wide = wide-5 n (ltb-false _ _ s) h }
+    go true b c d p q r s = record { k = 0; wide = wide-of 0 n (omega arith) (ltb-true _ _ p) (λ z. absurd (omega arith)) }
+    go false true c d p q r s = record { k = 1; wide = wide-of 1 n (omega arith) (ltb-true _ _ q) (λ z. ltb-false _ _ p) }
+    go false false true d p q r s = record { k = 2; wide = wide-of 2 n (omega arith) (ltb-true _ _ r) (λ z. ltb-false _ _ q) }
+    go false false false true p q r s = record { k = 3; wide = wide-of 3 n (omega arith) (ltb-true _ _ s) (λ z. ltb-false _ _ r) }
+    go false false false false p q r s = record { k = 4; wide = wide-of 4 n (omega arith) h (λ z. ltb-false _ _ s) }
 
 -- the first digit of more than one is not 0
 first : (k n : ℕ) → 10 ^ k ≤ n → n < 10 ^ suc k → eqb (digitByte (n / 10 ^ k)) 48 ≡ false
@@ -90,15 +79,6 @@ decimal-read n h = go (some-width n h)
         let long : 1 ≤ length (digitsOf 10 (suc (s .k)) n) = omega (arith, length-digits 10 (suc (s .k)) n) in
         let short : length (digitsOf 10 (suc (s .k)) n) ≤ 5 = omega (arith, length-digits 10 (suc (s .k)) n, s .wide .few) in
         rw (s .wide .width, le-ltb _ _ long, le-ltb _ _ short, written-well n (s .k) (s .wide .below) (s .wide .above)) (numeral-read 10 (omega arith) (omega arith) (suc (s .k)) n (s .wide .below))
-
--- what the bounds say of the width
-wide-of : (k n : ℕ) → k < 5 → n < 10 ^ suc k → (0 < k → 10 ^ k ≤ n) → Wide n k
-wide-of zero n f h l = wide-1 n h
-wide-of (suc zero) n f h l = wide-2 n (l (omega arith)) h
-wide-of (suc (suc zero)) n f h l = wide-3 n (l (omega arith)) h
-wide-of (suc (suc (suc zero))) n f h l = wide-4 n (l (omega arith)) h
-wide-of (suc (suc (suc (suc zero)))) n f h l = wide-5 n (l (omega arith)) h
-wide-of (suc (suc (suc (suc (suc k))))) n f h l = absurd (omega arith)
 
 -- a first digit of more than one that is not 0
 pub not-less : (b : ℕ) (t : List ℕ) (n : ℕ) → needlessZero (b ∷ t) ≡ false → b ≡ digitByte (n / 10 ^ length t) → 0 < length t → 10 ^ length t ≤ n
@@ -148,5 +128,9 @@ decimal-written (b ∷ t) n e = go (ltb (suc (length t)) 1) (ltb 5 (suc (length 
         from-digits b t n few z (numeral-written 10 (omega arith) (omega arith) (b ∷ t) (suc (length t)) n refl e)
 
 -- no more digits are written than can be read
-pub width-few : (n : ℕ) → n < decimalLimit → decimalWidth n ≤ decimalDigits
+width-few : (n : ℕ) → n < decimalLimit → decimalWidth n ≤ decimalDigits
 width-few n h = let s : Some n = some-width n h in omega (arith, s .wide .width, s .wide .few)
+
+pub length-decimal : (n : ℕ) → n < decimalLimit → length (decimalText n) ≤ decimalDigits
+unfolding decimalText
+length-decimal n h = rw (length-digits 10 (decimalWidth n) n) (width-few n h)

@@ -12,6 +12,10 @@ use Rattle.numerals.specs.Numeral.{numeralFrom, identifier}
 use Rattle.numerals.specs.Written.{hexadecimalLimit, identifierText}
 use Rattle.numerals.proofs.Digits.{length-digits, numeral-read, NumeralText, numeral-written}
 
+pub length-identifier : (n : ℕ) → length (identifierText n) ≡ 8
+unfolding identifierText
+length-identifier n = length-digits 16 8 n
+
 pub identifier-read : (n : ℕ) → n < hexadecimalLimit → identifier (identifierText n) ≡ Is n
 unfolding identifier identifierText
 identifier-read n h = rw (eq-eqb _ _ (length-digits 16 8 n)) (numeral-read 16 (omega arith) (omega arith) 8 n h)

@@ -1,6 +1,6 @@
 -- The frame bits of several signals in one mask: it has a bit of a further signal just where the signal meets one of them. Assumes nothing.
 use mathlib.Core.Path.{_≡_, refl, sym, ap, _∙_}
-use mathlib.Core.Bool.{Bool, true, false, _||_, or-true, or-false, or-assoc}
+use mathlib.Core.Bool.{Bool, true, false, _||_, or-true, or-false, or-assoc, and-eq-true-iff}
 use mathlib.Core.List.{List, [], _∷_, _++_}
 use Prim.Native.Nat.{ℕ, _+_, _≤_, _<_}
 use native.Mathlib.Omega.{arith}
@@ -9,7 +9,6 @@ use borrow.Author.Tests.{lt-ltb, le-leb, ltb-true, leb-true, leb-false}
 use Rattle.catalogue.specs.Find.{bitsOf}
 use Rattle.books.specs.Book.{Placement}
 use Rattle.books.specs.Lines.{meets, meetsEarlier}
-use Rattle.books.proofs.Tests.{both, with}
 use Rattle.masks.specs.Bit.{bit, meeting}
 use Rattle.masks.proofs.Bits.{meeting-some, meeting-none}
 use Rattle.placing.specs.Placing.{inRun}
@@ -36,11 +35,11 @@ record In (p : Placement) (k : ℕ) : Type 0 where
 
 has-in : (p : Placement) (k : ℕ) → has p k ≡ true → In p k
 unfolding inRun
-has-in p k e = let t = both (leb (p .start) k) _ e in record { from = leb-true _ _ (t .0); to = ltb-true _ _ (t .1) }
+has-in p k e = let t = and-eq-true-iff (leb (p .start) k) _ .0 e in record { from = leb-true _ _ (t .0); to = ltb-true _ _ (t .1) }
 
 in-has : (p : Placement) (k : ℕ) → In p k → has p k ≡ true
 unfolding inRun
-in-has p k i = with (leb (p .start) k) (ltb k (p .start + bitsOf (p .number))) (le-leb _ _ (i .from)) (lt-ltb _ _ (i .to))
+in-has p k i = and-eq-true-iff (leb (p .start) k) (ltb k (p .start + bitsOf (p .number))) .1 (le-leb _ _ (i .from), lt-ltb _ _ (i .to))
 
 found : (qs : List Placement) (p : Placement) (k : ℕ) → covers qs k ≡ true → has p k ≡ true → meetsEarlier qs p ≡ true
 unfolding covers meetsEarlier meets
@@ -52,9 +51,10 @@ found (q ∷ qs) p k c h = go (has q k) refl (λ c′. found qs p k c′ h)
         let i = has-in p k h in
         let j = has-in q k e in
         let m : meets p q ≡ true =
-        with (ltb (p .start) (q .start + bitsOf (q .number))) (ltb (q .start) (p .start + bitsOf (p .number)))
-        (lt-ltb (p .start) (q .start + bitsOf (q .number)) (omega (arith, i .from, j .to)))
-        (lt-ltb (q .start) (p .start + bitsOf (p .number)) (omega (arith, j .from, i .to)))
+        and-eq-true-iff (ltb (p .start) (q .start + bitsOf (q .number))) (ltb (q .start) (p .start + bitsOf (p .number))) .1 (
+          lt-ltb (p .start) (q .start + bitsOf (q .number)) (omega (arith, i .from, j .to)),
+          lt-ltb (q .start) (p .start + bitsOf (p .number)) (omega (arith, j .from, i .to)),
+        )
         in
         rw m
     go false e later =
@@ -78,11 +78,11 @@ shared (q ∷ qs) p (more g w) h e = go (meets p q) refl (λ f. shared qs p w h 
   where
     here : meets p q ≡ true → (t : Bool) → leb (p .start) (q .start) ≡ t → Shared (q ∷ qs) p
     here m true l =
-        let b = both (ltb (p .start) (q .start + bitsOf (q .number))) _ m in
+        let b = and-eq-true-iff (ltb (p .start) (q .start + bitsOf (q .number))) _ .0 m in
         first-shared q p qs (q .start) (record { from = omega arith; to = omega (arith, g) })
         (record { from = leb-true _ _ l; to = ltb-true _ _ (b .1) })
     here m false l =
-        let b = both (ltb (p .start) (q .start + bitsOf (q .number))) _ m in
+        let b = and-eq-true-iff (ltb (p .start) (q .start + bitsOf (q .number))) _ .0 m in
         first-shared q p qs (p .start) (record { from = omega (arith, leb-false (p .start) (q .start) l); to = ltb-true _ _ (b .0) })
         (record { from = omega arith; to = omega (arith, h) })
 

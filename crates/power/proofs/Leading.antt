@@ -3,6 +3,7 @@ use mathlib.Core.Path.{_≡_, refl, sym, _∙_, subst}
 use mathlib.Core.Bool.{Bool, true, false, cond, not, _&&_, _||_}
 use mathlib.Core.List.{List, [], _∷_, List·Memᴰ, List·Memᴰ·head, List·Memᴰ·tail}
 use mathlib.Core.Logic.{_⊎_, inl, inr, ⊎-elim}
+use mir.Facts.{and-yes}
 use borrow.Author.Tests.{eqb-true}
 use lib.Dec.{T, eqb, eqb→eq}
 use Rattle.power.specs.declared.Observation.{Observation}
@@ -75,10 +76,6 @@ step-leads state seen = rw kept-or-next (go (eqb (refusal (stepOf state seen .an
     go true = next-state state seen
     go false = inl refl
 
-both : (a b : Bool) → T (a && b) → T a × T b
-both true b h = (tt, h)
-both false b h = absurd h
-
 -- what a test of each step of a list says of one of them
 everyStep : (Step → Bool) → List Step → Bool
 everyStep test [] = true
@@ -86,8 +83,8 @@ everyStep test (t ∷ more) = test t && everyStep test more
 
 of-each : (test : Step → Bool) {t : Step} {list : List Step} → List·Memᴰ t list → T (everyStep test list) → T (test t)
 unfolding everyStep
-of-each test {t} (List·Memᴰ·head {x} {xs} e) h = rw e (both (test x) (everyStep test xs) h .0)
-of-each test (List·Memᴰ·tail {x} {xs} m) h = of-each test m (both (test x) (everyStep test xs) h .1)
+of-each test {t} (List·Memᴰ·head {x} {xs} e) h = rw e (and-yes (test x) (everyStep test xs) h .0)
+of-each test (List·Memᴰ·tail {x} {xs} m) h = of-each test m (and-yes (test x) (everyStep test xs) h .1)
 
 abbrev toOnFromBoth : Step → Bool
 toOnFromBoth t = not (same (t .to) On) || same (t .from) Both

@@ -1,7 +1,8 @@
 -- What one route hands on, and what several do. Assumes nothing.
 use mathlib.Core.Path.{_≡_, refl, sym, ap, _∙_, subst}
 use mathlib.Core.Logic.{_⊎_, ⊎-elim}
-use mathlib.Core.Bool.{Bool, true, false, not, _||_}
+use mathlib.Core.Bool.{Bool, true, false, not, _||_, false≢true}
+use mathlib.Mathlib.Data.Bool.Basic.{or-eq-false-eq-eq-false-and-eq-false}
 use Prim.Native.Nat.{ℕ, _<_}
 use native.Mathlib.Omega.{arith}
 use native.Mathlib.Decide.{ℕ-discrete}
@@ -13,7 +14,7 @@ use borrow.Author.Tests.{eqb-true, eqb-false, not-true, not-false}
 use Rattle.masks.specs.Bit.{bit}
 use Rattle.masks.proofs.Told.{more-bits}
 use Rattle.chains.specs.Chain.{Walk, Chain}
-use Rattle.chains.proofs.Bools.{true-false, or-cases, or-left, or-right}
+use Rattle.chains.proofs.Bools.{or-cases, or-left, or-right}
 use Rattle.reach.specs.Handing.{total, Real, HandedOn, Handing}
 use Rattle.reach.proofs.Growing.{total-set, set-same}
 
@@ -69,7 +70,7 @@ module _ (starts ends : List ℕ) where
     }
 
   pub handing-none : (Some : ℕ → Type 0) (m : List ℕ) → ((j : ℕ) → Some j → ⊥) → Handing starts ends Some m m false
-  handing-none Some m none = record { long = refl; real = λ r. r; grown = λ h. absurd (true-false {b = false} h refl); settled = λ h. (refl, λ j s. absurd (none j s)) }
+  handing-none Some m none = record { long = refl; real = λ r. r; grown = λ h. absurd (false≢true h); settled = λ h. (refl, λ j s. absurd (none j s)) }
 
   -- some hand on, and then others
   module _ (Some Others : ℕ → Type 0) (old m now : List ℕ) (a b : Bool) (f : Handing starts ends Some old m a) (g : Handing starts ends Others m now b) where
@@ -77,12 +78,7 @@ module _ (starts ends : List ℕ) where
     grown-both true true p q h = omega (arith, f .grown p, g .grown q)
     grown-both true false p q h = omega (arith, f .grown p, ap total (g .settled q .0))
     grown-both false true p q h = omega (arith, ap total (f .settled p .0), g .grown q)
-    grown-both false false p q h = absurd (true-false {b = false} h refl)
-
-    settled-both : (a′ b′ : Bool) → a ≡ a′ → b ≡ b′ → a′ || b′ ≡ false → (a ≡ false) × (b ≡ false)
-    settled-both true b′ p q h = absurd (true-false {b = true} refl h)
-    settled-both false true p q h = absurd (true-false {b = true} refl h)
-    settled-both false false p q h = (p, q)
+    grown-both false false p q h = absurd (false≢true h)
 
     pub handing-both : (All : ℕ → Type 0) → ((j : ℕ) → All j → Some j ⊎ Others j) → Handing starts ends All old now (a || b)
     handing-both All either = record {
@@ -90,7 +86,7 @@ module _ (starts ends : List ℕ) where
       real = λ r. g .real (f .real r);
       grown = grown-both a b refl refl;
       settled = λ h.
-          let e = settled-both a b refl refl h in
+          let e = or-eq-false-eq-eq-false-and-eq-false a b .0 h in
           let s = f .settled (e .0) in
           let t = g .settled (e .1) in
           (t .0 ∙ s .0, λ j k. ⊎-elim (λ x. s .1 j x) (λ y. subst (λ (l : List ℕ). HandedOn starts ends l j) (s .0) (t .1 j y)) (either j k));

@@ -1,8 +1,8 @@
 -- Masks that are real, and to which all routes have handed on, say what each route leads on to. Assumes nothing.
 use mathlib.Core.Path.{_≡_, refl, sym, ap, _∙_, subst}
 use mathlib.Core.Logic.{⊎-elim}
-use mathlib.Core.Bool.{true, false, _||_}
-use Prim.Native.Nat.{ℕ, zero, suc, _+_, _<_, _≤_}
+use mathlib.Core.Bool.{true, false, _||_, true≢false}
+use Prim.Native.Nat.{ℕ, _+_, _<_, _≤_}
 use native.Mathlib.Omega.{arith}
 use mathlib.Core.List.{List, [], _∷_}
 use lib.ListN.{length, getD, set, replicate, length-set}
@@ -10,28 +10,24 @@ use lib.Seq.{getD-set-same, getD-set-other}
 use lib.Dec.{eqb}
 use borrow.Author.Count.{below-more}
 use borrow.Author.Tests.{eqb-true, eq-eqb}
+use Rattle.zeros.proofs.Gathering.{zero-at}
 use Rattle.masks.specs.Bit.{bit}
 use Rattle.masks.proofs.Bits.{bit-zero}
 use Rattle.chains.specs.Chain.{Walk, LeadsOn}
 use Rattle.chains.specs.Tests.{Tells}
-use Rattle.chains.proofs.Bools.{true-false, or-cases, or-left, or-right, test-tells}
+use Rattle.chains.proofs.Bools.{or-cases, or-left, or-right, test-tells}
 use Rattle.reach.specs.Led.{Led, Filled}
 use Rattle.reach.specs.Handing.{Real, Settled}
 use Rattle.reach.proofs.Handed.{as-walk}
 
 -- empty masks have no bit
 pub bit-empty : (n x k : ℕ) → bit (getD (replicate n 0) x 0) k ≡ false
-bit-empty n x k = ap (λ (m : ℕ). bit m k) (empty n x) ∙ bit-zero k
-  where
-    empty : (n x : ℕ) → getD {A = ℕ} (replicate n 0) x 0 ≡ 0
-    empty zero x = refl
-    empty (suc n) zero = refl
-    empty (suc n) (suc x) = empty n x
+bit-empty n x k = ap (λ (m : ℕ). bit m k) (zero-at n x) ∙ bit-zero k
 
 module _ (starts ends : List ℕ) where
   pub real-start : (n : ℕ) → Real starts ends (replicate n 0)
   unfolding Real
-  real-start n x y h = absurd (true-false h (bit-empty n x y))
+  real-start n x y h = absurd (true≢false (sym h ∙ bit-empty n x y))
 
   module _ (m : List ℕ) (is : Settled starts ends m) where
     -- where a walk goes from the end of route i is among what the route hands on

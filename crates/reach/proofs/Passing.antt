@@ -1,14 +1,13 @@
 -- The turns of a pass. Assumes nothing.
 use mathlib.Core.Path.{_≡_, refl, sym, ap, _∙_, subst}
 use mathlib.Core.Logic.{_⊎_, inl, inr, ⊎-elim}
-use mathlib.Core.Bool.{Bool, true, false, cond}
+use mathlib.Core.Bool.{Bool, true, false, cond, true≢false}
 use Prim.Native.Nat.{ℕ, _+_, _-_, _*_, _^_, _<_, _≤_}
 use native.Mathlib.Omega.{arith}
 use native.Mathlib.Nat.{eq-or-lt-of-le}
 use mathlib.Core.List.{List}
 use lib.ListN.{length, getD}
 use Rattle.masks.specs.Bit.{width}
-use Rattle.chains.proofs.Bools.{true-false}
 use Rattle.reach.specs.Led.{turn}
 use Rattle.reach.specs.Handing.{total, Real, HandedOn, Handing, Settled}
 use Rattle.reach.proofs.Growing.{total-most}
@@ -49,7 +48,7 @@ left m new = 2 * width * 2 ^ width - total m + cond new 1 0
 
 module _ (starts ends : List ℕ) where
   pub settling-start : (m : List ℕ) → length m ≡ 2 * width → Real starts ends m → Settling starts ends m true
-  settling-start m l r = record { long = l; real = r; settled = λ h. absurd (true-false {b = true} refl h) }
+  settling-start m l r = record { long = l; real = r; settled = λ h. absurd (true≢false h) }
 
   pub settling-end : (m : List ℕ) (new : Bool) → Settling starts ends m new → new ≡ false → Settled starts ends m
   settling-end m new inv h = record { real = inv .real; handed = inv .settled h }

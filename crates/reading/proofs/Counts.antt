@@ -1,8 +1,8 @@
 -- What lines that pass are counted to: the book's counts are counts of lines, and the line numbers kept are those of the R lines. Assumes nothing.
-use mathlib.Core.Path.{_≡_, sym, ap, _∙_, subst}
+use mathlib.Core.Path.{_≡_, ap, _∙_}
 use Prim.Native.Nat.{ℕ, suc, _+_, _≤_, _<_}
 use native.Mathlib.Omega.{arith}
-use native.Mathlib.Nat.{add-suc}
+use native.Mathlib.Nat.{add-suc, pos-of-ne-zero}
 use mathlib.Core.Bool.{_||_}
 use mathlib.Core.List.{List, [], _∷_, _++_, append-assoc, append-nil}
 use lib.ListN.{length}
@@ -12,15 +12,16 @@ use Rattle.line.specs.declared.Line.{Line}
 use Rattle.line.specs.declared.Line.the-variants as line
 use Rattle.record.specs.Limits.{identifierLimit}
 use Rattle.record.specs.Place.{placeKey, placeLimit, key-fits}
-use Rattle.books.specs.Book.{Book, Message, Placement, Route, noBook, fresh, inLast, withPlacement, allPlacements}
-use Rattle.books.specs.Lines.{routeRefusal, signalRefusal, busLimit, routeLimit}
+use Rattle.books.specs.Book.{Book, Message, Placement, Route, noBook, fresh, allPlacements}
+use Rattle.books.specs.Lines.{routeRefusal, busLimit, routeLimit}
 use Rattle.books.proofs.Tests.{not-refused, both-false}
-use Rattle.books.proofs.Ends.{in-last, Last, last, count-last, length-more}
+use Rattle.books.proofs.Ends.{count-last, length-more, one-more}
+use Rattle.books.proofs.Building.{signal-taken}
 use Rattle.reading.specs.Reading.{passed, refusalOf, withLine, numberedWith, readFrom, meanings, linesRead}
 use Rattle.reading.specs.Written.{Places, no-route, route}
 use Rattle.reading.specs.Taken.{mLines, sLines, rLinesFrom}
-use Rattle.reading.proofs.Passing.{went, same-book}
-use Rattle.reading.proofs.Writes.{no-message, between}
+use Rattle.reading.proofs.Passing.{went, same-book, text-kept}
+use Rattle.reading.proofs.Writes.{between}
 
 -- what is counted of a book that lines give after the book b: each count grows by the lines of its kind
 pub record Counted (n : ℕ) (b : Book) (at : List ℕ) (ls : List Line) (c : Book) (to : List ℕ) : Type 0 where
@@ -28,21 +29,6 @@ pub record Counted (n : ℕ) (b : Book) (at : List ℕ) (ls : List Line) (c : Bo
   pub signals : length (allPlacements (c .messages)) ≡ length (allPlacements (b .messages)) + sLines ls
   pub routes : length (c .routes) ≡ length (b .routes) + length (rLinesFrom n ls)
   pub numbers : to ≡ at ++ rLinesFrom n ls
-
--- an S line adds one placement, and no message
-one-signal : (ms : List Message) (p : Placement) → signalRefusal ms p ≡ 0
-    → (length (inLast ms p) ≡ length ms) × (length (allPlacements (inLast ms p)) ≡ length (allPlacements ms) + 1)
-one-signal [] p e = absurd (no-message p e)
-one-signal (m ∷ ms) p e = go (last m ms)
-  where
-    at : (x : List Message) (l : Message) → (length (inLast (x ++ (l ∷ [])) p) ≡ length (x ++ (l ∷ []))) × (length (allPlacements (inLast (x ++ (l ∷ [])) p)) ≡ length (allPlacements (x ++ (l ∷ []))) + 1)
-    at x l = rw in-last (
-      omega (arith, length-more x (withPlacement l p), length-more x l),
-      omega (arith, count-last x (withPlacement l p), count-last x l, length-more (l .placements) p),
-    )
-
-    go : Last (m ∷ ms) → (length (inLast (m ∷ ms) p) ≡ length (m ∷ ms)) × (length (allPlacements (inLast (m ∷ ms) p)) ≡ length (allPlacements (m ∷ ms)) + 1)
-    go r = subst (λ (l : List Message). (length (inLast l p) ≡ length l) × (length (allPlacements (inLast l p)) ≡ length (allPlacements l) + 1)) (sym (r .whole)) (at (r .before) (r .last))
 
 -- what follows a line is counted on from it
 module _ (n : ℕ) (b : Book) (at : List ℕ) (ls : List Line) {c : Book} {to : List ℕ} where
@@ -55,7 +41,8 @@ module _ (n : ℕ) (b : Book) (at : List ℕ) (ls : List Line) {c : Book} {to : 
     numbers = k .numbers;
   }
   after (line.Signal m s) e k =
-      let one = one-signal (b .messages) (record { number = m; start = s }) e in
+      let p : Placement = record { number = m; start = s } in
+      let one = one-more (b .messages) p (pos-of-ne-zero (signal-taken (b .messages) p e .there)) in
       record {
         messages = omega (arith, k .messages, one .0);
         signals = omega (arith, k .signals, one .1, add-suc (length (allPlacements (b .messages))) (sLines ls));
@@ -115,18 +102,11 @@ routed-with b (line.Signal n s) h e = h
 routed-with b (line.Route x i y j) h e = routed-route (b .routes) x i y j h e
 routed-with b line.IllFormed h e = h
 
-routed-on : (n : ℕ) (b : Book) (at : List ℕ) (ls : List Line) {c : Book} {to : List ℕ} → Routed (b .routes) → readFrom n b at ls ≡ passed c to → Routed (c .routes)
-unfolding readFrom
-routed-on n b at [] h e = subst (λ (x : Book). Routed (x .routes)) (same-book e) h
-routed-on n b at (l ∷ ls) h e =
-    let w = went (refusalOf b l) n (readFrom (suc n) (withLine b l) (numberedWith at n l) ls) e in
-    routed-on (suc n) (withLine b l) (numberedWith at n l) ls (routed-with b l h (w .taken)) (w .after)
-
 -- of a text
 pub text-counted : (text : List ℕ) {c : Book} {to : List ℕ} → linesRead text ≡ passed c to → Counted 1 noBook [] (meanings text) c to
 unfolding linesRead
 text-counted text e = counted 1 noBook [] (meanings text) e
 
 pub text-routed : (text : List ℕ) {c : Book} {to : List ℕ} → linesRead text ≡ passed c to → Routed (c .routes)
-unfolding linesRead
-text-routed text e = routed-on 1 noBook [] (meanings text) (record { few = omega arith; places = no-route }) e
+text-routed text e =
+    text-kept (λ b ls. Routed (b .routes)) (λ b l ls r h. routed-with b l h r) text e (record { few = omega arith; places = no-route })

@@ -1,4 +1,5 @@
 pub mod Passing
+pub mod Refused
 pub mod Writes
 pub mod Texts
 pub mod Counts

@@ -28,6 +28,20 @@ goes-on why n later e = rw e refl
 pub same-book : {b c : Book} {at to : List ℕ} → passed b at ≡ passed c to → b ≡ c
 same-book e = cc
 
+-- what holds of a book and the lines to come, and stays so with each line that is taken, holds of the book that the lines of a text give
+kept-on : (P : Book → List Line → Type 0) → ((b : Book) (l : Line) (ls : List Line) → refusalOf b l ≡ 0 → P b (l ∷ ls) → P (withLine b l) ls)
+    → (n : ℕ) (b : Book) (at : List ℕ) (ls : List Line) {c : Book} {to : List ℕ} → readFrom n b at ls ≡ passed c to → P b ls → P c []
+unfolding readFrom
+kept-on P keeps n b at [] e h = subst (λ (x : Book). P x []) (same-book e) h
+kept-on P keeps n b at (l ∷ ls) e h =
+    let w = went (refusalOf b l) n (readFrom (suc n) (withLine b l) (numberedWith at n l) ls) e in
+    kept-on P keeps (suc n) (withLine b l) (numberedWith at n l) ls (w .after) (keeps b l ls (w .taken) h)
+
+pub text-kept : (P : Book → List Line → Type 0) → ((b : Book) (l : Line) (ls : List Line) → refusalOf b l ≡ 0 → P b (l ∷ ls) → P (withLine b l) ls)
+    → (text : List ℕ) {c : Book} {to : List ℕ} → linesRead text ≡ passed c to → P noBook (meanings text) → P c []
+unfolding linesRead
+text-kept P keeps text e h = kept-on P keeps 1 noBook [] (meanings text) e h
+
 -- one line more
 built-with : (b : Book) (l : Line) → Built (b .messages) → refusalOf b l ≡ 0 → Built (withLine b l .messages)
 unfolding refusalOf withLine
@@ -37,16 +51,8 @@ built-with b (line.Route x i y j) h e = h
 built-with b line.IllFormed h e = h
 
 -- the messages of a book that lines give are built line by line
-built-on : (n : ℕ) (b : Book) (at : List ℕ) (ls : List Line) {c : Book} {to : List ℕ} → Built (b .messages) → readFrom n b at ls ≡ passed c to → Built (c .messages)
-unfolding readFrom
-built-on n b at [] h e = subst (λ (x : Book). Built (x .messages)) (same-book e) h
-built-on n b at (l ∷ ls) h e =
-    let w = went (refusalOf b l) n (readFrom (suc n) (withLine b l) (numberedWith at n l) ls) e in
-    built-on (suc n) (withLine b l) (numberedWith at n l) ls (built-with b l h (w .taken)) (w .after)
-
 pub read-built : (text : List ℕ) {c : Book} {to : List ℕ} → linesRead text ≡ passed c to → Built (c .messages)
-unfolding linesRead
-read-built text e = built-on 1 noBook [] (meanings text) none e
+read-built text e = text-kept (λ b ls. Built (b .messages)) (λ b l ls r h. built-with b l h r) text e none
 
 -- lines after lines that pass
 pub read-append : (n : ℕ) (b : Book) (at : List ℕ) (ls ms : List Line) {c : Book} {to : List ℕ} → readFrom n b at ls ≡ passed c to

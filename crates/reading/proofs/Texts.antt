@@ -1,14 +1,14 @@
 -- Texts of books: a book that lines build has a text, and reading that text gives the book. Assumes nothing.
 use mathlib.Core.Path.{_≡_, refl, sym, ap, _∙_, subst}
-use Prim.Native.Nat.{ℕ, suc, _+_, _*_, _≤_, _<_}
+use Prim.Native.Nat.{ℕ, suc, _+_, _*_, _≤_}
 use native.Mathlib.Omega.{arith}
 use mathlib.Core.List.{List, [], _∷_, _++_, map}
 use lib.ListN.{length, length-append, length-map}
 use lib.Dec.{leb, eqb}
 use borrow.Author.Tests.{leb-false, eqb-false}
-use Rattle.numerals.specs.Written.{identifierText, decimalText, decimalWidth, decimalLimit}
-use Rattle.numerals.proofs.Digits.{length-digits}
-use Rattle.numerals.proofs.Decimals.{width-few}
+use Rattle.numerals.specs.Written.{identifierText, decimalText}
+use Rattle.numerals.proofs.Identifiers.{length-identifier}
+use Rattle.numerals.proofs.Decimals.{length-decimal}
 use Rattle.parts.specs.Parts.{ended, tab, newline}
 use Rattle.parts.specs.Joined.{join, textOfLines, Frees, no-part, part}
 use Rattle.parts.proofs.LineEnds.{lines-written}
@@ -84,14 +84,6 @@ unfolding bookLines
 lines-writable b h p = all-append (messages-writable h) (routes-writable p)
 
 -- how long the text of a line is
-identifier-long : (n : ℕ) → length (identifierText n) ≡ 8
-unfolding identifierText
-identifier-long n = length-digits 16 8 n
-
-decimal-long : (n : ℕ) → n < decimalLimit → length (decimalText n) ≤ 5
-unfolding decimalText
-decimal-long n h = omega (arith, length-digits 10 (decimalWidth n) n, width-few n h)
-
 length-join : (s : ℕ) (p q : List ℕ) (ps : List (List ℕ)) → length (join s (p ∷ q ∷ ps)) ≡ length p + suc (length (join s (q ∷ ps)))
 unfolding join
 length-join s p q ps = length-append p (s ∷ join s (q ∷ ps))
@@ -104,17 +96,17 @@ line-long : (l : Line) → Writable l → length (lineText l) ≤ 40
 unfolding lineText fieldsOf
 line-long (line.Message i) w =
     let one = length-join tab (77 ∷ []) (identifierText i) [] in
-    omega (arith, one, length-one tab (identifierText i), identifier-long i)
+    omega (arith, one, length-one tab (identifierText i), length-identifier i)
 line-long (line.Signal n s) (wn, ws) =
     let one = length-join tab (83 ∷ []) (decimalText n) (decimalText s ∷ []) in
     let two = length-join tab (decimalText n) (decimalText s) [] in
-    omega (arith, one, two, length-one tab (decimalText s), decimal-long n wn, decimal-long s ws)
+    omega (arith, one, two, length-one tab (decimalText s), length-decimal n wn, length-decimal s ws)
 line-long (line.Route a i b j) ((wa, wi), (wb, wj)) =
     let one = length-join tab (82 ∷ []) (decimalText a) (identifierText i ∷ decimalText b ∷ identifierText j ∷ []) in
     let two = length-join tab (decimalText a) (identifierText i) (decimalText b ∷ identifierText j ∷ []) in
     let three = length-join tab (identifierText i) (decimalText b) (identifierText j ∷ []) in
     let four = length-join tab (decimalText b) (identifierText j) [] in
-    omega (arith, one, two, three, four, length-one tab (identifierText j), decimal-long a wa, decimal-long b wb, identifier-long i, identifier-long j)
+    omega (arith, one, two, three, four, length-one tab (identifierText j), length-decimal a wa, length-decimal b wb, length-identifier i, length-identifier j)
 line-long line.IllFormed w = absurd w
 
 lines-long : {ls : List Line} → AllWritable ls → length (textOfLines (map lineText ls)) ≤ 41 * length ls

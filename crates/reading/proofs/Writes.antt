@@ -43,7 +43,7 @@ lines-last ms m p =
     ap (λ (l : List Line). l ++ (signalLine p ∷ [])) (sym (lines-append ms (m ∷ [])))
 
 -- an S line before any M is refused
-pub no-message : (p : Placement) → signalRefusal [] p ≡ 0 → ⊥
+no-message : (p : Placement) → signalRefusal [] p ≡ 0 → ⊥
 unfolding signalRefusal
 no-message p e = let a = not-refused (unknownOrOver p) 2 _ e in omega (arith, a .1)
 

@@ -7,7 +7,7 @@ use lib.ListN.{length, take, drop, replicate, length-drop}
 use Rattle.record.specs.Limits.{routeLimit}
 use Rattle.record.specs.Columns.{routeCountOf, fromsOf, tosOf}
 use Rattle.zeros.specs.Zeros.{zeros}
-use Rattle.zeros.proofs.Laws.{zeros-are, are-zeros}
+use Rattle.zeros.proofs.Gathering.{zeros-are, are-zeros}
 use Rattle.chains.specs.Chain.{IsSound}
 use Rattle.chains.specs.Tests.{Tells}
 use Rattle.routes.specs.Answers.{NoMore, RoutesTaken}

@@ -7,11 +7,7 @@ use native.Mathlib.Omega.{arith}
 use lib.ListN.{length, length-append}
 use Rattle.books.specs.Book.{Placement, Message, identifiers, allPlacements, fresh, withPlacement}
 use Rattle.books.specs.Words.{endsAfter}
-use Rattle.books.proofs.Ends.{map-append, all-append}
-
-all-one : (m : Message) → allPlacements (m ∷ []) ≡ m .placements
-unfolding allPlacements
-all-one m = append-nil (m .placements)
+use Rattle.books.proofs.Ends.{map-append, all-append, all-one}
 
 -- the placements of messages that end with m
 all-last : (ms : List Message) (m : Message) → allPlacements (ms ++ (m ∷ [])) ≡ allPlacements ms ++ m .placements

@@ -1,6 +1,6 @@
 -- Placements parted among messages, one message after the other. Assumes nothing.
 use mathlib.Core.Path.{_≡_, refl, sym, ap, _∙_}
-use mathlib.Core.Bool.{Bool, true, false, _&&_, _||_, not}
+use mathlib.Core.Bool.{Bool, true, false, _&&_, _||_, not, and-eq-true-iff}
 use mathlib.Core.List.{List, [], _∷_, _++_}
 use Prim.Native.Nat.{ℕ, zero, suc, _+_, _-_, _≤_, _<_}
 use native.Mathlib.Omega.{arith}
@@ -13,7 +13,6 @@ use Rattle.books.specs.Book.{Placement, Message, identifiers, allPlacements}
 use Rattle.books.specs.Good.{goodAfter, goodFrom}
 use Rattle.books.specs.Lines.{isIn, identifierLimit}
 use Rattle.books.specs.Words.{endsAfter, sideBySide, shown}
-use Rattle.books.proofs.Tests.{both, with}
 use Rattle.books.proofs.Sides.{side-length}
 use Rattle.columns.specs.Identifiers.{distinctAfter}
 use Rattle.tables.specs.Testing.{parted}
@@ -124,9 +123,9 @@ record Split (n e : ℕ) (es : List ℕ) (ps : List Placement) : Type 0 where
 split : (n e : ℕ) (es : List ℕ) (ps : List Placement) → parted n (e ∷ es) ps ≡ true → Split n e es ps
 unfolding parted
 split n e es ps h =
-    let a = both (leb n e) _ h in
-    let b = both (leb (e - n) (length ps)) _ (a .1) in
-    let c = both (goodAfter [] (take (e - n) ps)) _ (b .1) in
+    let a = and-eq-true-iff (leb n e) _ .0 h in
+    let b = and-eq-true-iff (leb (e - n) (length ps)) _ .0 (a .1) in
+    let c = and-eq-true-iff (goodAfter [] (take (e - n) ps)) _ .0 (b .1) in
     record { rises = leb-true _ _ (a .0); fits = leb-true _ _ (b .0); stands = c .0; others = c .1 }
 
 pub shown-ids : (n : ℕ) (is es : List ℕ) (ps : List Placement) → length is ≡ length es → identifiers (shown n is es ps) ≡ is
@@ -164,8 +163,8 @@ shown-good before n [] es ps l h d = refl
 shown-good before n (i ∷ is) [] ps l h d = refl
 shown-good before n (i ∷ is) (e ∷ es) ps l h d =
     let s = split n e es ps h in
-    let t = both (not (leb identifierLimit i || isIn i before)) _ d in
-    with _ _ (t .0) (with _ _ (s .stands) (shown-good (before ++ (i ∷ [])) e is es (drop (e - n) ps) (omega (arith, l)) (s .others) (t .1)))
+    let t = and-eq-true-iff (not (leb identifierLimit i || isIn i before)) _ .0 d in
+    and-eq-true-iff _ _ .1 (t .0, and-eq-true-iff _ _ .1 (s .stands, shown-good (before ++ (i ∷ [])) e is es (drop (e - n) ps) (omega (arith, l)) (s .others) (t .1)))
 
 -- ---- and back
 
@@ -173,18 +172,22 @@ pub good-parted : (before : List ℕ) (n : ℕ) (ms : List Message) → goodFrom
 unfolding goodFrom parted endsAfter allPlacements
 good-parted before n [] g = refl
 good-parted before n (m ∷ ms) g =
-    let a = both (not (leb identifierLimit (m .identifier) || isIn (m .identifier) before)) _ g in
-    let b = both (goodAfter [] (m .placements)) _ (a .1) in
+    let a = and-eq-true-iff (not (leb identifierLimit (m .identifier) || isIn (m .identifier) before)) _ .0 g in
+    let b = and-eq-true-iff (goodAfter [] (m .placements)) _ .0 (a .1) in
     let k : (n + length (m .placements)) - n ≡ length (m .placements) = omega arith in
     rw (k, take-at (m .placements) (allPlacements ms) (length (m .placements)) refl, drop-at (m .placements) (allPlacements ms) (length (m .placements)) refl)
-    (with _ _ (le-leb n (n + length (m .placements)) (omega arith))
-    (with _ _ (le-leb (length (m .placements)) (length (m .placements ++ allPlacements ms)) (omega (arith, length-append (m .placements) (allPlacements ms))))
-    (with _ _ (b .0) (good-parted (before ++ (m .identifier ∷ [])) (n + length (m .placements)) ms (b .1)))))
+    (and-eq-true-iff _ _ .1 (
+      le-leb n (n + length (m .placements)) (omega arith),
+      and-eq-true-iff _ _ .1 (
+        le-leb (length (m .placements)) (length (m .placements ++ allPlacements ms)) (omega (arith, length-append (m .placements) (allPlacements ms))),
+        and-eq-true-iff _ _ .1 (b .0, good-parted (before ++ (m .identifier ∷ [])) (n + length (m .placements)) ms (b .1)),
+      ),
+    ))
 
 pub good-distinct : (before : List ℕ) (ms : List Message) → goodFrom before ms ≡ true → distinctAfter before (identifiers ms) ≡ true
 unfolding goodFrom distinctAfter
 good-distinct before [] g = refl
 good-distinct before (m ∷ ms) g =
-    let a = both (not (leb identifierLimit (m .identifier) || isIn (m .identifier) before)) _ g in
-    let b = both (goodAfter [] (m .placements)) _ (a .1) in
-    with _ _ (a .0) (good-distinct (before ++ (m .identifier ∷ [])) ms (b .1))
+    let a = and-eq-true-iff (not (leb identifierLimit (m .identifier) || isIn (m .identifier) before)) _ .0 g in
+    let b = and-eq-true-iff (goodAfter [] (m .placements)) _ .0 (a .1) in
+    and-eq-true-iff _ _ .1 (a .0, good-distinct (before ++ (m .identifier ∷ [])) ms (b .1))

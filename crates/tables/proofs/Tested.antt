@@ -1,6 +1,6 @@
 -- The test of the message and signal tables passes just where they are those of a taken book. Assumes nothing.
 use mathlib.Core.Path.{_≡_, refl, sym, ap, _∙_}
-use mathlib.Core.Bool.{Bool, true, false, _&&_}
+use mathlib.Core.Bool.{Bool, true, false, _&&_, true≢false, and-eq-true-iff}
 use mathlib.Core.List.{List, [], _++_}
 use Prim.Native.Nat.{ℕ, _+_, _-_, _≤_, _<_}
 use native.Mathlib.Omega.{arith}
@@ -11,13 +11,12 @@ use Rattle.books.specs.Book.{Placement, Message, identifiers, numbers, allPlace
 use Rattle.books.specs.Good.{goodFrom, good}
 use Rattle.books.specs.Lines.{messageLimit, signalLimit}
 use Rattle.books.specs.Words.{column, starts, endsAfter, idColumn, endColumn, numberColumn, startColumn, messageColumns, sideBySide, messagesOf, messagesTaken, Stands}
-use Rattle.books.proofs.Tests.{both, with}
 use Rattle.books.proofs.Sides.{side-back, side-length, side-numbers, side-starts}
 use Rattle.books.proofs.Columns.{take-column, past-column, filled, length-ends, within, ids-stand, ends-stand, numbers-stand, starts-stand, taken-stands, stands-taken}
 use Rattle.columns.specs.Identifiers.{distinctAfter}
 use Rattle.record.specs.Columns.{idsAt, endsAt, numbersAt, messageCountOf, signalCountOf, idsOf, endsOf, numbersOf, startsOf, messageColumnsOf}
 use Rattle.zeros.specs.Zeros.{zeros}
-use Rattle.zeros.proofs.Laws.{zeros-are, are-zeros}
+use Rattle.zeros.proofs.Gathering.{zeros-are, are-zeros}
 use Rattle.tables.specs.Testing.{parted}
 use Rattle.tables.proofs.Parted.{shown-ids, shown-ends, shown-all, shown-good, good-parted, good-distinct}
 
@@ -116,8 +115,8 @@ module _ (w : List ℕ) (l : Long w) (c : Checked w) where
   standing : Stands w (messagesOf w)
   unfolding messageColumns ids ends ns ss
   standing =
-      let a = both (zeros (drop (messageCountOf w) (idsOf w))) _ (c .messages-rest) in
-      let b = both (zeros (drop (signalCountOf w) (numbersOf w))) _ (c .signals-rest) in
+      let a = and-eq-true-iff (zeros (drop (messageCountOf w) (idsOf w))) _ .0 (c .messages-rest) in
+      let b = and-eq-true-iff (zeros (drop (signalCountOf w) (numbersOf w))) _ .0 (c .signals-rest) in
       let i : idsOf w ≡ idColumn (messagesOf w) = column-zero messageLimit (messageCountOf w) (idsOf w) (l .ids) (c .few) (a .0) ∙ ap (column messageLimit) (sym shows-ids) in
       let e : endsOf w ≡ endColumn (messagesOf w) = column-zero messageLimit (messageCountOf w) (endsOf w) (l .ends) (c .few) (a .1) ∙ ap (column messageLimit) (sym shows-ends) in
       let n : numbersOf w ≡ numberColumn (messagesOf w) =
@@ -130,9 +129,13 @@ module _ (w : List ℕ) (l : Long w) (c : Checked w) where
   unfolding good
   checked-taken =
       stands-taken w (messagesOf w) standing
-      (with _ _ shows-good
-      (with _ _ (le-leb (length (messagesOf w)) messageLimit (omega (arith, count-messages, c .few)))
-      (le-leb (length (allPlacements (messagesOf w))) signalLimit (omega (arith, count-signals, c .room)))))
+      (and-eq-true-iff _ _ .1 (
+        shows-good,
+        and-eq-true-iff _ _ .1 (
+          le-leb (length (messagesOf w)) messageLimit (omega (arith, count-messages, c .few)),
+          le-leb (length (allPlacements (messagesOf w))) signalLimit (omega (arith, count-signals, c .room)),
+        ),
+      ))
 
 -- and words of messages that lines build pass it
 module _ (w : List ℕ) (t : messagesTaken w ≡ true) where
@@ -150,7 +153,7 @@ module _ (w : List ℕ) (t : messagesTaken w ≡ true) where
 
   each : goodFrom [] (messagesOf w) ≡ true
   unfolding good
-  each = both (goodFrom [] (messagesOf w)) _ sound .0
+  each = and-eq-true-iff (goodFrom [] (messagesOf w)) _ .0 sound .0
 
   ids-are : length (identifiers (messagesOf w)) ≡ length (messagesOf w)
   ids-are = length-map (messagesOf w) (λ (m : Message). m .identifier)
@@ -169,9 +172,9 @@ module _ (w : List ℕ) (t : messagesTaken w ≡ true) where
         few = omega (arith, stood .messages, few′);
         room = omega (arith, stood .signals, room′);
         messages-rest = rw (stood .messages, ids-in, ends-in)
-            (with _ _ (zero-column messageLimit _ (identifiers (messagesOf w)) ids-are) (zero-column messageLimit _ (endsAfter 0 (messagesOf w)) e-are));
+            (and-eq-true-iff _ _ .1 (zero-column messageLimit _ (identifiers (messagesOf w)) ids-are, zero-column messageLimit _ (endsAfter 0 (messagesOf w)) e-are));
         signals-rest = rw (stood .signals, numbers-in, starts-in)
-            (with _ _ (zero-column signalLimit _ (numbers ps) n-are) (zero-column signalLimit _ (starts ps) s-are));
+            (and-eq-true-iff _ _ .1 (zero-column signalLimit _ (numbers ps) n-are, zero-column signalLimit _ (starts ps) s-are));
         new = rw (stood .messages, ids-in, take-column messageLimit (length (messagesOf w)) (identifiers (messagesOf w)) ids-are) (good-distinct [] (messagesOf w) each);
         parts = rw (
           stood .messages,
@@ -197,9 +200,6 @@ fails w f = go (messagesTaken w) refl
     go true e = absurd (f (taken-checked w e))
     go false e = sym e
 
-true-false : {t : Bool} → t ≡ true → t ≡ false → ⊥
-true-false p q = let z : _≡_ {A = ℕ} 0 1 = cc in omega arith
-
 -- the counts, and the columns, by the names that the code has for them
 pub many-messages : (w : List ℕ) (m : ℕ) → m ≡ messageCountOf w → messageLimit < m → false ≡ messagesTaken w
 many-messages w m em g = fails w (λ c. omega (arith, c .few, em))
@@ -209,14 +209,14 @@ many-signals w s es g = fails w (λ c. omega (arith, c .room, es))
 
 pub rest-of-messages : (w : List ℕ) (m : ℕ) (ids ends : List ℕ) → m ≡ messageCountOf w → ids ≡ idsOf w → ends ≡ endsOf w
     → zeros (drop m ids) && zeros (drop m ends) ≡ false → false ≡ messagesTaken w
-rest-of-messages w m ids ends em ei ee f = fails w (λ c. true-false (c .messages-rest) (sym (rw (em, ei, ee)) ∙ f))
+rest-of-messages w m ids ends em ei ee f = fails w (λ c. true≢false (sym (c .messages-rest) ∙ sym (rw (em, ei, ee)) ∙ f))
 
 pub rest-of-signals : (w : List ℕ) (s : ℕ) (ns ss : List ℕ) → s ≡ signalCountOf w → ns ≡ numbersOf w → ss ≡ startsOf w
     → zeros (drop s ns) && zeros (drop s ss) ≡ false → false ≡ messagesTaken w
-rest-of-signals w s ns ss es en et f = fails w (λ c. true-false (c .signals-rest) (sym (rw (es, en, et)) ∙ f))
+rest-of-signals w s ns ss es en et f = fails w (λ c. true≢false (sym (c .signals-rest) ∙ sym (rw (es, en, et)) ∙ f))
 
 pub repeated : (w : List ℕ) (m : ℕ) (ids : List ℕ) → m ≡ messageCountOf w → ids ≡ idsOf w → distinctAfter [] (take m ids) ≡ false → false ≡ messagesTaken w
-repeated w m ids em ei f = fails w (λ c. true-false (c .new) (sym (rw (em, ei)) ∙ f))
+repeated w m ids em ei f = fails w (λ c. true≢false (sym (c .new) ∙ sym (rw (em, ei)) ∙ f))
 
 -- the last part, where the others pass
 module _ (w : List ℕ) (m s : ℕ) (ids ends ns ss : List ℕ) (em : m ≡ messageCountOf w) (es : s ≡ signalCountOf w)
@@ -245,4 +245,4 @@ module _ (w : List ℕ) (m s : ℕ) (ids ends ns ss : List ℕ) (em : m ≡ mess
 
       go : (t : Bool) → parted 0 ends′ (sideBySide ns′ ss′) ≡ t → parted 0 ends′ (sideBySide ns′ ss′) ≡ messagesTaken w
       go true e = e ∙ sym (checked-taken w long (checked e))
-      go false e = e ∙ fails w (λ c. true-false (c .parts) (same ∙ e))
+      go false e = e ∙ fails w (λ c. true≢false (sym (c .parts) ∙ same ∙ e))

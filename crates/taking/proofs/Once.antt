@@ -1,16 +1,15 @@
 -- What came of the lines of a text is one thing, with one content of the words. Assumes nothing.
-use mathlib.Core.Path.{_≡_, refl, sym, ap, _∙_, subst}
-use mathlib.Core.List.{List, [], _∷_}
-use Prim.Native.Nat.{ℕ, suc}
+use mathlib.Core.Path.{_≡_, refl, sym, ap, _∙_}
+use mathlib.Core.List.{List}
+use Prim.Native.Nat.{ℕ}
 use native.Mathlib.Omega.{arith}
 use Rattle.record.specs.Columns.{emptyBook}
 use Rattle.answers.specs.Numbers.{number}
 use Rattle.answers.proofs.Numbered.{number-once}
-use Rattle.line.specs.declared.Line.{Line}
-use Rattle.books.specs.Book.{Book, noBook}
+use Rattle.books.specs.Book.{Book}
 use Rattle.books.specs.Words.{wordsOf}
-use Rattle.reading.specs.Reading.{Outcome, passed, refused, refusalOf, withLine, numberedWith, readFrom, meanings, linesRead}
-use Rattle.reading.proofs.Passing.{went, same-book}
+use Rattle.reading.specs.Reading.{Outcome, passed, refused, linesRead}
+use Rattle.reading.proofs.Passing.{same-book, text-kept}
 use Rattle.tables.specs.Adding.{Within}
 use Rattle.tables.proofs.Room.{within-none}
 use Rattle.taking.specs.declared.Lines.{Lines}
@@ -20,16 +19,8 @@ use Rattle.taking.proofs.Steps.{within-line}
 use Rattle.taking.proofs.Named.{text-named}
 
 -- a book that lines give is within the limits
-within-on : (n : ℕ) (b : Book) (at : List ℕ) (ls : List Line) {c : Book} {to : List ℕ} → Within b → readFrom n b at ls ≡ passed c to → Within c
-unfolding readFrom
-within-on n b at [] h e = subst Within (same-book e) h
-within-on n b at (l ∷ ls) h e =
-    let w = went (refusalOf b l) n (readFrom (suc n) (withLine b l) (numberedWith at n l) ls) e in
-    within-on (suc n) (withLine b l) (numberedWith at n l) ls (within-line b l h (w .taken)) (w .after)
-
 text-within : (text : List ℕ) {c : Book} {to : List ℕ} → linesRead text ≡ passed c to → Within c
-unfolding linesRead
-text-within text e = within-on 1 noBook [] (meanings text) within-none e
+text-within text e = text-kept (λ b ls. Within b) (λ b l ls r h. within-line b l h r) text e within-none
 
 -- something came of them
 pub came-there : (text : List ℕ) → (x : Lines × List ℕ) × Came text (x .0) (x .1)

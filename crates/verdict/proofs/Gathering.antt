@@ -1,7 +1,7 @@
 -- The search for routes that fork. Assumes nothing.
 use mathlib.Core.Path.{_≡_, sym, ap, _∙_, subst}
 use mathlib.Core.Logic.{_⊎_, inl, inr, ⊎-elim}
-use mathlib.Core.Bool.{Bool, true, false, _||_}
+use mathlib.Core.Bool.{Bool, true, false, _||_, true≢false}
 use Prim.Native.Nat.{ℕ, _+_, _*_, _<_, _≤_}
 use native.Mathlib.Omega.{arith}
 use native.Mathlib.Nat.{eq-or-lt-of-le}
@@ -14,7 +14,7 @@ use borrow.Author.Tests.{eqb-true, eq-eqb}
 use Rattle.masks.specs.Bit.{width, bit, meeting}
 use Rattle.masks.proofs.Bits.{bit-zero, meeting-some}
 use Rattle.chains.specs.Tests.{Tells}
-use Rattle.chains.proofs.Bools.{true-false, or-cases, or-left, or-right, test-tells}
+use Rattle.chains.proofs.Bools.{or-cases, or-left, or-right, test-tells}
 use Rattle.reach.specs.Led.{turn}
 use Rattle.verdict.specs.Searches.{ForksEarlier}
 use Rattle.reach.proofs.Leading.{bit-empty}
@@ -41,9 +41,9 @@ module _ (starts onward : List ℕ) (down : Bool) where
   gathering-start = record {
     within = omega arith;
     long = length-replicate {A = ℕ} (2 * width) 0;
-    seen-leads = λ g y h. absurd (true-false h (bit-empty (2 * width) g y));
+    seen-leads = λ g y h. absurd (true≢false (sym h ∙ bit-empty (2 * width) g y));
     leads-seen = λ g y l. let z = l .1 in absurd (omega (arith, z));
-    fork-is = λ a h. absurd (true-false h (bit-zero a));
+    fork-is = λ a h. absurd (true≢false (sym h ∙ bit-zero a));
     is-fork = λ a f. let z = f .2 in absurd (omega (arith, z));
   }
 
@@ -140,5 +140,5 @@ module _ (starts onward : List ℕ) (down : Bool) where
         seen-leads = seen-leads;
         leads-seen = leads-seen;
         fork-is = λ b h. before b (inv .fork-is b h);
-        is-fork = λ b h. ⊎-elim (λ x. inv .is-fork b x) (λ x. absurd (true-false (x .1) m)) (either b h);
+        is-fork = λ b h. ⊎-elim (λ x. inv .is-fork b x) (λ x. absurd (true≢false (sym (x .1) ∙ m))) (either b h);
       }

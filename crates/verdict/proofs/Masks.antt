@@ -1,7 +1,7 @@
 -- From the masks of `reach` to chains. Assumes nothing.
 use mathlib.Core.Path.{_≡_, refl, sym, ap, _∙_, subst}
 use mathlib.Core.Logic.{_⊎_, ⊎-elim}
-use mathlib.Core.Bool.{Bool, true, false, not, _||_, _&&_}
+use mathlib.Core.Bool.{Bool, true, false, not, _||_, _&&_, true≢false, and-eq-true-iff}
 use Prim.Native.Nat.{ℕ, _-_, _<_, _≤_}
 use native.Mathlib.Omega.{arith}
 use native.Mathlib.Decide.{decLe}
@@ -14,7 +14,7 @@ use Rattle.masks.proofs.Bits.{bit-zero, meeting-some}
 use Rattle.masks.proofs.Told.{more-bits}
 use Rattle.chains.specs.Chain.{LeadsOn}
 use Rattle.chains.specs.Tests.{Tells, any, First}
-use Rattle.chains.proofs.Bools.{or-cases, and-parts, or-left, or-right, and-both, same-test, told-yes, told-of, told-same, true-false}
+use Rattle.chains.proofs.Bools.{or-cases, or-left, or-right, same-test, told-yes, told-of, told-same}
 use Rattle.chains.proofs.Reach.{reach, reach-leads, leads-reach, reach-tells}
 use Rattle.chains.proofs.Walks.{walk-last}
 use Rattle.chains.proofs.Loops.{comesBack}
@@ -49,14 +49,16 @@ module _ (ss es onward : List ℕ) (led : Led ss es onward) where
       let w = leads a (r .0) la (r .1) in
       let v = walk-last ss es (getD ss a 0) a (w .0) (r .0) (la, refl, w .1) in
       some-any (length ss) (both a b) (v .0) (v .1)
-      (and-both _ _ (leads-reach ss es a (getD es (v .0) 0) (subst (λ (x : ℕ). LeadsOn ss es a x) (sym (v .2)) w))
-      (leads-reach ss es b (getD es (v .0) 0) (subst (λ (x : ℕ). LeadsOn ss es b x) (sym (v .2)) (leads b (r .0) lb (r .2)))))
+      (and-eq-true-iff _ _ .1 (
+        leads-reach ss es a (getD es (v .0) 0) (subst (λ (x : ℕ). LeadsOn ss es a x) (sym (v .2)) w),
+        leads-reach ss es b (getD es (v .0) 0) (subst (λ (x : ℕ). LeadsOn ss es b x) (sym (v .2)) (leads b (r .0) lb (r .2))),
+      ))
 
   same-meets : (a b : ℕ) → a < length ss → b < length ss → meetAgain ss es a b ≡ true → meeting (getD onward a 0) (getD onward b 0) ≡ true
   unfolding meetAgain
   same-meets a b la lb e =
       let r = any-some (length ss) (both a b) e in
-      let g = and-parts (reach ss es (length ss) a (getD es (r .0) 0)) (reach ss es (length ss) b (getD es (r .0) 0)) (r .2) in
+      let g = and-eq-true-iff (reach ss es (length ss) a (getD es (r .0) 0)) (reach ss es (length ss) b (getD es (r .0) 0)) .0 (r .2) in
       meets-at (getD onward a 0) (getD onward b 0) (getD es (r .0) 0) (has a _ la (reach-leads ss es a _ (g .0))) (has b _ lb (reach-leads ss es b _ (g .1)))
 
   -- of two routes that fork the higher does so with one of an earlier turn upwards
@@ -64,14 +66,14 @@ module _ (ss es onward : List ℕ) (led : Led ss es onward) where
     none-forks : up ≡ 0 → (a b : ℕ) → a < length ss → b < length ss → fork ss es a b ≡ true → ⊥
     unfolding fork
     none-forks z a b la lb h =
-        let g = and-parts (not (eqb a b) && eqb (getD ss a 0) (getD ss b 0)) (meetAgain ss es a b) h in
-        let k = and-parts (not (eqb a b)) (eqb (getD ss a 0) (getD ss b 0)) (g .0) in
+        let g = and-eq-true-iff (not (eqb a b) && eqb (getD ss a 0) (getD ss b 0)) (meetAgain ss es a b) .0 h in
+        let k = and-eq-true-iff (not (eqb a b)) (eqb (getD ss a 0) (getD ss b 0)) .0 (g .0) in
         let e = eqb-true _ _ (k .1) in
         let m = same-meets a b la lb (g .1) in
         go (decLe a b) (eqb-false a b (not-true (eqb a b) (k .0))) e m
       where
         no-bit : (x : ℕ) → ForksEarlier ss onward false (length ss) x → ⊥
-        no-bit x f = true-false (told-of (bit up x) (told-up x) f) (ap (λ (y : ℕ). bit y x) z ∙ bit-zero x)
+        no-bit x f = true≢false (sym (told-of (bit up x) (told-up x) f) ∙ ap (λ (y : ℕ). bit y x) z ∙ bit-zero x)
 
         go : Dec (a ≤ b) → (a ≡ b → ⊥) → getD ss a 0 ≡ getD ss b 0 → meeting (getD onward a 0) (getD onward b 0) ≡ true → ⊥
         go (yes l) n e m = no-bit b (b, a, lb, omega arith, refl, e, m)
@@ -85,7 +87,7 @@ module _ (ss es onward : List ℕ) (led : Led ss es onward) where
         never i false e = e
         never i true e =
             let r = any-some (length ss) (λ a. comesTo ss es i a && any (length ss) (λ b. fork ss es a b)) e in
-            let s = any-some (length ss) (λ b. fork ss es (r .0) b) (and-parts (comesTo ss es i (r .0)) (any (length ss) (λ b. fork ss es (r .0) b)) (r .2) .1) in
+            let s = any-some (length ss) (λ b. fork ss es (r .0) b) (and-eq-true-iff (comesTo ss es i (r .0)) (any (length ss) (λ b. fork ss es (r .0) b)) .0 (r .2) .1) in
             absurd (none-forks z (r .0) (s .0) (r .1) (s .1) (s .2))
 
   -- the routes that fork with one of an earlier turn, upwards and downwards, are those that fork
@@ -96,7 +98,7 @@ module _ (ss es onward : List ℕ) (led : Led ss es onward) where
     unfolding fork
     forked a b la lb n e m =
         some-any (length ss) (λ b. fork ss es a b) b lb
-        (and-both _ _ (and-both _ _ (ap not (ne-eqb a b n)) (eq-eqb _ _ (sym e))) (meets-same a b la lb (meets-back (getD onward b 0) (getD onward a 0) m)))
+        (and-eq-true-iff _ _ .1 (and-eq-true-iff _ _ .1 (ap not (ne-eqb a b n), eq-eqb _ _ (sym e)), meets-same a b la lb (meets-back (getD onward b 0) (getD onward a 0) m)))
 
     earlier-forked : (down : Bool) (a : ℕ) → ForksEarlier ss onward down (length ss) a → (a < length ss) × (any (length ss) (λ b. fork ss es a b) ≡ true)
     earlier-forked false a (t, u, lt, lu, q, e, m) = let l : a < length ss = omega arith in (l, forked a u l (omega arith) (λ z. absurd (omega arith)) e m)
@@ -113,8 +115,8 @@ module _ (ss es onward : List ℕ) (led : Led ss es onward) where
     is-forks a la h =
         let r = any-some (length ss) (λ b. fork ss es a b) h in
         let b = r .0 in
-        let g = and-parts (not (eqb a b) && eqb (getD ss a 0) (getD ss b 0)) (meetAgain ss es a b) (r .2) in
-        let k = and-parts (not (eqb a b)) (eqb (getD ss a 0) (getD ss b 0)) (g .0) in
+        let g = and-eq-true-iff (not (eqb a b) && eqb (getD ss a 0) (getD ss b 0)) (meetAgain ss es a b) .0 (r .2) in
+        let k = and-eq-true-iff (not (eqb a b)) (eqb (getD ss a 0) (getD ss b 0)) .0 (g .0) in
         let n = eqb-false a b (not-true (eqb a b) (k .0)) in
         let e = sym (eqb-true _ _ (k .1)) in
         let m = meets-back (getD onward a 0) (getD onward b 0) (same-meets a b la (r .1) (g .1)) in
@@ -148,21 +150,24 @@ module _ (ss es onward : List ℕ) (led : Led ss es onward) where
           (λ e. ⊎-elim own onwards (or-cases (bit forks i) (meeting (getD onward i 0) places) e)) back
         where
           own : bit forks i ≡ true → any (length ss) (begun i) ≡ true
-          own x = some-any (length ss) (begun i) i l (and-both _ _ (or-right (reach ss es (length ss) i (getD ss i 0)) (eqb i i) (eq-eqb i i refl)) (forks-is i x .1))
+          own x = some-any (length ss) (begun i) i l (and-eq-true-iff _ _ .1 (or-right (reach ss es (length ss) i (getD ss i 0)) (eqb i i) (eq-eqb i i refl), forks-is i x .1))
 
           onwards : meeting (getD onward i 0) places ≡ true → any (length ss) (begun i) ≡ true
           onwards e =
               let r = meeting-some (getD onward i 0) places e in
               let s = told-yes (bit places (r .0)) (told-places (r .0)) (r .2) in
               some-any (length ss) (begun i) (s .0) (s .1)
-              (and-both _ _ (or-left (reach ss es (length ss) i (getD ss (s .0) 0)) (eqb (s .0) i)
-              (leads-reach ss es i (getD ss (s .0) 0) (subst (λ (x : ℕ). LeadsOn ss es i x) (sym (s .3)) (leads i (r .0) l (r .1))))) (forks-is (s .0) (s .2) .1))
+              (and-eq-true-iff _ _ .1 (
+                or-left (reach ss es (length ss) i (getD ss (s .0) 0)) (eqb (s .0) i)
+                    (leads-reach ss es i (getD ss (s .0) 0) (subst (λ (x : ℕ). LeadsOn ss es i x) (sym (s .3)) (leads i (r .0) l (r .1)))),
+                forks-is (s .0) (s .2) .1,
+              ))
 
           back : any (length ss) (begun i) ≡ true → beginsBy onward forks places i ≡ true
           back e =
               let r = any-some (length ss) (begun i) e in
               let a = r .0 in
-              let g = and-parts (reach ss es (length ss) i (getD ss a 0) || eqb a i) (any (length ss) (λ b. fork ss es a b)) (r .2) in
+              let g = and-eq-true-iff (reach ss es (length ss) i (getD ss a 0) || eqb a i) (any (length ss) (λ b. fork ss es a b)) .0 (r .2) in
               let f = is-forks a (r .1) (g .1) in
               ⊎-elim
               (λ z. let w = reach-leads ss es i (getD ss a 0) z in
@@ -181,7 +186,7 @@ module _ (ss es onward : List ℕ) (led : Led ss es onward) where
           no-bit : length ss ≤ r → (a : ℕ) → bit up a ≡ true → bit 0 a ≡ true
           no-bit l a h =
               let x : bit forks a ≡ true = either a ∙ or-left (bit up a) (bit below a) h in
-              absurd (true-false (or-left (bit forks a) (meeting (getD onward a 0) places) x) (f .before a (omega (arith, forks-is a x .0))))
+              absurd (true≢false (sym (or-left (bit forks a) (meeting (getD onward a 0) places) x) ∙ f .before a (omega (arith, forks-is a x .0))))
 
           go : Dec (length ss ≤ r) → r < length ss
           go (yes l) = absurd (nz (omega (arith, more-bits up 0 (no-bit l))))

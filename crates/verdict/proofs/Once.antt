@@ -1,5 +1,6 @@
 -- Each table of routes has one verdict and no other. Assumes nothing.
-use mathlib.Core.Path.{_≡_, refl, ap, _∙_}
+use mathlib.Core.Path.{_≡_, refl, sym, ap, _∙_}
+use mathlib.Core.Bool.{true≢false}
 use mathlib.Core.Logic.{_⊎_, ⊎-elim}
 use Prim.Native.Nat.{ℕ, _<_, _≤_}
 use native.Mathlib.Nat.{eq-or-lt-of-le}
@@ -10,7 +11,6 @@ use lib.ListN.{length}
 use Rattle.chains.specs.Chain.{Walk, OnClosed, LoopFree, Doubling, BeginsDoubling, Single, IsSound}
 use Rattle.chains.proofs.Walks.{chain-walk}
 use Rattle.chains.specs.Tests.{First}
-use Rattle.chains.proofs.Bools.{true-false}
 use Rattle.chains.proofs.Loops.{comesBack, closed-back, back-closed, loop-free}
 use Rattle.chains.proofs.Tests.{first, begins, begins-is, is-begins}
 use Rattle.verdict.specs.Verdicts.{Lowest, Judged}
@@ -27,7 +27,7 @@ module _ (fs ts : List ℕ) where
 
   -- what the first route that comes back tells
   pub loop-found : (r : ℕ) → First (comesBack fs ts) (length fs) r → r < length fs → Judged fs ts (verdict.Loop r)
-  loop-found r f l = (back-closed fs ts r l (f .found l), λ k h o. true-false (closed-back fs ts k o .1) (f .before k h))
+  loop-found r f l = (back-closed fs ts r l (f .found l), λ k h o. true≢false (sym (closed-back fs ts k o .1) ∙ f .before k h))
 
   pub no-loop : (r : ℕ) → First (comesBack fs ts) (length fs) r → length fs ≤ r → LoopFree fs ts
   no-loop r f l = loop-free fs ts (λ i h. f .before i (omega arith))
@@ -35,10 +35,10 @@ module _ (fs ts : List ℕ) where
   -- what the first route tells that begins a doubling
   module _ (free : LoopFree fs ts) (r : ℕ) (f : First (begins fs ts) (length fs) r) where
     pub doubling-found : r < length fs → Judged fs ts (verdict.Doubling r)
-    doubling-found l = (free, (begins-is fs ts r l (f .found l), λ k h b. true-false (is-begins fs ts free k b) (f .before k h)))
+    doubling-found l = (free, (begins-is fs ts r l (f .found l), λ k h b. true≢false (sym (is-begins fs ts free k b) ∙ f .before k h)))
 
     pub no-doubling : length fs ≤ r → Judged fs ts verdict.Sound
-    no-doubling l = record { loop-free = free; single = single (λ i h b. true-false (is-begins fs ts free i b) (f .before i (omega arith))) }
+    no-doubling l = record { loop-free = free; single = single (λ i h b. true≢false (sym (is-begins fs ts free i b) ∙ f .before i (omega arith))) }
 
   -- there is a verdict
   pub judged : (v : Verdict) × Judged fs ts v

@@ -1,7 +1,7 @@
 -- The search for where the routes of a mask start. Assumes nothing.
 use mathlib.Core.Path.{_≡_, sym, ap, _∙_, subst}
 use mathlib.Core.Logic.{_⊎_, inl, inr, ⊎-elim}
-use mathlib.Core.Bool.{true, _||_}
+use mathlib.Core.Bool.{true, _||_, true≢false}
 use Prim.Native.Nat.{ℕ, _+_, _<_, _≤_}
 use native.Mathlib.Omega.{arith}
 use native.Mathlib.Nat.{eq-or-lt-of-le}
@@ -12,7 +12,7 @@ use borrow.Author.Tests.{eqb-true, eq-eqb}
 use Rattle.masks.specs.Bit.{width, bit}
 use Rattle.masks.proofs.Bits.{bit-zero}
 use Rattle.chains.specs.Tests.{Tells}
-use Rattle.chains.proofs.Bools.{true-false, or-cases, or-left, or-right, test-tells}
+use Rattle.chains.proofs.Bools.{or-cases, or-left, or-right, test-tells}
 use Rattle.verdict.specs.Searches.{StartsAt}
 
 module _ (starts : List ℕ) (routes : ℕ) where
@@ -23,7 +23,7 @@ module _ (starts : List ℕ) (routes : ℕ) where
     pub is-start : (x : ℕ) → StartsAt starts routes i x → bit at x ≡ true
 
   pub starting-start : Starting 0 0
-  starting-start = record { within = omega arith; start-is = λ x h. absurd (true-false h (bit-zero x)); is-start = λ x s. let z = s .1 in absurd (omega (arith, z)) }
+  starting-start = record { within = omega arith; start-is = λ x h. absurd (true≢false (sym h ∙ bit-zero x)); is-start = λ x s. let z = s .1 in absurd (omega (arith, z)) }
 
   pub starting-end : (i at : ℕ) → Starting i at → length starts ≤ i → (x : ℕ) → Tells (StartsAt starts routes (length starts) x) (bit at x)
   starting-end i at inv h x =

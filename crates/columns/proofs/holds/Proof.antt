@@ -5,7 +5,7 @@ use native.Mathlib.Omega.{arith}
 use borrow.Author.Needs.{needs}
 use lib.ListN.{length, drop}
 use Rattle.books.specs.Lines.{isIn}
-use Rattle.columns.proofs.Laws.{in-none, in-here, in-later}
+use Rattle.columns.proofs.Searching.{in-none, in-here, in-later}
 use Rattle.columns.proofs.holds.Statement.{statement}
 use Rattle.columns.proofs.holds.Tie as tie
 

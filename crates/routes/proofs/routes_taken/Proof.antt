@@ -2,12 +2,12 @@
 use Prim.Native.Nat.{ℕ}
 use lib.ListN.{take}
 use mathlib.Core.Path.{sym, _∙_, subst}
+use mathlib.Core.Bool.{true≢false}
 use mathlib.Core.List.{List}
 use native.Mathlib.Omega.{arith}
 use borrow.Author.Tests.{not-true, not-false}
 use Rattle.chains.specs.Chain.{IsSound}
 use Rattle.chains.specs.Tests.{Tells}
-use Rattle.chains.proofs.Bools.{true-false}
 use Rattle.routes.proofs.Taken.{froms-past, tos-past, tells}
 use borrow.Author.Needs.{needs}
 use Rattle.routes.proofs.routes_taken.Statement.{statement}
@@ -29,7 +29,7 @@ zero-past-requires : tie.Need-zero-past-requires
 zero-past-requires c κs = search needs
 
 returns-2 : tie.Need-returns-2
-returns-2 c = λ t. true-false (c .before .zero-past .ensures ∙ froms-past _ _ _ _ (c .before .before .before .before .before .count .ensures) (c .before .before .before .froms .ensures .0) (c .before .before .tos .ensures .0) t) (not-true _ (c .if2 .taken))
+returns-2 c = λ t. true≢false (sym (c .before .zero-past .ensures ∙ froms-past _ _ _ _ (c .before .before .before .before .before .count .ensures) (c .before .before .before .froms .ensures .0) (c .before .before .tos .ensures .0) t) ∙ not-true _ (c .if2 .taken))
 
 zero-past-requires-2 : tie.Need-zero-past-requires-2
 zero-past-requires-2 c κs = search needs
@@ -40,7 +40,7 @@ returns-3 c =
     let at-tos = c .before .before .before .before .tos in
     let at-froms = c .before .before .before .before .before .froms in
     let at-count = c .before .before .before .before .before .before .before .count in
-    λ t. true-false (at-zero-past2 .ensures ∙ tos-past _ _ _ _ (at-count .ensures) (at-froms .ensures .0) (at-tos .ensures .0) t) (not-true _ (c .if3 .taken))
+    λ t. true≢false (sym (at-zero-past2 .ensures ∙ tos-past _ _ _ _ (at-count .ensures) (at-froms .ensures .0) (at-tos .ensures .0) t) ∙ not-true _ (c .if3 .taken))
 
 first-requires : tie.Need-first-requires
 first-requires c κs = search needs

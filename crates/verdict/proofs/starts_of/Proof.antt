@@ -1,5 +1,6 @@
 -- `verdict::starts_of` meets its contract: the mask has where those of the routes passed start. Assumes nothing.
 use mathlib.Core.Path.{sym, _∙_, subst}
+use mathlib.Core.Bool.{true≢false, and-eq-true-iff}
 use mathlib.Core.Logic.{⊎-elim}
 use Prim.Native.Nat.{_-_, _+_}
 use native.Mathlib.Omega.{arith}
@@ -7,7 +8,6 @@ use lib.ListN.{length}
 use lib.Dec.{ltb}
 use borrow.Author.Tests.{ltb-true, lt-ltb}
 use Rattle.masks.specs.Bit.{width}
-use Rattle.chains.proofs.Bools.{true-false, and-parts, and-both}
 use Rattle.verdict.proofs.Starting.{Starting, starting-start, starting-set, starting-keep, starting-end}
 use borrow.Author.Needs.{needs}
 use Rattle.verdict.proofs.starts_of.Statement.{statement}
@@ -35,7 +35,7 @@ cast-with : tie.Need-cast-with Inv-loop μ-loop
 cast-with c = omega (arith, c .before .before .start-of .ensures .1)
 
 with-requires : tie.Need-with-requires Inv-loop μ-loop
-with-requires c κs = ltb-true _ _ (and-parts (c .before .has .result) (ltb (c .before .before .start-of .result) width) (c .if1 .taken) .1)
+with-requires c κs = ltb-true _ _ (and-eq-true-iff (c .before .has .result) (ltb (c .before .before .start-of .result) width) .0 (c .if1 .taken) .1)
 
 add-a : tie.Need-add-a Inv-loop μ-loop
 add-a c = search needs
@@ -57,9 +57,9 @@ loop-again c =
     let sets = starting-set (at-args .starts .now) (at-args .routes) a (at-loop .at) (at-loop .inv) (at-loop-test .taken) s in
     let keep = starting-keep (at-args .starts .now) (at-args .routes) a (at-loop .at) (at-loop .inv) (at-loop-test .taken) s (at-start-of .ensures .0) in
     ⊎-elim
-    (λ w. let both = and-parts has (ltb s width) (w .0 .taken) in
+    (λ w. let both = and-eq-true-iff has (ltb s width) .0 (w .0 .taken) in
     subst Then (sym (w .2)) (sets (w .1 .result) (at-start-of .ensures .0) (sym (at-has .ensures) ∙ both .0) (ltb-true _ _ (both .1)) (w .1 .ensures)))
-    (λ w. subst Then (sym (w .1)) (keep (λ h l. true-false (and-both has (ltb s width) (at-has .ensures ∙ h) (lt-ltb _ _ l)) (w .0 .left))))
+    (λ w. subst Then (sym (w .1)) (keep (λ h l. true≢false (sym (and-eq-true-iff has (ltb s width) .1 (at-has .ensures ∙ h, lt-ltb _ _ l)) ∙ w .0 .left))))
     (c .if1 .came)
 
 returns : tie.Need-returns Inv-loop μ-loop

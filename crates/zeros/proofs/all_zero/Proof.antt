@@ -6,7 +6,7 @@ use borrow.Author.Needs.{needs}
 use lib.Dec.{eqb}
 use lib.ListN.{length, drop}
 use Rattle.zeros.specs.Zeros.{zeros}
-use Rattle.zeros.proofs.Laws.{zeros-step, zeros-end}
+use Rattle.zeros.proofs.Gathering.{zeros-step, zeros-end}
 use Rattle.zeros.proofs.all_zero.Statement.{statement}
 use Rattle.zeros.proofs.all_zero.Tie as tie
 

@@ -1,6 +1,6 @@
 -- Zeros gathered bit by bit, and what zeros are. Assumes nothing.
 use mathlib.Core.Path.{_≡_, refl, sym, ap, _∙_}
-use mathlib.Core.Bool.{Bool, true, false, _&&_}
+use mathlib.Core.Bool.{Bool, true, _&&_, false≢true, and-assoc, and-true}
 use mathlib.Core.List.{List, [], _∷_}
 use Prim.Native.Nat.{ℕ, zero, suc, _+_, _≤_, _<_}
 use native.Mathlib.Omega.{arith}
@@ -18,14 +18,6 @@ or-zero (suc a) b =
     ne-eqb (bitOr (suc a) b) 0 (λ e. omega (arith, or-add-and (suc a) b, and-le-r (suc a) b))
     ∙ ap (λ (t : Bool). t && eqb b 0) (sym (ne-eqb (suc a) 0 (λ e. omega arith)))
 
-and-assoc : (a b c : Bool) → (a && b) && c ≡ a && (b && c)
-and-assoc true b c = refl
-and-assoc false b c = refl
-
-and-true : (a : Bool) → a && true ≡ a
-and-true true = refl
-and-true false = refl
-
 -- the loop: what is gathered, and what is left
 pub zeros-step : (l : List ℕ) (i a : ℕ) → i < length l → eqb (bitOr a (getD l i 0)) 0 && zeros (drop (i + 1) l) ≡ eqb a 0 && zeros (drop i l)
 unfolding zeros
@@ -40,9 +32,15 @@ pub zeros-are : (l : List ℕ) → zeros l ≡ true → l ≡ replicate (length 
 unfolding zeros
 zeros-are [] e = refl
 zeros-are (zero ∷ l) e = ap (λ (t : List ℕ). 0 ∷ t) (zeros-are l e)
-zeros-are (suc x ∷ l) e = let f : false ≡ true = ap (λ (t : Bool). t && zeros l) (sym (ne-eqb (suc x) 0 (λ z. omega arith))) ∙ e in let z : _≡_ {A = ℕ} 0 1 = cc in absurd (omega arith)
+zeros-are (suc x ∷ l) e = absurd (false≢true (ap (λ (t : Bool). t && zeros l) (sym (ne-eqb (suc x) 0 (λ z. omega arith))) ∙ e))
 
 pub are-zeros : (n : ℕ) → zeros (replicate n 0) ≡ true
 unfolding zeros
 are-zeros zero = refl
 are-zeros (suc n) = are-zeros n
+
+-- each of them is 0, and so is what stands past them
+pub zero-at : (n i : ℕ) → getD {A = ℕ} (replicate n 0) i 0 ≡ 0
+zero-at zero i = refl
+zero-at (suc n) zero = refl
+zero-at (suc n) (suc i) = zero-at n i
