@@ -1,7 +1,7 @@
 -- What the book's rules make of a message's placements: each lies within the frame, 503 at its start, and no two meet.
 -- Assumes nothing.
 use mathlib.Core.Path.{_≡_, refl, sym, ap, _∙_, subst}
-use mathlib.Core.Bool.{Bool, true, false, cond, _&&_, _||_, not}
+use mathlib.Core.Bool.{Bool, true, false, cond, _&&_, _||_, not, and-eq-true-iff, or-assoc}
 use mathlib.Core.Logic.{_⊎_, inl, inr}
 use mathlib.Core.List.{List, [], _∷_, _++_}
 use mathlib.Core.Option.{Option, some}
@@ -13,7 +13,7 @@ use Rattle.bits.specs.Word.{Fits}
 use Rattle.books.specs.Book.{Placement, Message, numbers}
 use Rattle.books.specs.Lines.{isIn, unknownOrOver, misplaced, meets, meetsEarlier, frameBits, identifierLimit, startLimit}
 use Rattle.books.specs.Good.{goodAfter, goodFrom, good}
-use Rattle.books.proofs.Tests.{both, neither}
+use Rattle.books.proofs.Tests.{neither, both-false}
 use Rattle.catalogue.specs.Find.{bitsOf}
 use Rattle.catalogue.proofs.Found.{few-bits}
 use Rattle.framing.specs.Messages.{checksumNumber, checksumStart, messageOf}
@@ -48,24 +48,13 @@ apart p q e = go (ltb (p .start) (q .start + bitsOf (q .number))) refl e
 earlier-append : (a b : List Placement) (p : Placement) → meetsEarlier (a ++ b) p ≡ meetsEarlier a p || meetsEarlier b p
 unfolding meetsEarlier
 earlier-append [] b p = refl
-earlier-append (q ∷ a) b p = ap (λ (x : Bool). meets p q || x) (earlier-append a b p) ∙ sym (go (meets p q) (meetsEarlier a p) (meetsEarlier b p))
-  where
-    go : (x y z : Bool) → (x || y) || z ≡ x || (y || z)
-    go true y z = refl
-    go false y z = refl
-
-or-false : (a b : Bool) → a || b ≡ false → (a ≡ false) × (b ≡ false)
-or-false true b e = (e, absurd-bool e)
-  where
-    absurd-bool : true ≡ false → b ≡ false
-    absurd-bool e = (cc)
-or-false false b e = (refl, e)
+earlier-append (q ∷ a) b p = ap (λ (x : Bool). meets p q || x) (earlier-append a b p) ∙ sym (or-assoc (meets p q) (meetsEarlier a p) (meetsEarlier b p))
 
 earlier-split : (a : List Placement) (q p : Placement) → meetsEarlier (a ++ (q ∷ [])) p ≡ false → (meetsEarlier a p ≡ false) × (meets p q ≡ false)
 unfolding meetsEarlier
 earlier-split a q p e =
-    let h = or-false (meetsEarlier a p) (meets p q || false) (sym (earlier-append a (q ∷ []) p) ∙ e) in
-    (h .0, or-false (meets p q) false (h .1) .0)
+    let h = both-false (meetsEarlier a p) (meets p q || false) (sym (earlier-append a (q ∷ []) p) ∙ e) in
+    (h .0, both-false (meets p q) false (h .1) .0)
 
 -- what the tests of one placement after others say
 record Passed (before : List Placement) (p : Placement) : Type 0 where
@@ -77,17 +66,17 @@ passed : (before : List Placement) (p : Placement)
     → not (unknownOrOver p || (isIn (p .number) (numbers before) || (misplaced p || meetsEarlier before p))) ≡ true → Passed before p
 passed before p e =
     let a = neither (unknownOrOver p) (isIn (p .number) (numbers before) || (misplaced p || meetsEarlier before p)) e in
-    let b = or-false (isIn (p .number) (numbers before)) (misplaced p || meetsEarlier before p) (a .1) in
-    let c = or-false (misplaced p) (meetsEarlier before p) (b .1) in
+    let b = both-false (isIn (p .number) (numbers before)) (misplaced p || meetsEarlier before p) (a .1) in
+    let c = both-false (misplaced p) (meetsEarlier before p) (b .1) in
     record { known = a .0; inside = c .0; beside = c .1 }
 
 sits : {before : List Placement} (p : Placement) → Passed before p → Sits p
 unfolding unknownOrOver misplaced
 sits p h =
-    let a = or-false (eqb (bitsOf (p .number)) 0) (leb startLimit (p .start)) (h .known) in
+    let a = both-false (eqb (bitsOf (p .number)) 0) (leb startLimit (p .start)) (h .known) in
     let some : bitsOf (p .number) ≡ 0 → ⊥ = eqb-false (bitsOf (p .number)) 0 (a .0) in
-    let c = or-false (ltb frameBits (p .start + bitsOf (p .number))) _ (h .inside) in
-    let d = or-false (eqb (p .number) checksumNumber && not (eqb (p .start) checksumStart)) _ (c .1) in
+    let c = both-false (ltb frameBits (p .start + bitsOf (p .number))) _ (h .inside) in
+    let d = both-false (eqb (p .number) checksumNumber && not (eqb (p .start) checksumStart)) _ (c .1) in
     record {
       fits = record { some = omega arith; most = few-bits (p .number); inside = ltb-false frameBits (p .start + bitsOf (p .number)) (c .0) };
       check = λ e. eqb-true (p .start) checksumStart (go (eqb (p .number) checksumNumber) (eqb (p .start) checksumStart) (eq-eqb (p .number) checksumNumber e) (d .0));
@@ -102,14 +91,14 @@ later : (q : Placement) (before ps : List Placement) → ((p : Placement) → me
 unfolding goodAfter
 later q before [] h g = BesideAll.none
 later q before (p ∷ ps) h g =
-    let t = both _ (goodAfter (before ++ (p ∷ [])) ps) g in
+    let t = and-eq-true-iff _ (goodAfter (before ++ (p ∷ [])) ps) .0 g in
     BesideAll.more (h p (passed before p (t .0) .beside)) (later q (before ++ (p ∷ [])) ps (λ x e. h x (earlier-split before p x e .0)) (t .1))
 
 sound-after : (before ps : List Placement) → goodAfter before ps ≡ true → Sound ps
 unfolding goodAfter
 sound-after before [] g = Sound.none
 sound-after before (p ∷ ps) g =
-    let t = both _ (goodAfter (before ++ (p ∷ [])) ps) g in
+    let t = and-eq-true-iff _ (goodAfter (before ++ (p ∷ [])) ps) .0 g in
     Sound.more (sits p (passed before p (t .0)))
     (later p (before ++ (p ∷ [])) ps (λ x e. apart x p (earlier-split before p x e .1)) (t .1))
     (sound-after (before ++ (p ∷ [])) ps (t .1))
@@ -122,12 +111,12 @@ sound-from : (before : List ℕ) (identifier : ℕ) (ms : List Message) (m : Mes
 unfolding goodFrom messageOf
 sound-from before identifier [] m g e = let z : _≡_ {A = ℕ} 0 1 = cc in absurd (omega arith)
 sound-from before identifier (x ∷ ms) m g e =
-    let t = both (not (leb identifierLimit (x .identifier) || isIn (x .identifier) before)) (goodAfter [] (x .placements) && goodFrom (before ++ (x .identifier ∷ [])) ms) g in
-    let u = both (goodAfter [] (x .placements)) (goodFrom (before ++ (x .identifier ∷ [])) ms) (t .1) in
+    let t = and-eq-true-iff (not (leb identifierLimit (x .identifier) || isIn (x .identifier) before)) (goodAfter [] (x .placements) && goodFrom (before ++ (x .identifier ∷ [])) ms) .0 g in
+    let u = and-eq-true-iff (goodAfter [] (x .placements)) (goodFrom (before ++ (x .identifier ∷ [])) ms) .0 (t .1) in
     pick (eqb identifier (x .identifier)) x m (sound-after [] (x .placements) (u .0))
     (λ f. sound-from (before ++ (x .identifier ∷ [])) identifier ms m (u .1) f) e
 
 -- the message that a taken book has for an identifier
 pub sound-message : (identifier : ℕ) (ms : List Message) (m : Message) → good ms ≡ true → messageOf identifier ms ≡ some m → Sound (m .placements)
 unfolding good
-sound-message identifier ms m g e = sound-from [] identifier ms m (both (goodFrom [] ms) _ g .0) e
+sound-message identifier ms m g e = sound-from [] identifier ms m (and-eq-true-iff (goodFrom [] ms) _ .0 g .0) e
