@@ -1,6 +1,6 @@
 -- `columns::begin` meets its contract: the signals of a message begin where those before it end. Assumes nothing.
 use mathlib.Core.Path.{_∙_}
-use Rattle.columns.proofs.Laws.{one-before}
+use Rattle.columns.proofs.Searching.{one-before}
 use borrow.Author.Needs.{needs}
 use Rattle.columns.proofs.begin.Statement.{statement}
 use Rattle.columns.proofs.begin.Tie as tie
