@@ -1,10 +1,8 @@
 // Signal 503, where a message places it: whether a frame has it, and its count put in.
 ghost use mathlib.Core.Path.{_≡_};
 ghost use Rattle.messages.specs.Signals.{checkHolds, summedWord};
-
-pub const CHECKSUM: u32 = 503;
-
-const CHECKSUM_START: u32 = 60;
+use record::CHECKSUM;
+use record::CHECKSUM_START;
 
 const CHECKSUM_BITS: u32 = 4;
 

@@ -12,11 +12,11 @@ ghost use Rattle.framing.specs.Packing.{packable};
 ghost use Rattle.framing.specs.Putting.{allOnes};
 ghost use Rattle.messages.specs.Signals.{messageFrom};
 ghost use Rattle.messages.specs.Put.{Packable, putOne, putAll, packInto};
-use crate::checksum::CHECKSUM;
 use crate::checksum::summed;
 use catalogue::Class;
 use catalogue::Raw;
 use framing::Packing;
+use record::CHECKSUM;
 
 // A word with counts put in, or why one is not.
 pub enum Put {

@@ -22,6 +22,15 @@ pub const START_LIMIT: u32 = 64;
 
 pub const TEXT_LIMIT: usize = 32768;
 
+// The two signals that the house rule gives a start.
+pub const CHECKSUM: u32 = 503;
+
+pub const CHECKSUM_START: u32 = 60;
+
+pub const COUNTER: u32 = 504;
+
+pub const COUNTER_START: u32 = 56;
+
 // The words: three counts, then the columns, each at its greatest length.
 pub const BOOK_WORDS: usize = 771;
 
