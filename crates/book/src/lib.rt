@@ -5,6 +5,7 @@
 use answers::Answer;
 use answers::Refusal;
 use columns::part;
+use parts::NEWLINE;
 use parts::find;
 use parts::part_from;
 use record::BOOK_WORDS;
@@ -26,8 +27,6 @@ ghost use Rattle.taking.specs.Taking.{PassedTo};
 ghost use Rattle.verdict.specs.Verdicts.{Judged};
 ghost use Rattle.book.specs.Answered.{Answered};
 ghost use Rattle.book.specs.Reader.{nextLine, readerAt, movedOn};
-
-const NEWLINE: u8 = b'\n';
 
 // The verdict on the routes of a book.
 fn verdict_on(book: &[u32; BOOK_WORDS]) -> Verdict
