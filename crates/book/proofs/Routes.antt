@@ -1,6 +1,6 @@
 -- The routes of a book as they stand in its words. Assumes nothing.
 use mathlib.Core.Path.{_≡_, sym, ap, _∙_}
-use Prim.Native.Nat.{ℕ, _+_, _-_, _≤_}
+use Prim.Native.Nat.{ℕ, _+_, _≤_}
 use native.Mathlib.Omega.{arith}
 use mathlib.Core.List.{List, _++_, map}
 use lib.ListN.{length, take, drop, length-map}
@@ -58,13 +58,12 @@ module _ {w : List ℕ} {b : Book} (h : Holds w b) where
     pub count-few : count ≤ routeLimit
     count-few = omega (arith, count-is, h .within .routes)
 
-    -- a part of a column up to the count
-    first-ones : (f : Route → ℕ) {fs p : List ℕ} → fs ≡ column routeLimit (map f (b .routes)) → p ≡ take (count - 0) (drop 0 fs) → p ≡ map f (b .routes)
+    -- the first entries of a column, as many as there are routes
+    first-ones : (f : Route → ℕ) {fs p : List ℕ} → fs ≡ column routeLimit (map f (b .routes)) → p ≡ take count fs → p ≡ map f (b .routes)
     first-ones f e q =
-        let z : count - 0 ≡ count = omega arith in
-        q ∙ rw (z, e) (take-column routeLimit count (map f (b .routes)) (length-map (b .routes) f ∙ sym count-is))
+        q ∙ rw e (take-column routeLimit count (map f (b .routes)) (length-map (b .routes) f ∙ sym count-is))
 
-    pub on-routes : (v : Verdict) {fs ts p q : List ℕ} → fs ≡ fromsOf w → ts ≡ tosOf w → p ≡ take (count - 0) (drop 0 fs) → q ≡ take (count - 0) (drop 0 ts)
+    pub on-routes : (v : Verdict) {fs ts p q : List ℕ} → fs ≡ fromsOf w → ts ≡ tosOf w → p ≡ take count fs → q ≡ take count ts
         → Judged p q v → Judged (froms (b .routes)) (tos (b .routes)) v
     unfolding fromColumn toColumn
     on-routes v e f x y j =
