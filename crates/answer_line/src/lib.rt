@@ -1,6 +1,8 @@
 // The line that the book checker prints: an answer of the book reader in bytes. `print` is the call for users; it has no
 // `requires`, and says for every answer and every lent slice what is written and what stays.
 use answers::Answer;
+use parts::NEWLINE;
+use parts::TAB;
 use printing::put_byte;
 use printing::put_bytes;
 use printing::put_natural;
@@ -16,10 +18,6 @@ ghost use Rattle.answer_line.specs.Printed.{takenLine, refusedLine, answ
 
 // No line of an answer is longer.
 pub const LINE_ROOM: usize = 80;
-
-const TAB: u8 = b'\t';
-
-const NEWLINE: u8 = b'\n';
 
 // A tab and a number.
 fn put_field(out: &mut [u8], at: usize, n: u32) -> usize

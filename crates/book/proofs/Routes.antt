@@ -3,7 +3,7 @@ use mathlib.Core.Path.{_≡_, refl, _∙_}
 use Prim.Native.Nat.{ℕ, _-_, _≤_}
 use native.Mathlib.Omega.{arith}
 use mathlib.Core.List.{List}
-use lib.ListN.{take, drop}
+use lib.ListN.{take}
 use Rattle.record.specs.Columns.{routeCountOf, fromsOf, tosOf}
 use Rattle.books.specs.Book.{Book}
 use Rattle.books.specs.Lines.{routeLimit}
@@ -18,13 +18,11 @@ module _ {w : List ℕ} {b : Book} (h : Holds w b) {count : ℕ} (c : count ≡ 
   pub count-few : count ≤ routeLimit
   count-few = omega (arith, c, routes-held w b h, h .within .routes)
 
-  -- the part of a column up to the count
-  first-ones : {l fs p : List ℕ} → fs ≡ l → p ≡ take (count - 0) (drop 0 fs) → p ≡ take (routeCountOf w) l
-  first-ones e q =
-      let z : count - 0 ≡ routeCountOf w = omega (arith, c) in
-      q ∙ rw (z, e) refl
+  -- the first entries of a column, as many as are counted
+  first-ones : {l fs p : List ℕ} → fs ≡ l → p ≡ take count fs → p ≡ take (routeCountOf w) l
+  first-ones e q = q ∙ rw (c, e) refl
 
-  pub on-routes : (v : Verdict) {fs ts p q : List ℕ} → fs ≡ fromsOf w → ts ≡ tosOf w → p ≡ take (count - 0) (drop 0 fs) → q ≡ take (count - 0) (drop 0 ts)
+  pub on-routes : (v : Verdict) {fs ts p q : List ℕ} → fs ≡ fromsOf w → ts ≡ tosOf w → p ≡ take count fs → q ≡ take count ts
       → Judged p q v → Judged (froms (b .routes)) (tos (b .routes)) v
   on-routes v e f x y j =
       let s = routes-stand w b h in

@@ -4,11 +4,12 @@
 // further on: the reader goes on line by line, and lines are counted from where `read_on` finds it.
 use answers::Answer;
 use answers::Refusal;
-use columns::part;
+use parts::NEWLINE;
 use parts::find;
 use parts::part_from;
 use record::BOOK_WORDS;
 use record::TEXT_LIMIT;
+use record::first;
 use record::wide;
 use taking::Lines;
 use taking::route_line;
@@ -27,8 +28,6 @@ ghost use Rattle.verdict.specs.Verdicts.{Judged};
 ghost use Rattle.book.specs.Answered.{Answered};
 ghost use Rattle.book.specs.Reader.{nextLine, readerAt, movedOn};
 
-const NEWLINE: u8 = b'\n';
-
 // The verdict on the routes of a book.
 fn verdict_on(book: &[u32; BOOK_WORDS]) -> Verdict
     requires { ⌜ OfBook (now book) ⌝ }
@@ -37,7 +36,7 @@ fn verdict_on(book: &[u32; BOOK_WORDS]) -> Verdict
     let count = wide(record::route_count(book));
     let froms = record::froms(book);
     let tos = record::tos(book);
-    verdict::judge(part(froms, 0, count), part(tos, 0, count))
+    verdict::judge(first(froms, count), first(tos, count))
 }
 
 // The answer to a text whose lines have passed: by the verdict on its routes.

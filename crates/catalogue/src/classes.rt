@@ -25,7 +25,8 @@ fn is_between(first: u32, last: u32, count: u32) -> bool
     first <= count && count <= last
 }
 
-fn is_too_wide(bits: u32, count: u32) -> bool
+// Whether a count has more than `bits` bits.
+pub fn is_too_wide(bits: u32, count: u32) -> bool
     requires { ⌜ bits ≤ mostBits ⌝ }
     ensures { λ r. ⌜ r ≡ leb (2 ^ bits) count ⌝ }
 {

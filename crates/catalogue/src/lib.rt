@@ -1,12 +1,13 @@
 // The signal catalogue of the 199 signals of QC/T 1201.5-2023: by a signal's number, how many bits it has and what a raw
-// count of it stands for. No function here has a `requires`; a number that no signal has is answered too. Who asks for both takes
-// the signal's shape once and goes on by that.
+// count of it stands for. A number that no signal has is answered too. Who asks for both takes the signal's shape once and goes on
+// by that. Only `is_too_wide`, which is for `messages`, has a `requires`.
 mod classes;
 mod shapes;
 mod widths;
 
 pub use classes::class_of;
 pub use classes::class_shaped;
+pub use classes::is_too_wide;
 pub use shapes::shape_of;
 pub use widths::bits_of;
 pub use widths::bits_shaped;

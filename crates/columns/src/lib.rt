@@ -14,14 +14,6 @@ const SLOTS: usize = 256;
 
 const SLOT_PRIME: u32 = 251;
 
-// The first `count` entries.
-pub fn first(column: &[u32], count: usize) -> &[u32]
-    requires { ⌜ count ≤ length (now column) ⌝ }
-    ensures { λ r. ⌜ (now r ≡ take count (now (column .entry))) × (length (now r) ≡ count) ⌝ }
-{
-    &column[..count]
-}
-
 // The entries from `first` on, up to `end`.
 pub fn part(column: &[u32], first: usize, end: usize) -> &[u32]
     requires { ⌜ (first ≤ end) × (end ≤ length (now column)) ⌝ }

@@ -1,26 +1,19 @@
 // Numbers of a case: hex digits of a fixed count, read from standard input; and how numbers are printed.
 use libc::STDIN_FILENO;
 use libc::STDOUT_FILENO;
-use numerals::Number;
-
-fn value(digits: &[u8]) -> u32 {
-    match numerals::read_identifier(digits) {
-        Number::Is(n) => n,
-        Number::Not => 0,
-    }
-}
+use numerals::identifier_or_0;
 
 pub fn read_eight_digits() -> u32 {
     let mut digits = [0u8; 8];
     io::read_full(STDIN_FILENO, &mut digits);
-    value(&digits)
+    identifier_or_0(&digits)
 }
 
 // At most 255.
 pub fn read_two_digits() -> u32 {
     let mut digits = [0u8; 2];
     io::read_full(STDIN_FILENO, &mut digits);
-    value(&[b'0', b'0', b'0', b'0', b'0', b'0', digits[0], digits[1]])
+    identifier_or_0(&[b'0', b'0', b'0', b'0', b'0', b'0', digits[0], digits[1]])
 }
 
 pub fn read_byte() -> u8 {

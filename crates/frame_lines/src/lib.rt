@@ -1,16 +1,14 @@
 // One frame line: an identifier, a tab, and the bytes of a frame as pairs of digits, byte 0 first. `read_frame_line` answers for
 // every slice and has no `requires`; `frame_of` is its room.
+use numerals::IDENTIFIER_DIGITS;
 use numerals::Number;
 use numerals::digit;
 use numerals::read_identifier;
+use parts::TAB;
 use parts::part_after;
 use parts::part_before;
 ghost use mathlib.Core.Path.{_≡_};
 ghost use Rattle.frame_lines.specs.Meaning.{told, saidBy, frameLineSays};
-
-const TAB: u8 = b'\t';
-
-const IDENTIFIER_DIGITS: usize = 8;
 
 const FRAME_DIGITS: usize = 16;
 

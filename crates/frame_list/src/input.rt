@@ -7,12 +7,11 @@ use crate::output::send_ill_formed;
 use libc::STDIN_FILENO;
 use listing::Listed;
 use listing::list;
+use parts::NEWLINE;
 use parts::find;
 use parts::part_before;
 use parts::part_from;
 use record::BOOK_WORDS;
-
-const NEWLINE: u8 = b'\n';
 
 // Where the listing stands: how many bytes of an unfinished line the buffer holds, whether a line too long for it is passed
 // over, and whether there is more to read.

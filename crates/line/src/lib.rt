@@ -4,15 +4,13 @@
 use fields::Front;
 use fields::decimal_before;
 use fields::identifier_before;
+use parts::NEWLINE;
+use parts::TAB;
 use parts::part_after;
 use parts::part_from;
 ghost use mathlib.Core.Path.{_≡_};
 ghost use Rattle.line.specs.Meaning.{letterM, letterS, letterR};
 ghost use Rattle.line.specs.First.{OfKind, illFormed, firstLine};
-
-const TAB: u8 = b'\t';
-
-const NEWLINE: u8 = b'\n';
 
 // What a line says. A route's numbers: from bus, from identifier, to bus, to identifier.
 pub enum Line {

@@ -14,13 +14,12 @@ ghost use Rattle.books.specs.Words.{messagesOf, messagesTaken};
 ghost use Rattle.parts.specs.Parts.{lines};
 ghost use Rattle.listing.specs.Listing.{run, ofRun, listing};
 use line::list_line;
+use parts::NEWLINE;
 use parts::find;
 use parts::part_before;
 use parts::part_from;
 use record::BOOK_WORDS;
 use tables::messages_taken;
-
-const NEWLINE: u8 = b'\n';
 
 // What a listing answers.
 pub enum Listed {

@@ -1,4 +1,4 @@
--- One step of a walk over a message's numbers and starts. Assumes nothing.
+-- One step of a walk over a message's numbers and starts; and the check, made and spared. Assumes nothing.
 use mathlib.Core.Path.{_≡_, refl, sym, ap, _∙_, subst}
 use mathlib.Core.Bool.{true, false}
 use mathlib.Core.List.{List, [], _∷_, map}
@@ -8,7 +8,6 @@ use native.Mathlib.Numerals.{add-one}
 use lib.Dec.{eqb}
 use lib.ListN.{length, getD, drop, set, drop-of-length-le}
 use lib.Seq.{drop-cons, sets, length-sets}
-use borrow.Author.Tests.{eq-eqb, ne-eqb}
 use Rattle.bits.specs.Word.{Fits, fieldOf, bytesOf}
 use Rattle.bits.specs.Checksum.{checksumOf}
 use Rattle.books.specs.Book.{Placement}
@@ -21,21 +20,6 @@ use Rattle.messages.specs.Signals.{AllFit, checkHolds}
 -- a list from i on, where i is within it
 pub from : (l : List ℕ) (i : ℕ) → i < length l → drop i l ≡ getD l i 0 ∷ drop (i + 1) l
 from l i h = drop-cons l i 0 h ∙ ap (λ (k : ℕ). getD l i 0 ∷ drop k l) (sym (add-one i))
-
--- ---- is a number in a list
-
-module _ (n : ℕ) (l : List ℕ) (i : ℕ) where
-  pub is-here : i < length l → n ≡ getD l i 0 → isIn n (drop i l) ≡ true
-  unfolding isIn
-  is-here h e = ap (isIn n) (from l i h) ∙ rw (eq-eqb n (getD l i 0) e) refl
-
-  pub is-later : i < length l → (n ≡ getD l i 0 → ⊥) → isIn n (drop i l) ≡ isIn n (drop (i + 1) l)
-  unfolding isIn
-  is-later h e = ap (isIn n) (from l i h) ∙ rw (ne-eqb n (getD l i 0) e) refl
-
-  pub is-none : length l ≤ i → isIn n (drop i l) ≡ false
-  unfolding isIn
-  is-none h = ap (isIn n) (drop-of-length-le l h)
 
 -- ---- placements from i on
 

@@ -1,24 +1,22 @@
 // Values packed by their message, whose signals' numbers and starts stand in two slices, side by side.
 ghost use mathlib.Core.Path.{_≡_};
 ghost use mathlib.Core.List.{List};
-ghost use Prim.Native.Nat.{ℕ, _^_, _≤_};
-ghost use lib.Dec.{leb};
+ghost use Prim.Native.Nat.{ℕ};
 ghost use lib.ListN.{length};
 ghost use Rattle.bits.specs.Frame.{frameBytes};
 ghost use Rattle.bits.specs.Word.{Fits};
 ghost use Rattle.books.specs.Words.{sideBySide};
-ghost use Rattle.rows.specs.Rule.{mostBits};
 ghost use Rattle.catalogue.specs.Find.{bitsOf};
 ghost use Rattle.framing.specs.declared.Packing.{Packing};
 ghost use Rattle.framing.specs.Packing.{packable};
 ghost use Rattle.framing.specs.Putting.{allOnes};
 ghost use Rattle.messages.specs.Signals.{messageFrom};
 ghost use Rattle.messages.specs.Put.{Packable, putOne, putAll, packInto};
-use crate::checksum::CHECKSUM;
 use crate::checksum::summed;
 use catalogue::Class;
 use catalogue::Raw;
 use framing::Packing;
+use record::CHECKSUM;
 
 // A word with counts put in, or why one is not.
 pub enum Put {
@@ -42,15 +40,6 @@ fn is_packable(class: Class) -> bool
     }
 }
 
-// Whether a count has more than `bits` bits.
-fn is_too_wide(bits: u32, count: u32) -> bool
-    requires { ⌜ bits ≤ mostBits ⌝ }
-    ensures { λ r. ⌜ r ≡ leb (2 ^ bits) count ⌝ }
-{
-    let limit: u64 = 1 << bits;
-    limit <= (count as u64)
-}
-
 // The word with one more value at its place; 503 is skipped.
 fn put_one(word: u64, number: u32, start: u32, value: u32) -> Put
     requires { ⌜ Fits start (bitsOf number) ⌝ }
@@ -61,7 +50,7 @@ fn put_one(word: u64, number: u32, start: u32, value: u32) -> Put
     }
     let shape = catalogue::shape_of(number);
     let bits = catalogue::bits_shaped(shape);
-    if is_too_wide(bits, value) {
+    if catalogue::is_too_wide(bits, value) {
         return Put::TooWide;
     }
     if is_packable(catalogue::class_shaped(shape, Raw(value))) {

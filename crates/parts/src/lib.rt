@@ -5,6 +5,11 @@ ghost use Prim.Native.Nat.{_+_, _<_, _≤_};
 ghost use lib.ListN.{length, take, drop};
 ghost use Rattle.parts.specs.Parts.{indexOf};
 
+// What parts fields, and what ends a line.
+pub const TAB: u8 = b'\t';
+
+pub const NEWLINE: u8 = b'\n';
+
 // Where b first stands in s, or the length of s.
 pub fn find(s: &[u8], b: u8) -> usize
     ensures { λ r. ⌜ r ≡ indexOf b (now (s .entry)) ⌝ }

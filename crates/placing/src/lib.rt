@@ -13,18 +13,13 @@ ghost use Rattle.masks.specs.Bit.{bit};
 ghost use Rattle.placing.specs.Placing.{standsAlone, Room, inRun};
 ghost use Rattle.placing.specs.Filling.{Marks, FilledMore};
 ghost use Rattle.record.specs.Limits.{startLimit};
+use record::CHECKSUM;
+use record::CHECKSUM_START;
+use record::COUNTER;
+use record::COUNTER_START;
 use record::START_LIMIT;
 
 const FRAME_BITS: u32 = 64;
-
-// The two signals that the house rule gives a start.
-const CHECKSUM: u32 = 503;
-
-const CHECKSUM_START: u32 = 60;
-
-const COUNTER: u32 = 504;
-
-const COUNTER_START: u32 = 56;
 
 // How many marks there are, by which numbers are told apart quickly: as many as a mask has.
 const MARKS: u32 = masks::WIDTH as u32;

@@ -1,8 +1,8 @@
 // The book as words that the caller lends: where each column stands, one accessor for each, and the empty book.
 // Every call on a book reads it through these accessors. Nothing here judges what the words say.
 ghost use mathlib.Core.Path.{_≡_};
-ghost use Prim.Native.Nat.{_<_};
-ghost use lib.ListN.{length};
+ghost use Prim.Native.Nat.{_<_, _≤_};
+ghost use lib.ListN.{length, take};
 ghost use Rattle.record.specs.Limits.{messageLimit, signalLimit, routeLimit, busLimit, identifierLimit};
 ghost use Rattle.record.specs.Place.{placeKey};
 ghost use Rattle.record.specs.Columns.{messageCountOf, signalCountOf, routeCountOf, idsOf, endsOf, numbersOf, startsOf, fromsOf, tosOf, emptyBook};
@@ -21,6 +21,15 @@ pub const IDENTIFIER_LIMIT: u32 = 536870912;
 pub const START_LIMIT: u32 = 64;
 
 pub const TEXT_LIMIT: usize = 32768;
+
+// The two signals that the house rule gives a start.
+pub const CHECKSUM: u32 = 503;
+
+pub const CHECKSUM_START: u32 = 60;
+
+pub const COUNTER: u32 = 504;
+
+pub const COUNTER_START: u32 = 56;
 
 // The words: three counts, then the columns, each at its greatest length.
 pub const BOOK_WORDS: usize = 771;
@@ -127,6 +136,14 @@ pub fn tos(book: &[u32; BOOK_WORDS]) -> &[u32]
 {
     let words: &[u32] = book;
     &words[TOS..TOS_END]
+}
+
+// The first `count` entries of a column.
+pub fn first(column: &[u32], count: usize) -> &[u32]
+    requires { ⌜ count ≤ length (now column) ⌝ }
+    ensures { λ r. ⌜ (now r ≡ take count (now (column .entry))) × (length (now r) ≡ count) ⌝ }
+{
+    &column[..count]
 }
 
 // Makes the book the empty one.

@@ -15,6 +15,7 @@ use record::BOOK_WORDS;
 use record::BUSES;
 use record::IDENTIFIER_LIMIT;
 use record::ROUTES;
+use record::first;
 use record::wide;
 use zeros::zero_past;
 
@@ -47,14 +48,6 @@ fn count(book: &[u32; BOOK_WORDS]) -> usize
     ensures { λ r. ⌜ r ≡ routeCountOf (now (book .entry)) ⌝ }
 {
     wide(record::route_count(book))
-}
-
-// The first n entries of a column.
-fn first(column: &[u32], n: usize) -> &[u32]
-    requires { ⌜ n ≤ length (now column) ⌝ }
-    ensures { λ r. ⌜ (now r ≡ take n (now (column .entry))) × (length (now r) ≡ n) ⌝ }
-{
-    &column[..n]
 }
 
 // Whether the route columns are those of a taken book.

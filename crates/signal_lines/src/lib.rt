@@ -3,6 +3,8 @@
 // answers the place after it.
 use catalogue::Class;
 use catalogue::Thousandths;
+use parts::NEWLINE;
+use parts::TAB;
 use printing::put_byte;
 use printing::put_bytes;
 use printing::put_natural;
@@ -15,10 +17,6 @@ ghost use Rattle.printing.specs.Put.{PutWithin};
 ghost use Rattle.printing.specs.Decimal.{naturalText};
 ghost use Rattle.signal_lines.specs.Words.{classWord, figureOf};
 ghost use Rattle.signal_lines.specs.Printed.{printedLine, signalLine, refusedLine, lineRoom, endRoom, wordRoom};
-
-const TAB: u8 = b'\t';
-
-const NEWLINE: u8 = b'\n';
 
 // An ill-formed line: `no`, 20.
 pub const ILL_FORMED_LINE: [u8; 6] = *b"no\t20\n";

@@ -69,12 +69,12 @@ pub fn messages_taken(book: &[u32; BOOK_WORDS]) -> bool
     if !rests_zero(numbers, starts, signals) {
         return false;
     }
-    if !columns::distinct(columns::first(ids, messages)) {
+    if !columns::distinct(record::first(ids, messages)) {
         return false;
     }
     well_parted(
-        columns::first(ends, messages),
-        columns::first(numbers, signals),
-        columns::first(starts, signals),
+        record::first(ends, messages),
+        record::first(numbers, signals),
+        record::first(starts, signals),
     )
 }

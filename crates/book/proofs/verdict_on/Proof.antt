@@ -1,4 +1,4 @@
--- `book::verdict_on` meets its contract: the parts of the two columns up to the count are the book's routes. Assumes nothing.
+-- `book::verdict_on` meets its contract: the first entries of the two columns are the book's routes. Assumes nothing.
 use mathlib.Core.Path.{_∙_}
 use native.Mathlib.Omega.{arith}
 use Rattle.book.proofs.Routes.{count-few, on-routes}
@@ -8,7 +8,7 @@ use Rattle.book.proofs.verdict_on.Tie as tie
 use Rattle.book.proofs.verdict_on.Reads as reads
 use Rattle.book.proofs.verdict_on.Lts as lts
 use Rattle.record.proofs.wide.Reads as wide-reads
-use Rattle.columns.proofs.part.Reads as part-reads
+use Rattle.record.proofs.first.Reads as first-reads
 use Rattle.record.proofs.froms.Reads as froms-reads
 use Rattle.record.proofs.route_count.Reads as route-count-reads
 use Rattle.record.proofs.tos.Reads as tos-reads
@@ -26,17 +26,17 @@ froms-requires c κs = search needs
 tos-requires : tie.Need-tos-requires
 tos-requires c κs = search needs
 
-part-requires : tie.Need-part-requires
-part-requires c κs = (omega arith, omega (arith, count-few (c .before .before .before .before .pre .1) (c .before .before .wide .ensures ∙ c .before .before .before .route-count .ensures), c .before .froms .ensures .1))
+first-requires : tie.Need-first-requires
+first-requires c κs = omega (arith, count-few (c .before .before .before .before .pre .1) (c .before .before .wide .ensures ∙ c .before .before .before .route-count .ensures), c .before .froms .ensures .1)
 
-part-requires-2 : tie.Need-part-requires-2
-part-requires-2 c κs = (omega arith, omega (arith, count-few (c .before .before .before .before .before .pre .1) (c .before .before .before .wide .ensures ∙ c .before .before .before .before .route-count .ensures), c .before .tos .ensures .1))
+first-requires-2 : tie.Need-first-requires-2
+first-requires-2 c κs = omega (arith, count-few (c .before .before .before .before .before .pre .1) (c .before .before .before .wide .ensures ∙ c .before .before .before .before .route-count .ensures), c .before .tos .ensures .1)
 
 judge-requires : tie.Need-judge-requires
-judge-requires c κs = (omega (arith, count-few (c .before .before .before .before .before .before .pre .1) (c .before .before .before .before .wide .ensures ∙ c .before .before .before .before .before .route-count .ensures), c .before .part .ensures .1), omega (arith, c .before .part .ensures .1, c .part2 .ensures .1))
+judge-requires c κs = (omega (arith, count-few (c .before .before .before .before .before .before .pre .1) (c .before .before .before .before .wide .ensures ∙ c .before .before .before .before .before .route-count .ensures), c .before .first .ensures .1), omega (arith, c .before .first .ensures .1, c .first2 .ensures .1))
 
 returns : tie.Need-returns
-returns c = λ b h. on-routes h (c .before .before .before .before .before .wide .ensures ∙ c .before .before .before .before .before .before .route-count .ensures) (c .judge .result) (c .before .before .before .before .froms .ensures .0) (c .before .before .before .tos .ensures .0) (c .before .before .part .ensures .0) (c .before .part2 .ensures .0) (c .judge .ensures)
+returns c = λ b h. on-routes h (c .before .before .before .before .before .wide .ensures ∙ c .before .before .before .before .before .before .route-count .ensures) (c .judge .result) (c .before .before .before .before .froms .ensures .0) (c .before .before .before .tos .ensures .0) (c .before .before .first .ensures .0) (c .before .first2 .ensures .0) (c .judge .ensures)
 
 pub verdict-on-spec : {M : Type 1} → statement M
 verdict-on-spec =
@@ -46,7 +46,7 @@ verdict-on-spec =
     wide-requires
     froms-requires
     tos-requires
-    part-requires
-    part-requires-2
+    first-requires
+    first-requires-2
     judge-requires
     returns)

@@ -6,8 +6,8 @@ use borrow.Author.Needs.{needs}
 use Rattle.messages.proofs.checksum.checked.Statement.{statement}
 use Rattle.messages.proofs.checksum.checked.Tie as tie
 
-places-checksum-requires : tie.Need-places-checksum-requires
-places-checksum-requires c κs = search needs
+holds-requires : tie.Need-holds-requires
+holds-requires c κs = search needs
 
 take-requires : tie.Need-take-requires
 take-requires c κs = search needs
@@ -16,11 +16,11 @@ checksum-requires : tie.Need-checksum-requires
 checksum-requires c κs = search needs
 
 returns : tie.Need-returns
-returns c = check-made (c .before .before .before .before .before .args .identifier) (c .before .before .before .before .before .args .word) (c .before .before .before .before .before .args .numbers .now) (c .before .take .result) (c .checksum .result) (sym (c .before .before .before .places-checksum .ensures) ∙ c .before .before .if1 .taken) (c .before .take .ensures) (c .checksum .ensures .0)
+returns c = check-made (c .before .before .before .before .before .args .identifier) (c .before .before .before .before .before .args .word) (c .before .before .before .before .before .args .numbers .now) (c .before .take .result) (c .checksum .result) (sym (c .before .before .before .holds .ensures) ∙ c .before .before .if1 .taken) (c .before .take .ensures) (c .checksum .ensures .0)
 
 returns-2 : tie.Need-returns-2
-returns-2 c = check-spared (c .before .before .before .args .identifier) (c .before .before .before .args .word) (c .before .before .before .args .numbers .now) (sym (c .before .places-checksum .ensures) ∙ c .if1 .left)
+returns-2 c = check-spared (c .before .before .before .args .identifier) (c .before .before .before .args .word) (c .before .before .before .args .numbers .now) (sym (c .before .holds .ensures) ∙ c .if1 .left)
 
 pub checked-spec : {M : Type 1} → statement M
 checked-spec =
-    tie.close (tie.spec places-checksum-requires take-requires checksum-requires returns returns-2)
+    tie.close (tie.spec holds-requires take-requires checksum-requires returns returns-2)

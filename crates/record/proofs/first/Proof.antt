@@ -1,8 +1,8 @@
--- `columns::first` meets its contract: the part that is lent has `count` entries. Assumes nothing.
+-- `record::first` meets its contract: the part that is lent has `count` entries. Assumes nothing.
 use mathlib.Core.Path.{refl, sym}
 use lib.Seq.{length-take-le}
-use Rattle.columns.proofs.first.Statement.{statement}
-use Rattle.columns.proofs.first.Tie as tie
+use Rattle.record.proofs.first.Statement.{statement}
+use Rattle.record.proofs.first.Tie as tie
 
 slice-aggregate-result : tie.Need-slice-aggregate-result
 slice-aggregate-result c = sym (length-take-le _ _ (c .before .pre))
