@@ -14,7 +14,7 @@ use Rattle.catalogue.specs.Class.{classOf, between}
 use Rattle.books.specs.Book.{Message, Book, allPlacements}
 use Rattle.books.specs.Lines.{isIn, unknownOrOver, misplaced, meetsEarlier}
 use Rattle.books.specs.Good.{goodAfter, goodFrom, good}
-use Rattle.books.specs.Words.{messagesOf, messagesTaken, wordsOf}
+use Rattle.books.specs.Words.{Stands, messagesOf, messagesTaken, wordsOf}
 use Rattle.books.proofs.Columns.{within, shows, stands-taken, words-stand}
 use Rattle.bits.specs.Frame.{frameBytes, countAt}
 use Rattle.framing.specs.declared.Reading.{Reading}
@@ -39,13 +39,16 @@ is-good : good (book .messages) ≡ true
 unfolding good goodFrom goodAfter isIn unknownOrOver misplaced meetsEarlier allPlacements bitsOf rowOf rows
 is-good = refl
 
+stand : Stands words (book .messages)
+stand = words-stand book (within (book .messages) is-good .few) (within (book .messages) is-good .room)
+
 taken : messagesTaken words ≡ true
-taken = stands-taken words (book .messages) (words-stand book is-good) is-good
+taken = stands-taken words (book .messages) stand is-good
 
 found : messageOf 0 (messagesOf words) ≡ some message
 unfolding messageOf
 found =
-    ap (messageOf 0) (shows words (book .messages) (within (book .messages) is-good .few) (within (book .messages) is-good .room) (words-stand book is-good))
+    ap (messageOf 0) (shows words (book .messages) (within (book .messages) is-good .few) (within (book .messages) is-good .room) stand)
 
 -- a frame of zeros, and slices with room for one reading
 abbrev zeros : List ℕ
