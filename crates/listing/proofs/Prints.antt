@@ -7,19 +7,17 @@ use Prim.Native.Nat.{ℕ, _^_, _<_}
 use lib.ListN.{length}
 use borrow.Author.Tests.{eq-eqb, ne-eqb}
 use Rattle.bits.specs.Frame.{frameBytes}
-use Rattle.bits.specs.Word.{Fits, bytesOf}
-use Rattle.bits.proofs.Weights.{read-bytes, word-bytes}
+use Rattle.bits.specs.Word.{bytesOf}
+use Rattle.bits.proofs.Weights.{word-bytes}
 use Rattle.books.specs.Book.{Placement, Message}
 use Rattle.books.specs.Words.{sideBySide, messagesOf}
 use Rattle.catalogue.specs.declared.Class.{Class}
-use Rattle.catalogue.specs.Find.{bitsOf}
-use Rattle.catalogue.specs.Class.{classOf}
 use Rattle.frame_lines.specs.declared.FrameLine.the-variants.{NotEightBytes}
 use Rattle.frame_lines.specs.Meaning.{illFormed, frameLineSays, refusal}
 use Rattle.frame_lines.proofs.Behind.{SaysFrame, SaysFewer}
 use Rattle.frames.specs.Lookup.{Spans, part}
-use Rattle.messages.specs.Signals.{AllFit, classFrom, checkHolds, messageFrom}
-use Rattle.messages.proofs.Readings.{check-same}
+use Rattle.messages.specs.Signals.{AllFit, checkHolds, messageFrom}
+use Rattle.messages.proofs.Readings.{check-same, class-same}
 use Rattle.framing.specs.declared.Reading.the-variants.{UnknownIdentifier, WrongChecksum}
 use Rattle.framing.specs.Messages.{messageOf, classIn}
 use Rattle.framing.specs.Reading.{readingNumber, checksumHolds}
@@ -29,9 +27,6 @@ use Rattle.listing.specs.Printout.{signalLines, messageLines, frameListi
 use Rattle.listing.specs.Working.{wordLines, messageText}
 
 -- ---- the word and the frame
-
-class-same : (word : ℕ) → word < 2 ^ 64 → (p : Placement) → Fits (p .start) (bitsOf (p .number)) → classFrom word p ≡ classIn (bytesOf word) p
-class-same word h p f = ap (λ (x : ℕ). classOf (p .number) (record { 0 = x })) (sym (read-bytes word (p .start) (bitsOf (p .number)) h (f .inside)))
 
 lines-same : (identifier word : ℕ) → word < 2 ^ 64 → {ps : List Placement} → AllFit ps → wordLines identifier word ps ≡ signalLines identifier (bytesOf word) ps
 unfolding wordLines signalLines

@@ -33,15 +33,16 @@ map-fit f g h (AllFit.more {p} {ps} a fits) = ap (λ (x : _). x ∷ map f ps) (h
 sets-written : {A : Type 0} (lent vs : List A) → length vs ≤ length lent → sets lent 0 vs ≡ written vs lent
 sets-written lent vs h = sets-eq vs lent 0 (omega arith) ∙ ap (λ (n : ℕ). vs ++ drop n lent) (zero-add (length vs))
 
+-- what is read of the word is what is read of the frame: the count, and its class
+count-same : (word : ℕ) → word < 2 ^ 64 → (p : Placement) → Fits (p .start) (bitsOf (p .number)) → rawIn word p ≡ countOf (bytesOf word) p
+count-same word h p f = sym (read-bytes word (p .start) (bitsOf (p .number)) h (f .inside))
+
+pub class-same : (word : ℕ) → word < 2 ^ 64 → (p : Placement) → Fits (p .start) (bitsOf (p .number)) → classFrom word p ≡ classIn (bytesOf word) p
+class-same word h p f = ap (λ (x : ℕ). classOf (p .number) (record { 0 = x })) (count-same word h p f)
+
 module _ (identifier word : ℕ) (ns ss : List ℕ) (hw : word < 2 ^ 64) (r : Readable ns ss) where
   abbrev M : Message
   M = messageFrom identifier ns ss
-
-  count : (p : Placement) → Fits (p .start) (bitsOf (p .number)) → rawIn word p ≡ countOf (bytesOf word) p
-  count p f = sym (read-bytes word (p .start) (bitsOf (p .number)) hw (f .inside))
-
-  class : (p : Placement) → Fits (p .start) (bitsOf (p .number)) → classFrom word p ≡ classIn (bytesOf word) p
-  class p f = ap (λ (x : ℕ). classOf (p .number) (record { 0 = x })) (count p f)
 
   -- the check on the word is the check on the frame
   pub check-same : checkHolds identifier word ns ≡ checksumHolds M (bytesOf word)
@@ -72,8 +73,8 @@ module _ (identifier word : ℕ) (ns ss : List ℕ) (hw : word < 2 ^ 64) (r : Re
         → _≡_ {A = Reading × Slices} (Read (length ns), out) (readByMessage (some M) (bytesOf word) lent)
     unfolding readByMessage
     was-read e h out a b c =
-        let raws = a ∙ wrote (rawIn word) (countOf (bytesOf word)) (lent .raws) count (omega arith) in
-        let classes = b ∙ wrote (codeIn word) (λ (p : Placement). classCode (classIn (bytesOf word) p)) (lent .classes) (λ p f. ap classCode (class p f)) (omega arith) in
-        let thousandths = c ∙ wrote (readingIn word) (λ (p : Placement). thousandthsOf (classIn (bytesOf word) p)) (lent .thousandths) (λ p f. ap thousandthsOf (class p f)) (omega arith) in
+        let raws = a ∙ wrote (rawIn word) (countOf (bytesOf word)) (lent .raws) (count-same word hw) (omega arith) in
+        let classes = b ∙ wrote (codeIn word) (λ (p : Placement). classCode (classIn (bytesOf word) p)) (lent .classes) (λ p f. ap classCode (class-same word hw p f)) (omega arith) in
+        let thousandths = c ∙ wrote (readingIn word) (λ (p : Placement). thousandthsOf (classIn (bytesOf word) p)) (lent .thousandths) (λ p f. ap thousandthsOf (class-same word hw p f)) (omega arith) in
         let done : out ≡ readings (bytesOf word) (sideBySide ns ss) lent = λ i. record { raws = raws i; classes = classes i; thousandths = thousandths i } in
         rw (sym check-same ∙ e, side-length ns ss (r .same), le-leb (length ns) (room lent) h) (ap (λ (x : Slices). (Read (length ns), x)) done)
