@@ -3,17 +3,9 @@
 // not answered with the `ok` of an empty input.
 use libc::STDERR_FILENO;
 use libc::STDIN_FILENO;
-use libc::STDOUT_FILENO;
 
 // One byte more than the longest text.
 const ENOUGH: usize = 32769;
-
-// The front of a line.
-fn send(line: &[u8], length: usize) {
-    if length <= line.len() {
-        io::write_all(STDOUT_FILENO, parts::part_before(line, length));
-    }
-}
 
 fn main() {
     if os::arg_count() > 1 {
@@ -29,5 +21,5 @@ fn main() {
     let answer = book::read(&text[..size], &mut words);
     let mut line = [0u8; answer_line::LINE_ROOM];
     let length = answer_line::print(answer, &mut line);
-    send(&line, length);
+    streams::write_first(&line, length);
 }

@@ -1,9 +1,10 @@
 // Checks the route books on standard input, one after the other. Each is its length in eight hex digits and a newline, its bytes,
 // and a newline. Each gives the book checker's line.
 use libc::STDIN_FILENO;
-use libc::STDOUT_FILENO;
 use numerals::identifier_or_0;
 use parts::part_before;
+use streams::read_first;
+use streams::write_first;
 
 const MOST_BOOKS: u32 = 1000000;
 
@@ -18,13 +19,6 @@ fn size_in(head: &[u8]) -> usize {
     identifier_or_0(part_before(head, 8)) as usize
 }
 
-// The front of a line.
-fn send(line: &[u8], length: usize) {
-    if length <= line.len() {
-        io::write_all(STDOUT_FILENO, part_before(line, length));
-    }
-}
-
 // The book that is the front of the text.
 fn check(text: &[u8], size: usize) {
     if size <= text.len() {
@@ -32,13 +26,7 @@ fn check(text: &[u8], size: usize) {
         let answer = book::read(part_before(text, size), &mut words);
         let mut line = [0u8; answer_line::LINE_ROOM];
         let length = answer_line::print(answer, &mut line);
-        send(&line, length);
-    }
-}
-
-fn fill(text: &mut [u8], size: usize) {
-    if size <= text.len() {
-        io::read_full(STDIN_FILENO, &mut text[..size]);
+        write_first(&line, length);
     }
 }
 
@@ -55,7 +43,7 @@ fn main() {
         if size >= ROOM {
             return;
         }
-        fill(&mut text, size + 1);
+        read_first(&mut text, size + 1);
         check(&text, size);
     }
 }

@@ -5,6 +5,7 @@ use faults::FaultSum;
 use libc::STDIN_FILENO;
 use libc::STDOUT_FILENO;
 use numerals::identifier_or_0;
+use streams::read_first;
 
 const MOST_LINES: u32 = 1000000;
 
@@ -58,12 +59,6 @@ fn counts_on(line: [u8; LINE]) -> [u32; MOST] {
         i += 1;
     }
     counts
-}
-
-fn read_first(line: &mut [u8], size: usize) {
-    if size <= line.len() {
-        io::read_full(STDIN_FILENO, &mut line[..size]);
-    }
 }
 
 fn sum_first(counts: &[u32], n: usize) {

@@ -11,17 +11,12 @@ use numbers::read_eight_digits;
 use packing::pack_case;
 use reading::read_case;
 use record::BOOK_WORDS;
+use streams::read_first;
 
 const MOST_CASES: u32 = 1000000;
 
 // The longest text of a book.
 const TEXT: usize = 8192;
-
-fn read_first(text: &mut [u8], size: usize) {
-    if size <= text.len() {
-        io::read_full(STDIN_FILENO, &mut text[..size]);
-    }
-}
 
 fn take_first(text: &[u8], size: usize, book: &mut [u32; BOOK_WORDS]) {
     if size <= text.len() {

@@ -2,6 +2,7 @@
 use libc::STDIN_FILENO;
 use libc::STDOUT_FILENO;
 use numerals::identifier_or_0;
+use streams::write_first;
 
 pub fn read_eight_digits() -> u32 {
     let mut digits = [0u8; 8];
@@ -34,16 +35,10 @@ pub fn print_number(n: u32) {
     io::print_decimal(STDOUT_FILENO, n as u64);
 }
 
-fn print_first(text: &[u8], count: usize) {
-    if count <= text.len() {
-        print(&text[..count]);
-    }
-}
-
 pub fn print_signed(n: i64) {
     let mut text = [0u8; 32];
     let count = printing::put_signed(&mut text, 0, n);
-    print_first(&text, count);
+    write_first(&text, count);
 }
 
 // Four bytes as eight digits, the highest first.

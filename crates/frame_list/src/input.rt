@@ -2,9 +2,8 @@
 ghost use mathlib.Core.Path.{_≡_};
 ghost use Prim.Native.Nat.{_+_, _-_, _≤_};
 ghost use lib.ListN.{length, take, drop};
-use crate::output::send;
-use crate::output::send_ill_formed;
 use libc::STDIN_FILENO;
+use libc::STDOUT_FILENO;
 use listing::Listed;
 use listing::list;
 use parts::NEWLINE;
@@ -12,6 +11,8 @@ use parts::find;
 use parts::part_before;
 use parts::part_from;
 use record::BOOK_WORDS;
+use signal_lines::ILL_FORMED_LINE;
+use streams::write_first;
 
 // Where the listing stands: how many bytes of an unfinished line the buffer holds, whether a line too long for it is passed
 // over, and whether there is more to read.
@@ -19,6 +20,11 @@ pub struct Held {
     pub size: usize,
     pub passing: bool,
     pub more: bool,
+}
+
+// The line of an ill-formed line.
+fn send_ill_formed() {
+    io::write_all(STDOUT_FILENO, &ILL_FORMED_LINE);
 }
 
 // Reads once, to after the first `held` bytes. 0: the input has ended.
@@ -39,7 +45,7 @@ fn list_whole(book: &[u32; BOOK_WORDS], text: &[u8], out: &mut [u8]) -> usize
         let rest = part_from(text, used);
         match list(book, rest, &mut *out) {
             Listed::Lines(more, written) => {
-                send(&*out, written);
+                write_first(&*out, written);
                 if more == 0 {
                     return used;
                 }

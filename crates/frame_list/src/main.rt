@@ -2,14 +2,13 @@
 // book that is refused gives the checker's line only. All that is printed comes from the library; this program streams: input
 // of any length goes through one buffer, and what is left of it at a buffer's end comes before what is read next.
 mod input;
-mod output;
 
 use answers::Answer;
 use book::read;
 use input::Held;
 use input::step;
-use output::send;
 use record::BOOK_WORDS;
+use streams::write_first;
 
 // One byte more than the longest text of a book.
 const ENOUGH: usize = 32769;
@@ -63,5 +62,5 @@ fn main() {
     }
     let mut line = [0u8; answer_line::LINE_ROOM];
     let length = answer_line::print(answer, &mut line);
-    send(&line, length);
+    write_first(&line, length);
 }

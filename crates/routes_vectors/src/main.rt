@@ -11,6 +11,7 @@ use record::ROUTE_COUNT;
 use record::ROUTES;
 use record::TOS;
 use route_cases::short_hex;
+use streams::read_first;
 use verdict::Verdict;
 
 const MOST_LINES: u32 = 1000000;
@@ -76,12 +77,6 @@ fn answer(book: &[u32; BOOK_WORDS], n: usize, place: u32) {
         Verdict::Loop(i) => print_index(b"loop\t", i),
         Verdict::Doubling(i) => print_index(b"doubling\t", i),
         Verdict::Sound => print_spread(book, place),
-    }
-}
-
-fn read_first(line: &mut [u8], size: usize) {
-    if size <= line.len() {
-        io::read_full(STDIN_FILENO, &mut line[..size]);
     }
 }
 

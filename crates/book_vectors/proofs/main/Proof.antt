@@ -8,7 +8,7 @@ use Rattle.book_vectors.proofs.main.Tie as tie
 use Rattle.book_vectors.proofs.main.Reads as reads
 use Rattle.book_vectors.proofs.main.Lts as lts
 use Rattle.book_vectors.proofs.check.Reads as check-reads
-use Rattle.book_vectors.proofs.fill.Reads as fill-reads
+use Rattle.streams.proofs.read_first.Reads as read-first-reads
 use Rattle.book_vectors.proofs.size_in.Reads as size-in-reads
 use Rattle.io.proofs.read_full.Reads as read-full-reads
 
@@ -42,14 +42,14 @@ size-in-requires c κs = search needs
 returns-2 : tie.Need-returns-2 Inv-loop μ-loop
 returns-2 c = search needs
 
-slice-aggregate-fill : tie.Need-slice-aggregate-fill Inv-loop μ-loop
-slice-aggregate-fill c = search needs
+slice-aggregate-read-first : tie.Need-slice-aggregate-read-first Inv-loop μ-loop
+slice-aggregate-read-first c = search needs
 
-add-fill : tie.Need-add-fill Inv-loop μ-loop
-add-fill c = search needs
+add-read-first : tie.Need-add-read-first Inv-loop μ-loop
+add-read-first c = search needs
 
-fill-requires : tie.Need-fill-requires Inv-loop μ-loop
-fill-requires c κs = search needs
+read-first-requires : tie.Need-read-first-requires Inv-loop μ-loop
+read-first-requires c κs = search needs
 
 slice-aggregate-check : tie.Need-slice-aggregate-check Inv-loop μ-loop
 slice-aggregate-check c = search needs
@@ -80,9 +80,9 @@ main-spec =
     slice-aggregate-size-in
     size-in-requires
     returns-2
-    slice-aggregate-fill
-    add-fill
-    fill-requires
+    slice-aggregate-read-first
+    add-read-first
+    read-first-requires
     slice-aggregate-check
     check-requires
     loop-less

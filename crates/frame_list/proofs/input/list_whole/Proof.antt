@@ -9,7 +9,7 @@ use Rattle.frame_list.proofs.input.list_whole.Statement.{statement}
 use Rattle.frame_list.proofs.input.list_whole.Tie as tie
 use Rattle.frame_list.proofs.input.list_whole.Reads as reads
 use Rattle.frame_list.proofs.input.list_whole.Lts as lts
-use Rattle.frame_list.proofs.output.send.Reads as send-reads
+use Rattle.streams.proofs.write_first.Reads as write-first-reads
 use Rattle.listing.proofs.list.Reads as list-reads
 use Rattle.parts.proofs.part_from.Reads as part-from-reads
 
@@ -31,8 +31,8 @@ list-requires c κs = search needs
 enum-known-more : tie.Need-enum-known-more Inv-loop μ-loop
 enum-known-more c = search needs
 
-send-requires : tie.Need-send-requires Inv-loop μ-loop
-send-requires c κs = search needs
+write-first-requires : tie.Need-write-first-requires Inv-loop μ-loop
+write-first-requires c κs = search needs
 
 same-length : tie.Need-same-length Inv-loop μ-loop
 same-length c = list-long _ _ _ (c .before .before .before .before .before .before .before .before .list .ensures) ∙ c .before .before .before .before .before .before .before .before .before .before .before .before .loop .inv .1
@@ -74,7 +74,7 @@ list-whole-spec =
     part-from-requires
     list-requires
     enum-known-more
-    send-requires
+    write-first-requires
     same-length
     returns
     add-used

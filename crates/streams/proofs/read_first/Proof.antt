@@ -1,9 +1,9 @@
--- `book_vectors::fill` is safe: the part that it lends is as long as it says. Assumes nothing.
+-- `streams::read_first` is safe: the part that it lends is as long as it says. Assumes nothing.
 use mathlib.Core.Path.{sym}
 use lib.Seq.{length-take-le}
 use borrow.Author.Needs.{needs}
-use Rattle.book_vectors.proofs.fill.Statement.{statement}
-use Rattle.book_vectors.proofs.fill.Tie as tie
+use Rattle.streams.proofs.read_first.Statement.{statement}
+use Rattle.streams.proofs.read_first.Tie as tie
 
 slice-relend-prefix-read-full : tie.Need-slice-relend-prefix-read-full
 slice-relend-prefix-read-full c = search needs
@@ -23,8 +23,8 @@ returns c = search needs
 returns-2 : tie.Need-returns-2
 returns-2 c = search needs
 
-pub fill-spec : {M : Type 1} → statement M
-fill-spec =
+pub read-first-spec : {M : Type 1} → statement M
+read-first-spec =
     tie.close
     (tie.spec
     slice-relend-prefix-read-full
