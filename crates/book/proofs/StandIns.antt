@@ -49,7 +49,7 @@ refuses-all why n w a = differ (answered-once empty-taken a)
 pub takes-all : (m s r : ℕ) (w : List ℕ) → Answered (77 ∷ 10 ∷ []) (taken m s r) w → ⊥
 takes-all m s r w a = differ (answered-once a ill-refused)
 
--- "On every refusal .. an empty book"
+-- "its line, empty book": what every refusal leaves behind
 pub left-empty : {text : List ℕ} {why n : ℕ} {w : List ℕ} → Answered text (refused why n) w → w ≡ emptyBook
 unfolding ofVerdict
 left-empty {text} {why} {n} {w} a = from (way a)

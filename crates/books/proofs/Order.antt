@@ -1,6 +1,6 @@
 -- What a line is refused with is the lowest number that it deserves. Assumes nothing.
 use mathlib.Core.Path.{_≡_, refl}
-use Prim.Native.Nat.{ℕ, suc, _≤_, _<_}
+use Prim.Native.Nat.{ℕ, zero, suc, _≤_, _<_}
 use native.Mathlib.Omega.{arith}
 use mathlib.Core.Bool.{Bool, true, false, cond, _||_}
 use mathlib.Core.List.{List}
@@ -34,6 +34,11 @@ none : (Due : ℕ → Type 0) (j : ℕ) → 0 ≡ suc j → Due 0
 none Due j e = absurd (omega arith)
 
 -- ---- an `M` line
+-- what holds of every number that has one before it holds of every number above 0
+above : (Due : ℕ → Type 0) (r : ℕ) → ((k : ℕ) → r ≡ suc k → Due r) → 0 < r → Due r
+above Due zero f h = absurd (omega arith)
+above Due (suc k) f h = f k refl
+
 module _ (ms : List Message) (i : ℕ) where
   abbrev m3 : Bool
   m3 = leb identifierLimit i
@@ -58,7 +63,7 @@ module _ (ms : List Message) (i : ℕ) where
   message-least n (MessageDue.full e h) = lower m3 2 _ n (omega arith) (lower m5 4 _ n (omega arith) (here m9 8 0 n e h))
 
   pub message-lowest : Lowest (MessageDue ms i) (messageRefusal ms i)
-  message-lowest = record { due = message-due; lowest = message-least }
+  message-lowest = record { due = above (MessageDue ms i) _ message-due; lowest = message-least }
 
 -- ---- an `S` line
 module _ (ms : List Message) (p : Placement) where
@@ -102,7 +107,7 @@ module _ (ms : List Message) (p : Placement) where
       lower s3 2 _ n (omega arith) (lower s4 3 _ n (omega arith) (lower s6 5 _ n (omega arith) (lower s7 6 _ n (omega arith) (lower s8 7 _ n (omega arith) (here s9 8 0 n e h)))))
 
   pub signal-lowest : Lowest (SignalDue ms p) (signalRefusal ms p)
-  signal-lowest = record { due = signal-due; lowest = signal-least }
+  signal-lowest = record { due = above (SignalDue ms p) _ signal-due; lowest = signal-least }
 
 -- ---- an `R` line
 module _ (rs : List Route) (a i b j : ℕ) where
@@ -122,4 +127,4 @@ module _ (rs : List Route) (a i b j : ℕ) where
   route-least n (RouteDue.full e h) = lower r3 2 _ n (omega arith) (here r9 8 0 n e h)
 
   pub route-lowest : Lowest (RouteDue rs a i b j) (routeRefusal rs a i b j)
-  route-lowest = record { due = route-due; lowest = route-least }
+  route-lowest = record { due = above (RouteDue rs a i b j) _ route-due; lowest = route-least }

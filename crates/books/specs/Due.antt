@@ -1,6 +1,6 @@
 -- The table of refusals for one line: which of 3 to 9 it deserves after what the book holds already, in no order. Assumes nothing: these are definitions.
 use mathlib.Core.Path.{_≡_}
-use Prim.Native.Nat.{ℕ, suc, _≤_, _<_}
+use Prim.Native.Nat.{ℕ, _≤_, _<_}
 use mathlib.Core.Bool.{true, _||_}
 use mathlib.Core.List.{List}
 use lib.Dec.{leb}
@@ -30,5 +30,5 @@ pub data RouteDue (rs : List Route) (a i b j n : ℕ) : Type 0 where
 
 -- "the lowest": a number above 0 is one that is due, and none that is due is lower
 pub record Lowest (Due : ℕ → Type 0) (r : ℕ) : Type 0 where
-  pub due : (k : ℕ) → r ≡ suc k → Due r
+  pub due : 0 < r → Due r
   pub lowest : (n : ℕ) → Due n → (0 < r) × (r ≤ n)

@@ -43,7 +43,7 @@ messageRefusal ms i =
     (cond (leb messageLimit (length ms)) 9
     0))
 
--- an `S` line after the placements before it in its message, where the book has so many
+-- an `S` line that is none of 3 and 4: after the placements before it in its message, in a book of `count` signals in all
 unfoldable pub afterRefusal : List Placement → ℕ → Placement → ℕ
 afterRefusal before count p =
     cond (isIn (p .number) (numbers before)) 6

@@ -1,6 +1,6 @@
 // The signal catalogue of the 199 signals of QC/T 1201.5-2023: by a signal's number, how many bits it has and what a raw
 // count of it stands for. A number that no signal has is answered too. Who asks for both takes the signal's shape once and goes on
-// by that. Only `is_too_wide`, which is for `messages`, has a `requires`.
+// by that. Of the public functions only `is_too_wide`, which is for `messages`, has a `requires`.
 mod classes;
 mod shapes;
 mod widths;

@@ -5,6 +5,7 @@ use catalogue::Raw;
 use libc::STDOUT_FILENO;
 use rows::Mark;
 use rows::Row;
+use streams::write_first;
 
 const ROWS: usize = 199;
 
@@ -13,17 +14,11 @@ fn print(n: u32) {
     io::print_decimal(STDOUT_FILENO, n as u64);
 }
 
-fn print_first(text: &[u8], count: usize) {
-    if count <= text.len() {
-        io::write_all(STDOUT_FILENO, &text[..count]);
-    }
-}
-
 fn print_signed(n: i64) {
     let mut text = [0u8; 32];
     let count = printing::put_signed(&mut text, 0, n);
     io::write_all(STDOUT_FILENO, b"\t");
-    print_first(&text, count);
+    write_first(&text, count);
 }
 
 fn wide(n: i32) -> i64 {

@@ -7,7 +7,7 @@ use lib.ListN.{getD}
 use Rattle.record.specs.Place.{placeKey}
 use Rattle.line.specs.declared.Line.{Line}
 use Rattle.line.specs.declared.Line.the-variants as line
-use Rattle.books.specs.Book.{Placement, Message, Route}
+use Rattle.books.specs.Book.{Placement, Message, Route, placement, route}
 use Rattle.reading.specs.Reading.{meanings}
 use Rattle.reading.specs.Taken.{rLinesFrom}
 
@@ -15,7 +15,7 @@ use Rattle.reading.specs.Taken.{rLinesFrom}
 unfoldable pub sPlacements : List Line → List Placement
 sPlacements [] = []
 sPlacements (line.Message i ∷ ls) = []
-sPlacements (line.Signal n s ∷ ls) = record { number = n; start = s } ∷ sPlacements ls
+sPlacements (line.Signal n s ∷ ls) = placement n s ∷ sPlacements ls
 sPlacements (line.Route a i b j ∷ ls) = sPlacements ls
 sPlacements (line.IllFormed ∷ ls) = sPlacements ls
 
@@ -32,7 +32,7 @@ unfoldable pub rRoutes : List Line → List Route
 rRoutes [] = []
 rRoutes (line.Message i ∷ ls) = rRoutes ls
 rRoutes (line.Signal n s ∷ ls) = rRoutes ls
-rRoutes (line.Route a i b j ∷ ls) = record { from = placeKey a i; to = placeKey b j } ∷ rRoutes ls
+rRoutes (line.Route a i b j ∷ ls) = route a i b j ∷ rRoutes ls
 rRoutes (line.IllFormed ∷ ls) = rRoutes ls
 
 -- the messages and the routes of a text

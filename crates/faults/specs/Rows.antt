@@ -34,7 +34,7 @@ toldRow = firstRow
 abbrev pub levelRows : List ℕ
 levelRows = rows 1902 1914 ++ rows 1925 1925
 
--- "one-bit faults (1915 to 1921, 1924, 1926, 1927)"
+-- "one-bit faults .. (1915 to 1921, 1924, 1926, 1927)"
 abbrev pub oneBitRows : List ℕ
 oneBitRows = rows 1915 1921 ++ rows 1924 1924 ++ rows 1926 1927
 

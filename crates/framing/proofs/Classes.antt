@@ -6,9 +6,12 @@ use mathlib.Core.Option.{Option, none, some}
 use Prim.Native.Nat.{ℕ, _^_, _≤_, _<_}
 use native.Mathlib.Omega.{arith}
 use lib.Dec.{eqb}
+use lib.ListN.{length}
 use borrow.Author.Tests.{lt-leb}
 use Rattle.bits.proofs.Weights.{raw-lt}
-use Rattle.books.specs.Book.{Placement}
+use Rattle.books.specs.Book.{Placement, Message}
+use Rattle.books.specs.Words.{messagesOf, messagesTaken}
+use Rattle.books.proofs.Columns.{taken-stands}
 use Rattle.rows.specs.declared.Row.{Row}
 use Rattle.rows.specs.Rows.{invalidKind, absentKind, errorKind}
 use Rattle.catalogue.specs.declared.Raw.{Raw}
@@ -17,8 +20,9 @@ use Rattle.catalogue.specs.declared.Class.the-variants.{Value, Invalid, Absent,
 use Rattle.catalogue.specs.Find.{rowOf, bitsIn, bitsOf}
 use Rattle.catalogue.specs.Class.{between, has, markClass, readingOf, classFor, classOf, refusalOf}
 use Rattle.catalogue.specs.Class as Catalogue
-use Rattle.framing.specs.Messages.{countOf, classIn}
-use Rattle.framing.proofs.Sound.{Sits}
+use Rattle.framing.specs.Messages.{messageOf, countOf, classIn}
+use Rattle.framing.specs.Demand.{placementAt}
+use Rattle.framing.proofs.Sound.{Sits, sits-at, sound-message}
 
 -- a mark gives a class
 mark-class : (kind : ℕ) (raw : Raw) → refusalOf (markClass kind raw) ≡ 0
@@ -47,6 +51,13 @@ known-class : (o : Option Row) (raw : Raw) → 1 ≤ bitsIn o → raw .0 < 2 ^ b
 known-class none raw h k = absurd (omega arith)
 known-class (some r) raw h k = rw (lt-leb (2 ^ r .bits) (raw .0) k) (row-class r raw)
 
-pub read-class : (frame : List ℕ) (p : Placement) → Sits p → refusalOf (classIn frame p) ≡ 0
+read-class : (frame : List ℕ) (p : Placement) → Sits p → refusalOf (classIn frame p) ≡ 0
 unfolding classOf bitsOf
 read-class frame p s = known-class (rowOf (p .number)) (record { 0 = countOf frame p }) (s .fits .some) (raw-lt frame (p .start) (bitsOf (p .number)))
+
+-- each signal that a message of a taken book places
+pub placed-class : (words : List ℕ) (identifier : ℕ) (m : Message) → messagesTaken words ≡ true → messageOf identifier (messagesOf words) ≡ some m
+    → (frame : List ℕ) (i : ℕ) → i < length (m .placements) → refusalOf (classIn frame (placementAt m i)) ≡ 0
+placed-class words identifier m t found frame i h =
+    read-class frame (placementAt m i)
+    (sits-at (sound-message identifier (messagesOf words) m (taken-stands words t .1) found) (record { number = 0; start = 0 }) i h)

@@ -29,7 +29,7 @@ use Rattle.framing.specs.Reading.{Slices, classCode, checksumHolds, read
 use Rattle.framing.specs.Packing.{packable, packing, packedFrame}
 use Rattle.framing.specs.Packed.{Carries, OnesElsewhere}
 use Rattle.framing.specs.Demand.{placementAt, Counted, reservedCode, outsideCode, NoneBarred, PacksAgain}
-use Rattle.framing.proofs.Sound.{Sits, Sound, sound-message}
+use Rattle.framing.proofs.Sound.{Sound, sound-message, sits-at}
 use Rattle.framing.proofs.PackedOnce.{packed-frame}
 use Rattle.framing.proofs.Putting.{Accepted, accepted-judged}
 use Rattle.framing.proofs.Sent.{is-packed, sum-placed}
@@ -65,12 +65,6 @@ module _ (frame : List ℕ) where
           go : (b : Bool) → eqb (p .number) checksumNumber ≡ b → Accepted (p ∷ ps) (countOf frame p ∷ Counts ps)
           go true e = Accepted.skip (eqb-true (p .number) checksumNumber e) a
           go false e = Accepted.fine (eqb-false (p .number) checksumNumber e) (raw-lt frame (p .start) (bitsOf (p .number))) (neither-packs (classIn frame p) (n .0) (n .1)) a
-
--- the i-th placement of a sound message lies within the frame
-sits-at : {ps : List Placement} → Sound ps → (d : Placement) (i : ℕ) → i < length ps → Sits (getD ps i d)
-sits-at Sound.none d i h = absurd (not-suc-le-zero h)
-sits-at (Sound.more s b r) d zero h = s
-sits-at (Sound.more s b r) d (suc i) h = sits-at r d i (le-of-suc-le-suc h)
 
 counts-at : (frame : List ℕ) (ps : List Placement) (d : Placement) (i : ℕ) → i < length ps → getD (Counts frame ps) i 0 ≡ countOf frame (getD ps i d)
 counts-at frame [] d i h = absurd (not-suc-le-zero h)

@@ -5,9 +5,11 @@ use mathlib.Core.Bool.{Bool, true, false, cond, _&&_, _||_, not, and-eq-true-iff
 use mathlib.Core.Logic.{_⊎_, inl, inr}
 use mathlib.Core.List.{List, [], _∷_, _++_}
 use mathlib.Core.Option.{Option, some}
-use Prim.Native.Nat.{ℕ, _+_, _≤_}
+use Prim.Native.Nat.{ℕ, zero, suc, _+_, _≤_, _<_}
+use native.Mathlib.Nat.{not-suc-le-zero, le-of-suc-le-suc}
 use native.Mathlib.Omega.{arith}
 use lib.Dec.{eqb, ltb, leb}
+use lib.ListN.{length, getD}
 use borrow.Author.Tests.{ltb-false, eqb-true, eqb-false, eq-eqb}
 use Rattle.bits.specs.Word.{Fits}
 use Rattle.books.specs.Book.{Placement, Message, numbers}
@@ -34,6 +36,12 @@ pub data BesideAll (q : Placement) : List Placement → Type 0 where
 pub data Sound : List Placement → Type 0 where
   none : Sound []
   more : {p : Placement} {ps : List Placement} → Sits p → BesideAll p ps → Sound ps → Sound (p ∷ ps)
+
+-- the i-th placement of a sound message lies within the frame
+pub sits-at : {ps : List Placement} → Sound ps → (d : Placement) (i : ℕ) → i < length ps → Sits (getD ps i d)
+sits-at Sound.none d i h = absurd (not-suc-le-zero h)
+sits-at (Sound.more s b r) d zero h = s
+sits-at (Sound.more s b r) d (suc i) h = sits-at r d i (le-of-suc-le-suc h)
 
 -- ---- from the tests of a book
 

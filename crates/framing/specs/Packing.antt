@@ -30,7 +30,8 @@ packingNumber NotEightBytes = 21
 packingNumber TooWide = 26
 packingNumber ReservedOrOutside = 27
 
--- a count of this class is sent; reserved and outside are not. The last two are refusals, which are met before this is asked
+-- a count of this class is sent; reserved and outside are not. The last two don't come: a placed signal is in the catalogue
+-- (proofs/Classes.antt), and one too wide is refused before
 abbrev pub packable : Class → Bool
 packable (Of.Value t) = true
 packable (Of.Invalid r) = true

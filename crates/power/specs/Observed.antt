@@ -4,7 +4,7 @@ use mathlib.Core.Bool.{Bool, _&&_, _||_}
 use lib.Dec.{eqb, leb, ltb}
 use Rattle.power.specs.declared.Observation.{Observation}
 
--- "relay counts (1 open, 2 closed)"
+-- "relay counts .. (1 open, 2 closed)"
 abbrev pub o : ℕ
 o = 1
 

@@ -6,7 +6,7 @@ use lib.Dec.{ltb}
 use lib.IntN.{ℤ, pos, negsuc}
 use Rattle.numerals.specs.Written.{digitsOf}
 
--- one digit, and one more for each ten that can be divided out; the first number ends the recursion
+-- one digit, and one more for each time that n can be divided by ten before it is below ten; the first number only bounds how often
 unfoldable pub digitsWithin : ℕ → ℕ → ℕ
 digitsWithin zero n = 1
 digitsWithin (suc most) n = cond (ltb n 10) 1 (suc (digitsWithin most (n / 10)))

@@ -10,7 +10,7 @@ use Rattle.masks.specs.Bit.{width, bit}
 use Rattle.chains.specs.Chain.{LeadsOn}
 use Rattle.chains.specs.Tests.{Tells}
 
--- numbers where routes start: there are at most as many as there are places in a table
+-- numbers where routes start: of at most 64 routes, and as each route has two places, every number is below twice that
 pub record Starts (starts : List ℕ) : Type 0 where
   pub few : length starts ≤ width
   pub low : (j : ℕ) → j < length starts → getD starts j 0 < 2 * width

@@ -1,4 +1,5 @@
-// The book as words that the caller lends: where each column stands, one accessor for each, and the empty book.
+// The book as words that the caller lends: its limits, where each column stands, one accessor for each, the empty book, the
+// number of a place; and the two signals with a fixed start.
 // Every call on a book reads it through these accessors. Nothing here judges what the words say.
 ghost use mathlib.Core.Path.{_≡_};
 ghost use Prim.Native.Nat.{_<_, _≤_};

@@ -1,5 +1,5 @@
--- What a call for a spread writes, where it doesn't refuse: every place that a chain reaches, each once, and nothing else. A spread that
--- follows the first route of a place and drops the rest is none that `spread` may give. Assumes nothing.
+-- What a call for a spread writes, where it doesn't refuse: every place that a chain reaches, each once, and nothing else.
+-- Assumes nothing.
 use mathlib.Core.Path.{_≡_, sym, ap, _∙_, subst}
 use Prim.Native.Nat.{ℕ, _≤_, _<_}
 use native.Mathlib.Omega.{arith}

@@ -24,12 +24,12 @@ pub record Within (b : Book) : Type 0 where
   pub signals : length (allPlacements (b .messages)) ≤ signalLimit
   pub routes : length (b .routes) ≤ routeLimit
 
--- the words are those of the book
+-- the words are those of the book, which is within the limits
 pub record Holds (w : List ℕ) (b : Book) : Type 0 where
   pub words : w ≡ wordsOf b
   pub within : Within b
 
--- the words are those of a book
+-- the words are those of some book within the limits
 abbrev pub OfBook : List ℕ → Type 0
 OfBook w = (b : Book) × Holds w b
 

@@ -1,4 +1,4 @@
--- Which of the eight a class is, whatever count or reading it carries. Assumes nothing: these are definitions.
+-- Which of the six classes or the two refusals a catalogue answer is, whatever count or reading it carries. Assumes nothing: these are definitions.
 use Rattle.catalogue.specs.declared.Class.{Class}
 use Rattle.catalogue.specs.declared.Class.the-variants as class
 
