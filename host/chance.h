@@ -4,6 +4,7 @@
 
 #include <stddef.h>
 #include <stdint.h>
+#include <string.h>
 
 struct chance {
     uint64_t state;
@@ -27,9 +28,15 @@ static inline int one_in(struct chance *c, uint32_t times) {
 }
 
 static inline void chance_bytes(struct chance *c, void *bytes, size_t count) {
-    uint8_t *at = bytes;
-    for (size_t i = 0; i < count; i++)
-        at[i] = (uint8_t)chance_word(c);
+    uint8_t *at = bytes, *end = at + count;
+    for (uint64_t word; at < end; at += sizeof word) {
+        word = chance_word(c);
+        if ((size_t)(end - at) < sizeof word) {
+            memcpy(at, &word, (size_t)(end - at));
+            return;
+        }
+        memcpy(at, &word, sizeof word);
+    }
 }
 
 #endif

@@ -1,46 +1,85 @@
+#define _DEFAULT_SOURCE                   /* for MAP_ANONYMOUS */
 #include "lent.h"
 #include <string.h>
+#include <sys/mman.h>
 
-/* Its bytes and those around it, to whole words. */
-static size_t whole(const struct lent *block) {
-    return (block->bytes + 2 * LENT_GUARD + 7) / 8 * 8;
+/* LENT_ROOM bytes between two closed stretches of as many; null where there are none. */
+static uint8_t *open_between(void) {
+    uint8_t *closed = mmap(0, 3 * LENT_ROOM, PROT_NONE, MAP_PRIVATE | MAP_ANONYMOUS, -1, 0);
+    if (closed == MAP_FAILED || mprotect(closed + LENT_ROOM, LENT_ROOM, PROT_READ | PROT_WRITE) != 0)
+        return 0;
+    return closed + LENT_ROOM;
 }
 
-void *lent_new(struct lent *block, struct chance *c, const char *name, size_t bytes) {
+int lent_open(struct lent *block) {
+    block->was = open_between();
+    block->library = open_between();
+    block->plain = open_between();
+    return block->was && block->library && block->plain;
+}
+
+/* Where the watched bytes begin: behind a block that begins at a closed page, before one that ends there. */
+static size_t watched(const struct lent *block) {
+    return block->first == 0 ? block->bytes : block->first - LENT_WATCHED;
+}
+
+/* Where the block with its watched bytes begins, and how long both are. */
+static size_t begin(const struct lent *block) {
+    return block->first == 0 ? 0 : block->first - LENT_WATCHED;
+}
+
+static size_t whole(const struct lent *block) {
+    return block->bytes + LENT_WATCHED;
+}
+
+void lent_out(struct lent *block, struct chance *c, const char *name, const void *contents, size_t bytes) {
     block->name = name;
     block->bytes = bytes;
-    for (size_t i = 0; i < whole(block) / 8; i++)
-        block->was[i] = chance_word(c);
-    return (uint8_t *)block->was + LENT_GUARD;
+    block->first = one_in(c, 4) ? 0 : LENT_ROOM - bytes;
+    chance_bytes(c, block->was + watched(block), LENT_WATCHED);
+    if (contents)
+        memcpy(block->was + block->first, contents, bytes);
+    else
+        chance_bytes(c, block->was + block->first, bytes);
+    memcpy(block->library + begin(block), block->was + begin(block), whole(block));
+    memcpy(block->plain + begin(block), block->was + begin(block), whole(block));
 }
 
-void lent_out(struct lent *block) {
-    memcpy(block->library, block->was, whole(block));
-    memcpy(block->plain, block->was, whole(block));
+void *lent_library(const struct lent *block) {
+    return block->library + block->first;
 }
 
-void *lent_library(struct lent *block) {
-    return (uint8_t *)block->library + LENT_GUARD;
-}
-
-void *lent_plain(struct lent *block) {
-    return (uint8_t *)block->plain + LENT_GUARD;
-}
-
-static int kept_around(const struct lent *block, const uint64_t *side) {
-    const uint8_t *was = (const uint8_t *)block->was, *now = (const uint8_t *)side;
-    size_t after = LENT_GUARD + block->bytes;
-    return memcmp(was, now, LENT_GUARD) == 0 && memcmp(was + after, now + after, whole(block) - after) == 0;
+void *lent_plain(const struct lent *block) {
+    return block->plain + block->first;
 }
 
 const char *lent_fault(const struct lent *block, int must_stay) {
-    if (!kept_around(block, block->library))
+    size_t at = begin(block), beside = watched(block);
+    if (memcmp(block->was + beside, block->library + beside, LENT_WATCHED) != 0)
         return "the library wrote beside it";
-    if (!kept_around(block, block->plain))
+    if (memcmp(block->was + beside, block->plain + beside, LENT_WATCHED) != 0)
         return "the plain implementation wrote beside it";
-    if (must_stay && memcmp(block->was, block->library, whole(block)) != 0)
+    if (must_stay && memcmp(block->was + at, block->library + at, whole(block)) != 0)
         return "the library changed it and may not";
-    if (memcmp(block->library, block->plain, whole(block)) != 0)
+    if (memcmp(block->library + at, block->plain + at, whole(block)) != 0)
         return "the two left different contents";
+    return 0;
+}
+
+/* Whether the address is one of the LENT_ROOM from this one on. */
+static int within(uintptr_t address, uintptr_t from) {
+    return address >= from && address - from < LENT_ROOM;
+}
+
+const char *lent_trespass(const struct lent *block, const void *address) {
+    uintptr_t at = (uintptr_t)address, library = (uintptr_t)block->library, plain = (uintptr_t)block->plain;
+    if (within(at, library + LENT_ROOM))
+        return "the library went past its end";
+    if (within(at, library - LENT_ROOM))
+        return "the library went before its beginning";
+    if (within(at, plain + LENT_ROOM))
+        return "the plain implementation went past its end";
+    if (within(at, plain - LENT_ROOM))
+        return "the plain implementation went before its beginning";
     return 0;
 }

@@ -1,29 +1,35 @@
 /* Lent memory under watch: three copies of one block, as it was, as the library left it and as the plain implementation left
-   it, each with bytes around it that nobody may write. */
+   it. At one end of a block is a page that is closed, where a call that reads or writes past that end is stopped by the
+   machine; at the other are bytes that nobody may write. */
 #ifndef LENT_H
 #define LENT_H
 
 #include "chance.h"
 
-enum { LENT_ROOM = 4096, LENT_GUARD = 64 };
+/* The bytes between two closed stretches, whole pages on every machine, and how many of them beside a block are watched. */
+enum { LENT_ROOM = 65536, LENT_WATCHED = 64 };
 
 struct lent {
     const char *name;
-    size_t bytes;
-    uint64_t was[(LENT_ROOM + 2 * LENT_GUARD) / 8], library[(LENT_ROOM + 2 * LENT_GUARD) / 8], plain[(LENT_ROOM + 2 * LENT_GUARD) / 8];
+    size_t bytes, first;                  /* first: which of the bytes between the closed stretches is its first */
+    uint8_t *was, *library, *plain;       /* the bytes between the closed stretches, of each copy */
 };
 
-/* Makes a block of so many bytes, filled by chance. Gives where its contents may be written before it is lent. */
-void *lent_new(struct lent *block, struct chance *c, const char *name, size_t bytes);
+/* Gives the block its memory, once for all that is lent in it. 0 where there is none. */
+int lent_open(struct lent *block);
 
-/* Copies what it is now to both sides. */
-void lent_out(struct lent *block);
+/* Lends so many bytes with these contents, or with any by chance where they are null: up to a closed page, one time in four
+   from one on. At most LENT_ROOM - LENT_WATCHED bytes. */
+void lent_out(struct lent *block, struct chance *c, const char *name, const void *contents, size_t bytes);
 
-void *lent_library(struct lent *block);
-void *lent_plain(struct lent *block);
+void *lent_library(const struct lent *block);
+void *lent_plain(const struct lent *block);
 
 /* Null where both sides left the same, kept to their bytes and, if the block was only read or the call refused, left all as
    it was; else what is wrong. */
 const char *lent_fault(const struct lent *block, int must_stay);
+
+/* Null where the address is in no closed stretch of the block; else who went past which end. */
+const char *lent_trespass(const struct lent *block, const void *address);
 
 #endif

@@ -61,11 +61,15 @@ static uint32_t new_place(struct map *map, struct chance *c) {
     return place;
 }
 
+static void append_route(struct made_text *text, uint32_t from, uint32_t to) {
+    append(text, "R\t%" PRIu32 "\t%08" PRIX32 "\t%" PRIu32 "\t%08" PRIX32 "\n", PC_BUS(from), PC_IDENTIFIER(from), PC_BUS(to), PC_IDENTIFIER(to));
+}
+
 /* Mostly to a new place, which makes no loop and no doubling; at times between two places there are. */
-static void append_route(struct made_text *text, struct map *map, struct chance *c) {
+static void append_any_route(struct made_text *text, struct map *map, struct chance *c) {
     uint32_t from = one_in(c, 6) ? new_place(map, c) : any_place(map, c);
     uint32_t to = one_in(c, 32) ? any_place(map, c) : new_place(map, c);
-    append(text, "R\t%" PRIu32 "\t%08" PRIX32 "\t%" PRIu32 "\t%08" PRIX32 "\n", PC_BUS(from), PC_IDENTIFIER(from), PC_BUS(to), PC_IDENTIFIER(to));
+    append_route(text, from, to);
 }
 
 void make_text(struct made_text *text, struct chance *c, uint32_t messages, uint32_t signals, uint32_t routes) {
@@ -80,10 +84,24 @@ void make_text(struct made_text *text, struct chance *c, uint32_t messages, uint
             count = wanted;
         wanted -= append_message(text, c, one_in(c, 8) ? chance_below(c, 1u << 29) : base + 3 * m, count);
         for (; left > 0 && one_in(c, 3); left--)
-            append_route(text, &map, c);
+            append_any_route(text, &map, c);
     }
     for (; left > 0; left--)
-        append_route(text, &map, c);
+        append_any_route(text, &map, c);
+}
+
+void knot_route(struct chance *c, int onward, uint32_t *from, uint32_t *to) {
+    uint32_t first = chance_below(c, onward ? 5 : 6), second = onward ? first + 1 + chance_below(c, 5 - first) : chance_below(c, 6);
+    *from = PC_PLACE(first % 2, first / 2);
+    *to = PC_PLACE(second % 2, second / 2);
+}
+
+void make_knot(struct made_text *text, struct chance *c, uint32_t routes, int onward) {
+    uint32_t from, to;
+    for (text->length = 0; routes > 0; routes--) {
+        knot_route(c, onward, &from, &to);
+        append_route(text, from, to);
+    }
 }
 
 void make_jumble(struct made_text *text, struct chance *c, size_t length) {
@@ -101,17 +119,20 @@ static int odd_line(struct chance *c, char line[64]) {
     static const char *const buses[] = { "0", "1", "7", "8", "07", "10", "" };
     static const char *const ends[] = { "\n", "\n", "\n", "\n", "\t\n", "\r\n", " \n", "", "\n\n", "\t0\n" };
 #define ANY(list) list[chance_below(c, sizeof list / sizeof *list)]
-    switch (chance_below(c, 4)) {
-    case 0:
-        return sprintf(line, "M\t%s%s", ANY(identifiers), ANY(ends));
-    case 1:
-        return sprintf(line, "S\t%s\t%s%s", ANY(numbers), ANY(starts), ANY(ends));
-    case 2:
-        return sprintf(line, "R\t%s\t%s\t%s\t%s%s", ANY(buses), ANY(identifiers), ANY(buses), ANY(identifiers), ANY(ends));
-    default:
-        return sprintf(line, "%c\t%s%s", (int)(uint8_t)"MSRsT1\t"[chance_below(c, 7)], ANY(identifiers), ANY(ends));
-    }
+    uint32_t form = chance_below(c, 4), kind = (uint8_t)"MSRsT1\t"[chance_below(c, 7)];
+    const char *start = ANY(starts), *number = ANY(numbers), *from_bus = ANY(buses), *to_bus = ANY(buses);
+    const char *from = ANY(identifiers), *to = ANY(identifiers), *end = ANY(ends);
 #undef ANY
+    switch (form) {
+    case 0:
+        return sprintf(line, "M\t%s%s", from, end);
+    case 1:
+        return sprintf(line, "S\t%s\t%s%s", number, start, end);
+    case 2:
+        return sprintf(line, "R\t%s\t%s\t%s\t%s%s", from_bus, from, to_bus, to, end);
+    default:
+        return sprintf(line, "%c\t%s%s", (int)kind, from, end);
+    }
 }
 
 static void insert(struct made_text *text, size_t at, const void *bytes, size_t count) {

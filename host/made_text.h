@@ -15,6 +15,12 @@ struct made_text {
    loops and doubling. It is mostly taken. */
 void make_text(struct made_text *text, struct chance *c, uint32_t messages, uint32_t signals, uint32_t routes);
 
+/* A route between two of six places, the place 0 among them; onward: only to a later one, so that no chain closes. */
+void knot_route(struct chance *c, int onward, uint32_t *from, uint32_t *to);
+
+/* A text of so many such routes, which mostly loop or double. */
+void make_knot(struct made_text *text, struct chance *c, uint32_t routes, int onward);
+
 /* The same text with one thing changed: a byte, a line, the end, or a line more. */
 void damage_text(struct made_text *text, struct chance *c);
 

@@ -1,17 +1,14 @@
 /* test [SEED [GROUPS]]: calls every function of the library and its plain twin on the same inputs, made by chance from the
    seed, and compares what they return and every byte of what was lent to them. A group is one book and some cases of each
-   function on it and around it. Prints how often each refusal was met; fails on the first difference, or if some refusal was
-   never met in a run of 100 groups or more. */
-#include "lent.h"
-#include "made_text.h"
-#include "plain.h"
-#include "plain_signals.h"
+   function on it and around it. Prints how often each refusal and each edge was met; fails on the first difference, on a read
+   or write past what was lent, if some refusal was never met in a run of 100 groups or more, or some edge in one of 1000. */
+#define _POSIX_C_SOURCE 200809L
+#include "edge_text.h"
+#include "test.h"
 #include <inttypes.h>
+#include <signal.h>
 #include <stdio.h>
 #include <stdlib.h>
-#include <string.h>
-
-enum function { BOOK_READ, CLASS, FRAME_READ, FRAME_PACK, SPREAD, FAULT_SUM, POWER_STEP, SLEEP_START, SLEEP_WATCH, FUNCTIONS };
 
 static const struct {
     const char *name;
@@ -28,62 +25,61 @@ static const struct {
     { "pc_sleep_watch", { 0, 51, 92, -1 } },
 };
 
-static uint64_t met[FUNCTIONS][100], cases;
-static uint64_t seed = 1, group;
-static struct chance chance;
-static struct lent blocks[8];
+enum { MOST_EDGES = 4096, BLOCKS = 8 };
+
+static const struct {
+    const char *name;
+    uint32_t count;               /* of its edges; where they are counted they have an order */
+} families[FAMILIES] = {
+    [TEXT_LENGTHS] = { "lengths of a text", 4 },
+    [FULL_TABLES] = { "a table full, and one line more", 6 },
+    [FULL_LINES] = { "full tables, and a line wrong by itself", FULL_TEXTS },
+    [EDGE_LINES] = { "lines at a limit", EDGE_TEXTS },
+    [KNOTS] = { "loops and doubling, on line 1 and later", 4 },
+    [BOOK_COUNTS] = { "counts of a lent book, the most and one over", 9 },
+    [SPREAD_ROOMS] = { "room for a spread", 4 },
+    [SPREAD_PLACES] = { "bus and identifier of a place", 8 },
+    [ROW_COUNTS] = { "counts at each row's limits, marks and bits", PLAIN_ROWS * ROW_EDGES },
+    [ROW_FRAMES] = { "the same counts packed and read", PLAIN_ROWS * ROW_EDGES },
+    [SIGNAL_NUMBERS] = { "numbers of signals and between", 2048 },
+    [READ_ROOMS] = { "room for readings", 6 },
+    [CHECKS] = { "checksums in a frame", 4 },
+    [FRAME_LENGTHS] = { "lengths of a frame to read", 3 },
+    [PACK_LENGTHS] = { "lengths of a frame to pack", 3 },
+    [PACK_COUNTS] = { "counts of values to pack", 3 },
+    [FAULT_ALONE] = { "one fault count alone", 27 * 4 },
+    [FAULT_LIMITS] = { "fault counts at their width", 27 * 2 },
+    [FAULT_LENGTHS] = { "lengths of the fault counts", 4 },
+    [FAULT_AGREEMENT] = { "1901 beside the highest level", 3 },
+    [POWER_RULES] = { "state, relays, command and 1604", 7 * 8 * 4 * 4 },
+    [POWER_VOLTAGES] = { "precharge: voltages 0, highest and invalid", 8 },
+    [POWER_HUNDREDTHS] = { "precharge: 100 x outside around 95 x inside", 41 },
+    [POWER_CURRENTS] = { "on: current around 10 A either way", 6 },
+    [POWER_LIMITS] = { "each number of a power step at its limit", 9 * 4 },
+    [POWER_ORDER] = { "two refusals of a power step at once", 6 },
+    [SLEEP_AGES] = { "age, state and wake of a sleep watch", 9 * 2 * 3 },
+    [SLEEP_STATES] = { "sleep states, and none", 4 },
+    [SLEEP_ROUND] = { "ages round the end of the clock", 4 },
+};
+
+static uint64_t met[FUNCTIONS][100], cases, seed = 1, group;
+static uint32_t edges_met[FAMILIES][MOST_EDGES];
+static struct lent blocks[BLOCKS];
 static int used;
-static uint32_t good[PC_BOOK_WORDS];
-static struct made_text text;
+static enum function calling;
+struct chance chance;
 
-/* ---- Lending and judging. */
+/* ---- Numbers by chance. */
 
-static struct lent *lend(const char *name, const void *contents, size_t bytes) {
-    struct lent *block = &blocks[used++];
-    void *at = lent_new(block, &chance, name, bytes);
-    if (contents)
-        memcpy(at, contents, bytes);
-    lent_out(block);
-    return block;
-}
-
-#define L(block, type) ((type *)lent_library(block))
-#define P(block, type) ((type *)lent_plain(block))
-
-static void fail(enum function f, const char *what, const char *name) {
-    printf("%s: %s%s%s (seed %" PRIu64 ", group %" PRIu64 ")\n", functions[f].name, name, *name ? ": " : "", what, seed, group);
-    exit(1);
-}
-
-/* Every block from the first `read_only` of this case on may be written where the call was not refused. */
-static void judge(enum function f, uint32_t library, uint32_t plain, int read_only) {
-    char both[64];
-    for (int i = 0; i < used; i++) {
-        int must_stay = i < read_only || (library != 0 && f != BOOK_READ);
-        const char *fault = lent_fault(&blocks[i], must_stay);
-        if (library == plain && fault)
-            fail(f, fault, blocks[i].name);
-    }
-    if (library != plain) {
-        sprintf(both, "the library gave %" PRIu32 ", the plain one %" PRIu32, library, plain);
-        fail(f, both, "");
-    }
-    if (library < 100)
-        met[f][library]++;
-    cases++;
-    used = 0;
-}
-
-static uint32_t below(uint32_t bound) {
+uint32_t below(uint32_t bound) {
     return chance_below(&chance, bound);
 }
 
-static int once_in(uint32_t times) {
+int once_in(uint32_t times) {
     return one_in(&chance, times);
 }
 
-/* A number from everywhere, the edges of the 32 bits more often. */
-static uint32_t any_number(void) {
+uint32_t any_number(void) {
     uint32_t edge = (uint32_t)1 << below(32);
     switch (below(4)) {
     case 0:
@@ -97,291 +93,74 @@ static uint32_t any_number(void) {
     }
 }
 
-/* ---- Books. */
+/* ---- Lending and judging. */
 
-static void try_book_read(void) {
-    struct lent *t = lend("text", text.bytes, text.length < LENT_ROOM ? text.length : 0);
-    struct lent *book = lend("book", 0, sizeof good), *line = lend("line", 0, 4);
-    const uint8_t *ours = text.length < LENT_ROOM ? L(t, uint8_t) : text.bytes, *theirs = text.length < LENT_ROOM ? P(t, uint8_t) : text.bytes;
-    uint32_t library = pc_book_read(ours, text.length, L(book, uint32_t), L(line, uint32_t));
-    uint32_t plain = plain_book_read(theirs, text.length, P(book, uint32_t), P(line, uint32_t));
-    judge(BOOK_READ, library, plain, 1);
+void begin_case(enum function f) {
+    calling = f;
+    used = 0;
+    cases++;
 }
 
-static void make_any_text(void) {
-    switch (below(8)) {
-    case 0:
-        make_text(&text, &chance, 64, 256, 64);
-        break;
-    case 1:
-        make_text(&text, &chance, 0, 0, 1 + below(64));
-        break;
-    case 2:
-        make_text(&text, &chance, below(4), below(8), 2 + below(6));
-        break;
-    default:
-        make_text(&text, &chance, 1 + below(20), below(80), below(40));
-        break;
+struct lent *lend(const char *name, const void *contents, size_t bytes) {
+    lent_out(&blocks[used], &chance, name, contents, bytes);
+    return &blocks[used++];
+}
+
+static void fail(const char *what, const char *name) {
+    printf("%s: %s%s%s (seed %" PRIu64 ", group %" PRIu64 ", case %" PRIu64 ")\n", functions[calling].name, name, *name ? ": " : "", what,
+           seed, group, cases);
+    exit(1);
+}
+
+/* Whether it is in the list of the function's refusals. */
+static int gives(enum function f, uint32_t number) {
+    const int *refusal = functions[f].refusals;
+    while (*refusal >= 0 && (uint32_t)*refusal != number)
+        refusal++;
+    return *refusal >= 0;
+}
+
+void judge(uint32_t library, uint32_t plain, int read_only) {
+    char both[64];
+    if (library != plain || !gives(calling, library)) {
+        sprintf(both, "the library gave %" PRIu32 ", the plain one %" PRIu32, library, plain);
+        fail(both, "");
     }
-}
-
-/* Over the limit of bytes or near it: lines that can be taken, then more. */
-static void make_long_text(void) {
-    size_t wanted = PC_MOST_TEXT - 2 + below(5);
-    make_any_text();
-    while (text.length < wanted) {
-        size_t part = text.length < wanted - text.length ? text.length : wanted - text.length;
-        if (part == 0)
-            text.bytes[text.length++] = '\n';
-        memmove(text.bytes + text.length, text.bytes, part);
-        text.length += part;
+    for (int i = 0; i < used; i++) {
+        const char *fault = lent_fault(&blocks[i], i < read_only || (library != 0 && calling != BOOK_READ));
+        if (fault)
+            fail(fault, blocks[i].name);
     }
+    met[calling][library]++;
 }
 
-static void try_texts(void) {
-    for (int i = 0; i < 4; i++) {
-        make_any_text();
-        try_book_read();
-        for (uint32_t times = 1 + below(3); times > 0; times--)
-            damage_text(&text, &chance);
-        try_book_read();
+/* The machine stopped a call at a closed page, or elsewhere. No call prints, so it is safe to do so here. */
+static void stopped(int number, siginfo_t *stop, void *context) {
+    (void)number, (void)context;
+    for (int i = 0; i < used; i++) {
+        const char *trespass = lent_trespass(&blocks[i], stop->si_addr);
+        if (trespass)
+            fail(trespass, blocks[i].name);
     }
-    make_jumble(&text, &chance, below(60));
-    try_book_read();
-    if (once_in(8)) {
-        make_long_text();
-        try_book_read();
-    }
+    fail("a read or write outside all that was lent", "");
 }
 
-/* A book that is taken, kept in `good`: the small ones at least are soon found. */
-static void make_good_book(void) {
-    uint32_t line;
-    do
-        make_any_text();
-    while (plain_book_read(text.bytes, text.length, good, &line) != 0);
+/* ---- Edges. */
+
+void meet(enum edges family, uint32_t which) {
+    edges_met[family][which]++;
 }
 
-/* Changes one word of a book, or two: mostly so that it is still almost one that is taken. */
-static void damage_book(uint32_t book[PC_BOOK_WORDS]) {
-    static const uint16_t columns[10][2] = {
-        { PC_BOOK_MESSAGES, 1 }, { PC_BOOK_SIGNALS, 1 }, { PC_BOOK_ROUTES, 1 }, { PC_BOOK_IDENTIFIERS, 64 }, { PC_BOOK_ENDS, 64 },
-        { PC_BOOK_NUMBERS, 256 }, { PC_BOOK_STARTS, 256 }, { PC_BOOK_FROM, 64 }, { PC_BOOK_TO, 64 }, { 0, PC_BOOK_WORDS },
-    };
-    uint32_t column = below(10), first = columns[column][0], size = columns[column][1];
-    uint32_t near = column == 3 || column == 4 ? book[0] : column == 5 || column == 6 ? book[1] : column == 7 || column == 8 ? book[2] : size;
-    uint32_t at = first + below(once_in(3) || near >= size ? size : near + 1), other = first + below(size), kept;
-    switch (below(8)) {
-    case 0:
-        book[at] += once_in(2) ? 1 : 0xFFFFFFFFu;
-        break;
-    case 1:
-        book[at] = 0;
-        break;
-    case 2:
-        book[at] = any_number();
-        break;
-    case 3:
-        book[at] = book[other];
-        break;
-    case 4:
-        kept = book[at];
-        book[at] = book[other];
-        book[other] = kept;
-        break;
-    case 5:
-        book[at] = column == 5 ? any_signal(&chance) : column == 6 ? below(66) : below(4);
-        break;
-    case 6:
-        book[at] ^= (uint32_t)1 << below(32);
-        break;
-    default:
-        book[below(3)] = below(66);
-        break;
-    }
+void meet_each(enum edges family, const int *holds, uint32_t count) {
+    for (uint32_t i = 0; i < count; i++)
+        edges_met[family][i] += holds[i] != 0;
 }
 
-/* The good book, a damaged one, or words by chance. */
-static void choose_book(uint32_t book[PC_BOOK_WORDS]) {
-    memcpy(book, good, sizeof good);
-    if (once_in(3)) {
-        damage_book(book);
-        if (once_in(4))
-            damage_book(book);
-    } else if (once_in(40)) {
-        for (int i = 0; i < PC_BOOK_WORDS; i++)
-            book[i] = once_in(2) ? any_number() : 0;
-    }
-}
-
-/* ---- Signals and frames. */
-
-/* A raw count of the signal: its limits, its marks and their neighbours, and any. */
-static uint32_t any_raw(uint32_t number) {
-    const struct plain_row *row = plain_row_of(number);
-    if (!row || once_in(12))
-        return any_number();
-    switch (below(4)) {
-    case 0:
-        return (once_in(2) ? row->lowest : row->highest) + below(3) - 1;
-    case 1:
-        return row->mark_count ? row->marks[below(row->mark_count)].first + below(3) - 1 : row->highest;
-    default:
-        return (uint32_t)(chance_word(&chance) & (((uint64_t)1 << row->bits) - 1));
-    }
-}
-
-static void try_class(void) {
-    uint32_t number = once_in(6) ? any_number() : once_in(6) ? below(2000) : any_signal(&chance), raw = any_raw(number);
-    struct lent *class_code = lend("class", 0, 4), *thousandths = lend("thousandths", 0, 8);
-    uint32_t library = pc_class(number, raw, L(class_code, uint32_t), L(thousandths, int64_t));
-    uint32_t plain = plain_class(number, raw, P(class_code, uint32_t), P(thousandths, int64_t));
-    judge(CLASS, library, plain, 0);
-}
-
-/* A message of the book, its identifier and where its signals begin and end; at times an identifier that it has not. */
-static void any_message(const uint32_t book[PC_BOOK_WORDS], uint32_t *identifier, uint32_t *first, uint32_t *end) {
-    uint32_t messages = book[0] <= 64 ? book[0] : 64, m = messages ? below(messages) : 0;
-    *identifier = once_in(12) ? any_number() : once_in(20) ? 0 : book[PC_BOOK_IDENTIFIERS + m];
-    *first = m == 0 ? 0 : book[PC_BOOK_ENDS + m - 1];
-    *end = book[PC_BOOK_ENDS + m];
-    if (*end > 256 || *first > *end)
-        *first = *end = 0;
-}
-
-/* Puts the right check into byte 7 for this identifier. */
-static void put_check(uint8_t frame[8], uint32_t identifier) {
-    uint32_t sum = (frame[7] & 15u) + (identifier & 255) + (identifier >> 8 & 255) + (identifier >> 16 & 255) + (identifier >> 24);
-    for (int i = 0; i < 7; i++)
-        sum += frame[i];
-    frame[7] = (uint8_t)((frame[7] & 15) | (((sum >> 6 & 3) + (sum >> 3) + sum) & 7) << 4);
-}
-
-/* What is needed or a little more, at times one too few, or any. */
-static uint32_t any_room(uint32_t needed) {
-    if (once_in(8) || needed > 200)
-        return below(70);
-    return once_in(10) && needed ? needed - 1 : needed + below(3);
-}
-
-static void try_frame_read(void) {
-    uint32_t book[PC_BOOK_WORDS], identifier, first, end;
-    uint8_t bytes[32];
-    size_t length = once_in(12) ? below(17) : 8;
-    choose_book(book);
-    any_message(book, &identifier, &first, &end);
-    chance_bytes(&chance, bytes, sizeof bytes);
-    if (once_in(8))
-        memset(bytes, 0xFF, sizeof bytes);
-    if (!once_in(6))
-        put_check(bytes, identifier);
-    uint32_t raw_room = any_room(end - first), class_room = any_room(end - first), thousandth_room = any_room(end - first);
-    struct lent *b = lend("book", book, sizeof book), *frame = lend("frame", bytes, length);
-    struct lent *raws = lend("raws", 0, 4 * raw_room), *classes = lend("classes", 0, class_room);
-    struct lent *thousandths = lend("thousandths", 0, 8 * thousandth_room), *count = lend("count", 0, sizeof(size_t));
-    uint32_t library = pc_frame_read(L(b, uint32_t), identifier, L(frame, uint8_t), length, L(raws, uint32_t), raw_room, L(classes, uint8_t),
-                                     class_room, L(thousandths, int64_t), thousandth_room, L(count, size_t));
-    uint32_t plain = plain_frame_read(P(b, uint32_t), identifier, P(frame, uint8_t), length, P(raws, uint32_t), raw_room, P(classes, uint8_t),
-                                      class_room, P(thousandths, int64_t), thousandth_room, P(count, size_t));
-    judge(FRAME_READ, library, plain, 2);
-}
-
-/* A raw count that the packer takes. */
-static uint32_t sent_raw(uint32_t number) {
-    const struct plain_row *row = plain_row_of(number);
-    for (int i = 0; row && i < 20; i++) {
-        uint32_t raw = any_raw(number);
-        uint32_t class_code = plain_class_of(row, raw);
-        if (!plain_too_wide(row, raw) && class_code != PC_RESERVED && class_code != PC_OUTSIDE)
-            return raw;
-    }
-    return row ? row->lowest : 0;
-}
-
-static void try_frame_pack(void) {
-    uint32_t book[PC_BOOK_WORDS], identifier, first, end, values[512];
-    size_t length = once_in(12) ? below(17) : 8;
-    choose_book(book);
-    any_message(book, &identifier, &first, &end);
-    uint32_t count = once_in(12) ? any_room(end - first) : end - first, careless = once_in(3);
-    for (uint32_t i = 0; i < count; i++) {
-        uint32_t number = first + i < 256 ? book[PC_BOOK_NUMBERS + first + i] : 0;
-        values[i] = number == CHECKSUM || (careless && once_in(4)) ? any_raw(number) : sent_raw(number);
-    }
-    struct lent *b = lend("book", book, sizeof book), *v = lend("values", values, 4 * count), *frame = lend("frame", 0, length);
-    uint32_t library = pc_frame_pack(L(b, uint32_t), identifier, L(v, uint32_t), count, L(frame, uint8_t), length);
-    uint32_t plain = plain_frame_pack(P(b, uint32_t), identifier, P(v, uint32_t), count, P(frame, uint8_t), length);
-    judge(FRAME_PACK, library, plain, 2);
-}
-
-static void try_spread(void) {
-    uint32_t book[PC_BOOK_WORDS];
-    choose_book(book);
-    uint32_t routes = book[2] <= 64 ? book[2] : 64, place = book[(once_in(3) ? PC_BOOK_TO : PC_BOOK_FROM) + below(routes ? routes : 1)];
-    uint32_t bus = once_in(16) ? 8 + any_number() % 0xFFFFFFF8u : PC_BUS(place);
-    uint32_t identifier = once_in(16) ? any_number() : PC_IDENTIFIER(place), room = once_in(3) ? below(8) : below(70);
-    struct lent *b = lend("book", book, sizeof book), *places = lend("places", 0, 4 * room), *count = lend("count", 0, sizeof(size_t));
-    uint32_t library = pc_spread(L(b, uint32_t), bus, identifier, L(places, uint32_t), room, L(count, size_t));
-    uint32_t plain = plain_spread(P(b, uint32_t), bus, identifier, P(places, uint32_t), room, P(count, size_t));
-    judge(SPREAD, library, plain, 1);
-}
-
-/* ---- Monitors. */
-
-static void try_fault_sum(void) {
-    uint32_t counts[40], length = once_in(8) ? below(40) : 27, quiet = once_in(2);
-    for (uint32_t i = 0; i < 40; i++) {
-        uint32_t bits = i < 14 || i == 24 ? 2 : i == 22 ? 5 : 1;
-        counts[i] = quiet && !once_in(6) ? 0 : below((uint32_t)1 << bits);
-    }
-    if (once_in(4))
-        counts[below(27)] = once_in(2) ? below(33) : any_number();
-    struct lent *given = lend("counts", counts, 4 * length), *sum = lend("sum", 0, 4 * PC_FAULT_WORDS);
-    uint32_t library = pc_fault_sum(L(given, uint32_t), length, L(sum, uint32_t));
-    uint32_t plain = plain_fault_sum(P(given, uint32_t), length, P(sum, uint32_t));
-    judge(FAULT_SUM, library, plain, 1);
-}
-
-/* A voltage that is near completing a precharge, or any. */
-static uint32_t outside_for(uint32_t inside) {
-    return once_in(2) ? inside / 100 * 95 + inside % 100 * 95 / 100 + below(3) - 1 : below(65537);
-}
-
-static struct pc_observation any_observation(void) {
-    static const uint8_t pictures[6][3] = { { 1, 1, 1 }, { 2, 1, 1 }, { 2, 2, 1 }, { 2, 2, 2 }, { 2, 1, 2 }, { 1, 2, 1 } };
-    const uint8_t *picture = pictures[below(6)];
-    struct pc_observation seen;
-    seen.main_negative = once_in(40) ? any_number() : picture[0];
-    seen.precharge = once_in(40) ? any_number() : picture[1];
-    seen.main_positive = once_in(40) ? any_number() : picture[2];
-    seen.command = once_in(40) ? any_number() : below(4);
-    seen.emergency_off = once_in(40) ? any_number() : once_in(3) ? below(4) : 0;
-    seen.current = once_in(40) ? any_number() : once_in(2) ? 19899 + below(203) : once_in(2) ? 20099 + below(3) : below(65536);
-    seen.inside = once_in(40) ? any_number() : once_in(3) ? below(3) + (once_in(2) ? 65533 : 0) : below(8000);
-    seen.outside = once_in(40) ? any_number() : once_in(8) ? 65535 : outside_for(seen.inside);
-    return seen;
-}
-
-static void try_power_step(void) {
-    uint32_t before = once_in(40) ? any_number() : below(7);
-    struct pc_observation seen = any_observation();
-    struct lent *state = lend("state", &before, 4);
-    uint32_t library = pc_power_step(L(state, uint32_t), seen);
-    uint32_t plain = plain_power_step(P(state, uint32_t), seen);
-    judge(POWER_STEP, library, plain, 0);
-}
-
-static void try_sleep(void) {
-    static const uint32_t ages[] = { 0, 1, 9999, 10000, 10001, 0x7FFFFFFF, 0x80000000, 0x80000001, 0xFFFFFFFF };
-    uint32_t last = any_number(), now = once_in(8) ? any_number() : last + ages[below(sizeof ages / sizeof *ages)];
-    uint32_t before = once_in(20) ? any_number() : below(2), wake = once_in(2) ? 0 : once_in(2) ? 1 : any_number();
-    struct lent *last_wake = lend("last_wake", &last, 4), *asleep = lend("asleep", &before, 4);
-    if (once_in(20))
-        judge(SLEEP_START, pc_sleep_start(L(last_wake, uint32_t), L(asleep, uint32_t), now),
-              plain_sleep_start(P(last_wake, uint32_t), P(asleep, uint32_t), now), 0);
-    else
-        judge(SLEEP_WATCH, pc_sleep_watch(L(last_wake, uint32_t), L(asleep, uint32_t), now, wake),
-              plain_sleep_watch(P(last_wake, uint32_t), P(asleep, uint32_t), now, wake), 0);
+uint32_t place_in(const uint32_t *list, uint32_t count, uint32_t number) {
+    uint32_t i = 0;
+    while (i < count && list[i] != number)
+        i++;
+    return i;
 }
 
 /* ---- The run. */
@@ -392,18 +171,20 @@ static void try_group(void) {
     for (int i = 0; i < 16; i++) {
         try_frame_read();
         try_frame_pack();
-        try_spread();
-        try_class();
-        try_class();
+        try_classes();
         try_fault_sum();
         try_power_step();
         try_power_step();
         try_sleep();
     }
+    for (int i = 0; i < 10; i++)
+        try_spread();
+    for (int i = 0; i < 4; i++)
+        try_row_in_frame();
 }
 
-/* Prints what was met. Gives how many refusals were not. */
-static int report(void) {
+/* Prints how often each refusal was met. Gives how many never were. */
+static int report_refusals(void) {
     int missed = 0;
     for (int f = 0; f < FUNCTIONS; f++) {
         printf("%-16s", functions[f].name);
@@ -416,16 +197,50 @@ static int report(void) {
     return missed;
 }
 
+/* Prints of each family of edges how often the rarest was met. Gives how many never were. */
+static int report_edges(void) {
+    int missed = 0;
+    for (int f = 0; f < FAMILIES; f++) {
+        uint32_t rarest = 0, never = 0;
+        for (uint32_t i = 0; i < families[f].count; i++) {
+            never += edges_met[f][i] == 0;
+            if (edges_met[f][i] < edges_met[f][rarest])
+                rarest = i;
+        }
+        printf("%-44s  %" PRIu32 " edges, each met %" PRIu32 " times or more", families[f].name, families[f].count, edges_met[f][rarest]);
+        if (never)
+            printf("; %" PRIu32 " never met, the first is %" PRIu32, never, rarest);
+        printf("\n");
+        missed += never != 0;
+    }
+    return missed;
+}
+
+/* Sets up what is lent, and what happens where a call is stopped. */
+static int ready(void) {
+    struct sigaction action = { .sa_sigaction = stopped, .sa_flags = SA_SIGINFO };
+    for (int i = 0; i < BLOCKS; i++)
+        if (!lent_open(&blocks[i]))
+            return 0;
+    sigemptyset(&action.sa_mask);
+    return sigaction(SIGSEGV, &action, 0) == 0 && sigaction(SIGBUS, &action, 0) == 0;
+}
+
 int main(int argc, char **argv) {
     uint64_t groups = argc > 2 ? strtoull(argv[2], 0, 10) : 2000;
     if (argc > 1)
         seed = strtoull(argv[1], 0, 10);
+    if (!ready()) {
+        printf("no memory to lend, or no way to see a call stopped\n");
+        return 1;
+    }
     for (group = 0; group < groups; group++) {
         chance.state = seed * 0x100000001u + group * 0x9E3779B9u;
         try_group();
     }
-    if (report() != 0 && groups >= 100) {
-        printf("some refusal was never met\n");
+    int refusals_missed = report_refusals(), edges_missed = report_edges();
+    if ((refusals_missed && groups >= 100) || (edges_missed && groups >= 1000)) {
+        printf("some %s was never met\n", refusals_missed ? "refusal" : "edge");
         return 1;
     }
     printf("%" PRIu64 " cases, no difference (seed %" PRIu64 ")\n", cases, seed);

@@ -5,13 +5,14 @@ import os
 
 
 class Row:
-    """One signal. Resolution and offset in thousandths, limits as raw counts, marks as (kind, first, last)."""
+    """One signal. Resolution and offset in thousandths, limits as raw counts, marks as (kind, first, last); the printed limits,
+    (lowest, highest) in thousandths, or None where none are printed."""
 
-    FIELDS = ("number", "bits", "resolution", "offset", "lowest", "highest", "marks")
+    FIELDS = ("number", "bits", "resolution", "offset", "lowest", "highest", "marks", "printed")
 
-    def __init__(self, number, bits, resolution, offset, lowest, highest, marks):
+    def __init__(self, number, bits, resolution, offset, lowest, highest, marks, printed):
         self.number, self.bits, self.resolution, self.offset = number, bits, resolution, offset
-        self.lowest, self.highest = lowest, highest
+        self.lowest, self.highest, self.printed = lowest, highest, printed
         self.marks = [tuple(mark) for mark in marks]
 
     def as_json(self):

@@ -159,12 +159,12 @@ def rows_of_table(table, printed):
         version = VERSION.fullmatch(coding)
         if version:
             lowest, highest, invalid = (int(found) for found in version.groups())
-            marks = [("invalid", invalid, invalid)]
+            marks, printed = [("invalid", invalid, invalid)], None
         else:
             assert meant.strip(), (table, at)
             lowest, highest = whole((low - offset) / resolution), whole((high - offset) / resolution)
-            marks = marks_of(coding, bits)
-        rows.append(Row(table * 100 + at, bits, whole(resolution * 1000), whole(offset * 1000), lowest, highest, marks))
+            marks, printed = marks_of(coding, bits), (whole(low * 1000), whole(high * 1000))
+        rows.append(Row(table * 100 + at, bits, whole(resolution * 1000), whole(offset * 1000), lowest, highest, marks, printed))
     return rows
 
 

@@ -1,6 +1,7 @@
 #!/usr/bin/env python3
-"""Holds the tree against itself: a file uses every name that it brings in, and every definition and law is cited: by another one
-of its file, by a file that brings it in, or by a line of docs/PROMISES.md that names its crate too. (A function's `-spec` is its proof.)"""
+"""Holds the tree against itself: a file uses every name that it brings in; every definition and law is cited: by another one of its
+file, by a file that brings it in, or by a line of docs/PROMISES.md that names its crate too (a function's `-spec` is its proof); and
+a definition of specs/, or a type of src/, has a name that nothing else has."""
 
 import re
 import sys
@@ -55,6 +56,34 @@ def cites(texts, promises, crate, module):
     return [text for text in texts if bringing.search(text)] + of_crate
 
 
+def defined(path, text):
+    """What a file of specs/ defines for others, but the fields of records and the constructors of data; of src/, its types."""
+    if path.suffix == ".rt":
+        return re.findall(r"(?m)^\s*pub (?:struct|enum) (\w+)", text)
+    names, inside = [], None
+    for line in text.split("\n"):
+        indent = len(line) - len(line.lstrip())
+        if not line.strip() or (inside is not None and indent > inside):
+            continue
+        inside = None
+        if found := re.match(rf" *(?:abbrev |unfoldable )?pub (?:(record|data) )?({WORD}+)", line):
+            if found[2] not in ("mod", "use"):
+                names.append(found[2])
+            if found[1]:
+                inside = indent
+    return names
+
+
+def twice(texts):
+    """The names that stand for several things."""
+    homes = {}
+    for path, text in texts.items():
+        if path.parts[2] in ("specs", "src"):
+            for name in defined(path, text):
+                homes.setdefault(name, []).append(str(path))
+    return [f"{name} has several meanings: {', '.join(where)}" for name, where in sorted(homes.items()) if len(where) > 1]
+
+
 def main():
     texts = {path.relative_to(ROOT): bare(path) for path in FILES}
     promises = (ROOT / "docs/PROMISES.md").read_text().split("\n")
@@ -65,7 +94,8 @@ def main():
         if names:
             citing = cites(texts.values(), promises, path.parts[1], ".".join(path.with_suffix("").parts[2:]))
             faults += [f"{path}: nothing cites {name}" for name in names if not any(has(text, name) for text in citing)]
-    print("\n".join(faults) if faults else "names: all are used")
+    faults += twice(texts)
+    print("\n".join(faults) if faults else "names: all are used, and each has one meaning")
     sys.exit(bool(faults))
 
 

@@ -1,6 +1,8 @@
 #!/usr/bin/env python3
 """Holds the papers against the tree: every definition, theorem, function and must-fail edit that they name is there, every link
-leads somewhere, and docs/PROMISES.md names every must-fail edit.
+leads somewhere, and docs/PROMISES.md names every must-fail edit. What it lists as the working side is just what no promise rests on:
+the files of specs/ that no definition named there uses, however far down. And each public function has its law of one outcome, but
+for the parts of programs that it names.
 
 A reference is in backquotes: `crate: File name, name` (specs/ or proofs/), `crate: function()` (src/), `crate/edit` (must-fail/)."""
 
@@ -42,6 +44,57 @@ def missing(reference):
             yield name
 
 
+def files_named(text):
+    """The files of specs/ that references in backquotes name."""
+    for crate, items in re.findall(r"`([a-z_]+): ([^`]+)`", text):
+        for item in items.split(","):
+            yield crate, item.split()[0]
+
+
+def rested_on(named, specs):
+    """Those files, with all that they use."""
+    seen, left = set(), [file for file in named if file in specs]
+    while left:
+        file = left.pop()
+        if file not in seen:
+            seen.add(file)
+            left += [other for other in re.findall(r"(?m)^(?:pub )?use Rattle·(\w+?)(?:·specs)?\.specs\.(\w+)", specs[file]) if other in specs]
+    return seen
+
+
+def working_side(promises):
+    """What docs/PROMISES.md says of the working side, and should not."""
+    specs = {(path.parts[-3], path.stem): path.read_text() for path in ROOT.glob("crates/*/specs/*.antt") if path.stem != "Lib"}
+    said, _, rest = promises.partition("### Wrong programs")
+    listed = rest.partition("### Definitions of the working side")[2].partition("Not of the working side")[0]
+    under, working = rested_on(files_named(said), specs), set(files_named(listed))
+    for crate, file in sorted(working & under):
+        yield f"docs/PROMISES.md: {crate}: {file} is listed as the working side, and a promise rests on it"
+    for crate, file in sorted(set(specs) - working - under):
+        yield f"docs/PROMISES.md: {crate}: {file} is neither rested on nor listed as the working side"
+
+
+def public_functions(crate):
+    """The names by which other crates, or C, call the functions of a library."""
+    root = (crate / "src/lib.rt").read_text()
+    names = re.findall(r"(?m)^pub fn (\w+)", root) + re.findall(r"(?m)^pub use \w+::([a-z]\w*);", root)
+    for path in (crate / "src").glob("*.rt"):
+        text = path.read_text()
+        names += re.findall(r'pub extern "C" fn pc_(\w+)', text)
+        names += [name for body in re.findall(r"(?ms)^impl \w+.*?\{$(.*?)^\}", text) for name in re.findall(r"pub fn (\w+)", body)]
+    return names
+
+
+def without_law(promises):
+    """The public functions that have no law of one outcome and are not named as parts of programs."""
+    for crate in sorted(path.parent.parent for path in ROOT.glob("crates/*/src/lib.rt")):
+        laws = "".join(path.read_text() for path in crate.glob("proofs/OneOutcome.antt"))
+        for name in public_functions(crate):
+            law = "one-" + name.replace("_", "-")
+            if not re.search(rf"(?m)^ *pub {law} :", laws) and f"`{crate.name}::{name}`" not in promises:
+                yield f"{crate.name}::{name}: no law {law}, and docs/PROMISES.md does not name it as part of a program"
+
+
 def main():
     faults = []
     for paper in PAPERS:
@@ -53,6 +106,7 @@ def main():
     for edit in sorted(ROOT.glob("crates/*/must-fail/*.edit")):
         if f"`{edit.parts[-3]}/{edit.stem}`" not in promises:
             faults.append(f"docs/PROMISES.md: {edit.parts[-3]}/{edit.stem} is not named")
+    faults += [*working_side(promises), *without_law(promises)]
     print("\n".join(faults) if faults else "papers: all that they name is there")
     sys.exit(bool(faults))
 

@@ -1,3 +1,4 @@
 pub mod Weights
 pub mod Placing
 pub mod Summing
+pub mod OneOutcome

@@ -3,4 +3,3 @@ pub mod Answers
 pub mod Once
 pub mod OneOutcome
 pub mod StandIns
-pub mod NextLines

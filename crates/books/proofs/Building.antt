@@ -10,25 +10,21 @@ use borrow.Author.Tests.{leb-true, leb-false, le-leb, lt-leb, eqb-false, ne-eqb}
 use Rattle.books.specs.Book.{Placement, Message, identifiers, numbers, allPlacements, fresh, withPlacement, inLast, lastPlacements}
 use Rattle.books.specs.Lines.{isIn, unknownOrOver, misplaced, meetsEarlier, messageRefusal, afterRefusal, signalRefusal, identifierLimit, messageLimit, signalLimit}
 use Rattle.books.specs.Built.{Built, none, message, signal}
-use Rattle.books.specs.Good.{goodAfter, goodFrom, good}
+use Rattle.books.specs.Good.{fitsAfter, goodAfter, goodFrom, good}
 use Rattle.books.proofs.Tests.{neither, nor, not-refused, no-refusal}
 use Rattle.books.proofs.Ends.{map-append, all-append, all-one, count-last, length-more, in-last, last-placements, Last, last}
-
--- what the test says of one placement after those before it
-abbrev Fits : List Placement → Placement → Bool
-Fits before p = not (unknownOrOver p || (isIn (p .number) (numbers before) || (misplaced p || meetsEarlier before p)))
 
 abbrev Fresh : List ℕ → ℕ → Bool
 Fresh before i = not (leb identifierLimit i || isIn i before)
 
 -- one placement more at the end
-after-more : (before ps : List Placement) (p : Placement) → goodAfter before (ps ++ (p ∷ [])) ≡ goodAfter before ps && Fits (before ++ ps) p
+after-more : (before ps : List Placement) (p : Placement) → goodAfter before (ps ++ (p ∷ [])) ≡ goodAfter before ps && fitsAfter (before ++ ps) p
 unfolding goodAfter
-after-more before [] p = rw append-nil (and-true (Fits before p))
+after-more before [] p = rw append-nil (and-true (fitsAfter before p))
 after-more before (q ∷ ps) p =
-    ap (λ (t : Bool). Fits before q && t)
-    (after-more (before ++ (q ∷ [])) ps p ∙ ap (λ (l : List Placement). goodAfter (before ++ (q ∷ [])) ps && Fits l p) (append-assoc before (q ∷ []) ps)) ∙
-    sym (and-assoc (Fits before q) (goodAfter (before ++ (q ∷ [])) ps) (Fits (before ++ (q ∷ ps)) p))
+    ap (λ (t : Bool). fitsAfter before q && t)
+    (after-more (before ++ (q ∷ [])) ps p ∙ ap (λ (l : List Placement). goodAfter (before ++ (q ∷ [])) ps && fitsAfter l p) (append-assoc before (q ∷ []) ps)) ∙
+    sym (and-assoc (fitsAfter before q) (goodAfter (before ++ (q ∷ [])) ps) (fitsAfter (before ++ (q ∷ ps)) p))
 
 -- one message more at the end
 from-more : (before : List ℕ) (ms : List Message) (m : Message)
@@ -48,11 +44,11 @@ from-more before (x ∷ ms) m =
 
 -- the last message with one placement more
 last-more : (before : List Message) (m : Message) (p : Placement)
-    → goodFrom [] (before ++ (m ∷ [])) ≡ true → Fits (m .placements) p ≡ true → goodFrom [] (before ++ (withPlacement m p ∷ [])) ≡ true
+    → goodFrom [] (before ++ (m ∷ [])) ≡ true → fitsAfter (m .placements) p ≡ true → goodFrom [] (before ++ (withPlacement m p ∷ [])) ≡ true
 last-more before m p h f =
     let a = and-eq-true-iff (goodFrom [] before) (Fresh (identifiers before) (m .identifier) && goodAfter [] (m .placements)) .0 (sym (from-more [] before m) ∙ h) in
     let b = and-eq-true-iff (Fresh (identifiers before) (m .identifier)) (goodAfter [] (m .placements)) .0 (a .1) in
-    let c = after-more [] (m .placements) p ∙ and-eq-true-iff (goodAfter [] (m .placements)) (Fits (m .placements) p) .1 (b .1, f) in
+    let c = after-more [] (m .placements) p ∙ and-eq-true-iff (goodAfter [] (m .placements)) (fitsAfter (m .placements) p) .1 (b .1, f) in
     from-more [] before (withPlacement m p) ∙
     and-eq-true-iff (goodFrom [] before) (Fresh (identifiers before) (m .identifier) && goodAfter [] (m .placements ++ (p ∷ []))) .1
     (a .0, and-eq-true-iff (Fresh (identifiers before) (m .identifier)) (goodAfter [] (m .placements ++ (p ∷ []))) .1 (b .0, c))
@@ -88,7 +84,7 @@ taken-message ms i t =
 
 pub record Signal-taken (ms : List Message) (p : Placement) : Type 0 where
   pub there : length ms ≡ 0 → ⊥
-  pub fits : Fits (lastPlacements ms) p ≡ true
+  pub fits : fitsAfter (lastPlacements ms) p ≡ true
   pub room : length (allPlacements ms) < signalLimit
 
 pub signal-taken : (ms : List Message) (p : Placement) → signalRefusal ms p ≡ 0 → Signal-taken ms p
@@ -162,7 +158,7 @@ unfolding goodAfter
 build-placements ms i before [] b g r = rw append-nil b
 build-placements ms i before (p ∷ ps) b g r =
     let m : Message = record { identifier = i; placements = before } in
-    let h = and-eq-true-iff (Fits before p) (goodAfter (before ++ (p ∷ [])) ps) .0 g in
+    let h = and-eq-true-iff (fitsAfter before p) (goodAfter (before ++ (p ∷ [])) ps) .0 g in
     let t : Signal-taken (ms ++ (m ∷ [])) p = record {
       there = λ z. omega (arith, length-more ms m, z);
       fits = rw last-placements (h .0);

@@ -14,7 +14,7 @@ use Rattle.books.specs.Book.{Placement, Message, Book, identifiers, numb
 use Rattle.books.specs.Lines.{messageLimit, signalLimit}
 use Rattle.books.specs.Built.{Built}
 use Rattle.books.specs.Good.{good, goodFrom}
-use Rattle.books.specs.Words.{column, idColumn, endColumn, numberColumn, startColumn, starts, endsAfter, messageColumns, routeColumns, wordsOf, shown, messagesOf, same, messagesTaken, Stands}
+use Rattle.books.specs.Words.{column, idColumn, endColumn, numberColumn, startColumn, placementStarts, endsAfter, messageColumns, routeColumns, wordsOf, shown, messagesOf, same, messagesTaken, Stands}
 use Rattle.books.proofs.Building.{good-built, built-good}
 use Rattle.books.proofs.Sides.{side-back}
 
@@ -92,7 +92,7 @@ module _ (ms : List Message) (few : length ms ≤ messageLimit) (room : length (
   numbers-long = length-column signalLimit (numbers (allPlacements ms)) (omega (arith, length-map (allPlacements ms) (λ (p : Placement). p .number)))
 
   pub starts-long : length (startColumn ms) ≡ signalLimit
-  starts-long = length-column signalLimit (starts (allPlacements ms)) (omega (arith, length-map (allPlacements ms) (λ (p : Placement). p .start)))
+  starts-long = length-column signalLimit (placementStarts (allPlacements ms)) (omega (arith, length-map (allPlacements ms) (λ (p : Placement). p .start)))
 
   pub columns-long : length (messageColumns ms) ≡ messageWords
   unfolding messageColumns
@@ -132,7 +132,7 @@ module _ (w : List ℕ) (ms : List Message) (few : length ms ≤ messageLimit) (
         take-column messageLimit (length ms) (identifiers ms) (length-map ms (λ (m : Message). m .identifier)),
         take-column messageLimit (length ms) (endsAfter 0 ms) (length-ends 0 ms),
         take-column signalLimit (length (allPlacements ms)) (numbers (allPlacements ms)) (length-map (allPlacements ms) (λ (p : Placement). p .number)),
-        take-column signalLimit (length (allPlacements ms)) (starts (allPlacements ms)) (length-map (allPlacements ms) (λ (p : Placement). p .start)),
+        take-column signalLimit (length (allPlacements ms)) (placementStarts (allPlacements ms)) (length-map (allPlacements ms) (λ (p : Placement). p .start)),
         side-back,
       )
       (shown-back 0 ms)

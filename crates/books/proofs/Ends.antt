@@ -60,3 +60,11 @@ one-more (x ∷ xs) p h =
       omega (arith, length-more (r .before) (withPlacement (r .last) p), length-more (r .before) (r .last)),
       omega (arith, count-last (r .before) (withPlacement (r .last) p), count-last (r .before) (r .last), length-more (r .last .placements) p),
     ))
+
+pub last-longer : (ms : List Message) (p : Placement) → 0 < length ms → lastPlacements (inLast ms p) ≡ lastPlacements ms ++ (p ∷ [])
+last-longer [] p h = absurd (omega arith)
+last-longer (x ∷ xs) p h =
+    let l = last x xs in
+    subst (λ (ms : List Message). lastPlacements (inLast ms p) ≡ lastPlacements ms ++ (p ∷ [])) (sym (l .whole))
+    (ap lastPlacements (in-last (l .before) (l .last) p) ∙ last-placements (l .before) (withPlacement (l .last) p) ∙
+    ap (λ (ps : List Placement). ps ++ (p ∷ [])) (sym (last-placements (l .before) (l .last))))

@@ -2,6 +2,7 @@ pub mod Tests
 pub mod Ends
 pub mod Order
 pub mod Building
+pub mod Meeting
 pub mod Sides
 pub mod Columns
 pub mod RouteColumns

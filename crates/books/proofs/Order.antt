@@ -9,7 +9,7 @@ use lib.ListN.{length}
 use borrow.Author.Tests.{eqb-true, eq-eqb}
 use Rattle.books.specs.Book.{Placement, Message, Route, identifiers, numbers, allPlacements, lastPlacements}
 use Rattle.books.specs.Lines.{isIn, unknownOrOver, misplaced, meetsEarlier, messageRefusal, afterRefusal, signalRefusal, routeRefusal, messageLimit, signalLimit, routeLimit, busLimit, identifierLimit}
-use Rattle.books.specs.Due.{MessageDue, SignalDue, RouteDue, Lowest}
+use Rattle.books.specs.Due.{MessageDue, SignalDue, RouteDue, LowestDue}
 
 -- a number above 0, and no higher than n
 abbrev UpTo : ℕ → ℕ → Type 0
@@ -62,7 +62,7 @@ module _ (ms : List Message) (i : ℕ) where
   message-least n (MessageDue.again e h) = lower m3 2 _ n (omega arith) (here m5 4 _ n e h)
   message-least n (MessageDue.full e h) = lower m3 2 _ n (omega arith) (lower m5 4 _ n (omega arith) (here m9 8 0 n e h))
 
-  pub message-lowest : Lowest (MessageDue ms i) (messageRefusal ms i)
+  pub message-lowest : LowestDue (MessageDue ms i) (messageRefusal ms i)
   message-lowest = record { due = above (MessageDue ms i) _ message-due; lowest = message-least }
 
 -- ---- an `S` line
@@ -106,7 +106,7 @@ module _ (ms : List Message) (p : Placement) where
   signal-least n (SignalDue.full e h) =
       lower s3 2 _ n (omega arith) (lower s4 3 _ n (omega arith) (lower s6 5 _ n (omega arith) (lower s7 6 _ n (omega arith) (lower s8 7 _ n (omega arith) (here s9 8 0 n e h)))))
 
-  pub signal-lowest : Lowest (SignalDue ms p) (signalRefusal ms p)
+  pub signal-lowest : LowestDue (SignalDue ms p) (signalRefusal ms p)
   signal-lowest = record { due = above (SignalDue ms p) _ signal-due; lowest = signal-least }
 
 -- ---- an `R` line
@@ -126,5 +126,5 @@ module _ (rs : List Route) (a i b j : ℕ) where
   route-least n (RouteDue.over e h) = here r3 2 _ n e h
   route-least n (RouteDue.full e h) = lower r3 2 _ n (omega arith) (here r9 8 0 n e h)
 
-  pub route-lowest : Lowest (RouteDue rs a i b j) (routeRefusal rs a i b j)
+  pub route-lowest : LowestDue (RouteDue rs a i b j) (routeRefusal rs a i b j)
   route-lowest = record { due = above (RouteDue rs a i b j) _ route-due; lowest = route-least }

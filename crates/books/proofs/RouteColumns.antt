@@ -2,14 +2,33 @@
 use mathlib.Core.Path.{_≡_, refl, sym, ap, _∙_}
 use Prim.Native.Nat.{ℕ, _≤_}
 use native.Mathlib.Omega.{arith}
-use mathlib.Core.List.{List}
+use mathlib.Core.List.{List, [], _∷_}
 use lib.ListN.{length, take, drop, length-append, length-map}
 use lib.Seq.{take-at, drop-at, drop-drop, take-all}
-use Rattle.record.specs.Columns.{fromsAt, messageWords, routeWords, bookWords, routeCountOf, fromsOf, tosOf}
+use Rattle.record.specs.Columns.{fromsAt, messageWords, routeWords, routeCountOf, fromsOf, tosOf}
 use Rattle.books.specs.Book.{Route, Book, allPlacements}
 use Rattle.books.specs.Lines.{messageLimit, signalLimit, routeLimit}
-use Rattle.books.specs.Words.{froms, tos, fromColumn, toColumn, messageColumns, routeColumns, wordsOf, RoutesStand}
+use Rattle.books.specs.Words.{froms, tos, fromColumn, toColumn, messageColumns, routeColumns, wordsOf, RoutesStand, routesSideBySide, routesOf}
 use Rattle.books.proofs.Columns.{length-column, take-column, part-of, columns-long}
+
+-- routes side by side have the places of the two columns, and routes are those of their two columns
+pub side-froms : (fs ts : List ℕ) → length fs ≡ length ts → froms (routesSideBySide fs ts) ≡ fs
+unfolding routesSideBySide
+side-froms [] ts e = refl
+side-froms (f ∷ fs) [] e = absurd (omega arith)
+side-froms (f ∷ fs) (t ∷ ts) e = ap (_∷_ f) (side-froms fs ts (omega arith))
+
+pub side-tos : (fs ts : List ℕ) → length fs ≡ length ts → tos (routesSideBySide fs ts) ≡ ts
+unfolding routesSideBySide
+side-tos [] [] e = refl
+side-tos [] (t ∷ ts) e = absurd (omega arith)
+side-tos (f ∷ fs) [] e = absurd (omega arith)
+side-tos (f ∷ fs) (t ∷ ts) e = ap (_∷_ t) (side-tos fs ts (omega arith))
+
+pub routes-side : (rs : List Route) → routesSideBySide (froms rs) (tos rs) ≡ rs
+unfolding routesSideBySide
+routes-side [] = refl
+routes-side (r ∷ rs) = ap (_∷_ r) (routes-side rs)
 
 -- the columns of routes within the limit
 module _ (rs : List Route) (few : length rs ≤ routeLimit) where
@@ -49,6 +68,11 @@ module _ (w : List ℕ) (rs : List Route) (few : length rs ≤ routeLimit) (s : 
   pub tos-are : take (routeCountOf w) (tosOf w) ≡ tos rs
   tos-are = ap (take (routeCountOf w)) tos-stand ∙ take-column routeLimit (routeCountOf w) (tos rs) to-count
 
+  -- they are the routes that the words show
+  pub shows-routes : routesOf w ≡ rs
+  unfolding routesOf
+  shows-routes = rw (froms-are, tos-are) (routes-side rs)
+
 -- the words of a book within the limits
 module _ (b : Book) (few : length (b .messages) ≤ messageLimit) (room : length (allPlacements (b .messages)) ≤ signalLimit) (routed : length (b .routes) ≤ routeLimit) where
   -- have its routes
@@ -60,8 +84,3 @@ module _ (b : Book) (few : length (b .messages) ≤ messageLimit) (room : length
         ap (take routeWords) (drop-at (messageColumns (b .messages)) (routeColumns (b .routes)) messageWords (columns-long (b .messages) few room)) ∙
         take-all routeWords (routeColumns (b .routes)) (omega (arith, routes-long (b .routes) routed));
   }
-
-  -- and are as many as a record has
-  pub words-long : length (wordsOf b) ≡ bookWords
-  unfolding wordsOf
-  words-long = omega (arith, length-append (messageColumns (b .messages)) (routeColumns (b .routes)), columns-long (b .messages) few room, routes-long (b .routes) routed)

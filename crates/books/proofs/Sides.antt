@@ -5,9 +5,9 @@ use Prim.Native.Nat.{ℕ, suc}
 use native.Mathlib.Omega.{arith}
 use lib.ListN.{length}
 use Rattle.books.specs.Book.{Placement, numbers}
-use Rattle.books.specs.Words.{starts, sideBySide}
+use Rattle.books.specs.Words.{placementStarts, sideBySide}
 
-pub side-back : (ps : List Placement) → sideBySide (numbers ps) (starts ps) ≡ ps
+pub side-back : (ps : List Placement) → sideBySide (numbers ps) (placementStarts ps) ≡ ps
 unfolding sideBySide
 side-back [] = refl
 side-back (p ∷ ps) = ap (_∷_ p) (side-back ps)
@@ -24,7 +24,7 @@ side-numbers [] ss e = refl
 side-numbers (n ∷ ns) [] e = absurd (omega (arith, e))
 side-numbers (n ∷ ns) (s ∷ ss) e = ap (_∷_ n) (side-numbers ns ss (omega (arith, e)))
 
-pub side-starts : (ns ss : List ℕ) → length ss ≡ length ns → starts (sideBySide ns ss) ≡ ss
+pub side-starts : (ns ss : List ℕ) → length ss ≡ length ns → placementStarts (sideBySide ns ss) ≡ ss
 unfolding sideBySide
 side-starts [] [] e = refl
 side-starts [] (s ∷ ss) e = absurd (omega (arith, e))

@@ -18,6 +18,10 @@ pub record Route : Type 0 where
   pub from : ℕ
   pub to : ℕ
 
+-- a route, by the places that it leads from and to: the one way in which a route is made
+abbrev pub routeBetween : ℕ → ℕ → Route
+routeBetween p q = record { from = p; to = q }
+
 pub record Book : Type 0 where
   pub messages : List Message
   pub routes : List Route
@@ -61,7 +65,7 @@ abbrev pub placement : ℕ → ℕ → Placement
 placement n s = record { number = n; start = s }
 
 abbrev pub route : ℕ → ℕ → ℕ → ℕ → Route
-route a i b j = record { from = placeKey a i; to = placeKey b j }
+route a i b j = routeBetween (placeKey a i) (placeKey b j)
 
 -- the book with an `M`, an `S`, an `R` line more
 abbrev pub withMessage : Book → ℕ → Book

@@ -29,6 +29,6 @@ pub data RouteDue (rs : List Route) (a i b j n : ℕ) : Type 0 where
   full : n ≡ 9 → leb routeLimit (length rs) ≡ true → RouteDue rs a i b j n
 
 -- "the lowest": a number above 0 is one that is due, and none that is due is lower
-pub record Lowest (Due : ℕ → Type 0) (r : ℕ) : Type 0 where
+pub record LowestDue (Due : ℕ → Type 0) (r : ℕ) : Type 0 where
   pub due : 0 < r → Due r
   pub lowest : (n : ℕ) → Due n → (0 < r) × (r ≤ n)

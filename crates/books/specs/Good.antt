@@ -8,12 +8,14 @@ use lib.ListN.{length}
 use Rattle.books.specs.Book.{Placement, Message, numbers, allPlacements}
 use Rattle.books.specs.Lines.{isIn, unknownOrOver, misplaced, meetsEarlier, identifierLimit, messageLimit, signalLimit}
 
--- none of the signals is refused for itself (3, 7) or for one of those before it in its message (6, 8)
+-- a signal is not refused for itself (3, 7) or for one of those before it in its message (6, 8)
+abbrev pub fitsAfter : List Placement → Placement → Bool
+fitsAfter before p = not (unknownOrOver p || (isIn (p .number) (numbers before) || (misplaced p || meetsEarlier before p)))
+
+-- none of the signals is, each after those before it
 unfoldable pub goodAfter : List Placement → List Placement → Bool
 goodAfter before [] = true
-goodAfter before (p ∷ ps) =
-    not (unknownOrOver p || (isIn (p .number) (numbers before) || (misplaced p || meetsEarlier before p))) &&
-    goodAfter (before ++ (p ∷ [])) ps
+goodAfter before (p ∷ ps) = fitsAfter before p && goodAfter (before ++ (p ∷ [])) ps
 
 -- none of the messages is refused for its identifier (3), for that of one before it (5), or for its signals
 unfoldable pub goodFrom : List ℕ → List Message → Bool

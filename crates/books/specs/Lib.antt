@@ -1,6 +1,7 @@
 pub mod Book
 pub mod Fixed
 pub mod Lines
+pub mod Belonging
 pub mod Due
 pub mod Built
 pub mod Good

@@ -6,8 +6,8 @@ use mathlib.Core.Bool.{Bool, true, false, _&&_}
 use mathlib.Core.List.{List, [], _∷_, _++_, map}
 use lib.Dec.{eqb}
 use lib.ListN.{length, take, drop, replicate}
-use Rattle.record.specs.Columns.{messageCountOf, signalCountOf, routeCountOf, idsOf, endsOf, numbersOf, startsOf, messageColumnsOf, routeColumnsOf}
-use Rattle.books.specs.Book.{Placement, Message, Route, Book, identifiers, numbers, allPlacements, placement}
+use Rattle.record.specs.Columns.{messageCountOf, signalCountOf, routeCountOf, idsOf, endsOf, numbersOf, startsOf, fromsOf, tosOf, messageColumnsOf, routeColumnsOf}
+use Rattle.books.specs.Book.{Placement, Message, Route, Book, identifiers, numbers, allPlacements, placement, routeBetween}
 use Rattle.books.specs.Lines.{messageLimit, signalLimit, routeLimit}
 use Rattle.books.specs.Good.{good}
 
@@ -15,8 +15,8 @@ use Rattle.books.specs.Good.{good}
 unfoldable pub column : ℕ → List ℕ → List ℕ
 column n l = l ++ replicate (n - length l) 0
 
-abbrev pub starts : List Placement → List ℕ
-starts ps = map (λ (p : Placement). p .start) ps
+abbrev pub placementStarts : List Placement → List ℕ
+placementStarts ps = map (λ (p : Placement). p .start) ps
 
 -- for each message, how many signals there are up to its last one, n before them
 unfoldable pub endsAfter : ℕ → List Message → List ℕ
@@ -34,7 +34,7 @@ abbrev pub numberColumn : List Message → List ℕ
 numberColumn ms = column signalLimit (numbers (allPlacements ms))
 
 abbrev pub startColumn : List Message → List ℕ
-startColumn ms = column signalLimit (starts (allPlacements ms))
+startColumn ms = column signalLimit (placementStarts (allPlacements ms))
 
 unfoldable pub messageColumns : List Message → List ℕ
 messageColumns ms = idColumn ms ++ (endColumn ms ++ (numberColumn ms ++ startColumn ms))
@@ -103,3 +103,13 @@ pub record Stands (w : List ℕ) (ms : List Message) : Type 0 where
 pub record RoutesStand (w : List ℕ) (rs : List Route) : Type 0 where
   pub count : routeCountOf w ≡ length rs
   pub columns : routeColumnsOf w ≡ routeColumns rs
+
+-- the routes whose places stand side by side
+unfoldable pub routesSideBySide : List ℕ → List ℕ → List Route
+routesSideBySide [] ts = []
+routesSideBySide (f ∷ fs) [] = []
+routesSideBySide (f ∷ fs) (t ∷ ts) = routeBetween f t ∷ routesSideBySide fs ts
+
+-- the routes that words show: as many as are counted, by the columns
+unfoldable pub routesOf : List ℕ → List Route
+routesOf w = routesSideBySide (take (routeCountOf w) (fromsOf w)) (take (routeCountOf w) (tosOf w))

@@ -1,7 +1,9 @@
 pub mod Arms
 pub mod Found
+pub mod Placed
 pub mod Shaped
 pub mod Classing
+pub mod Marks
 pub mod OneClass
 pub mod Readings
 pub mod OneOutcome

@@ -1,23 +1,32 @@
--- Readings, raw x resolution + offset: how large they are, that they rise with the count, and that a value's reading lies
--- within the printed limits, which are the readings of the lowest and the highest count. Assumes nothing.
-use mathlib.Core.Path.{_≡_, refl, sym, subst}
+-- Readings, raw x resolution + offset: how large they are, that they rise with the count, and that a value's reading lies between those
+-- of the raw limits, which are the printed limits wherever such are printed. Assumes nothing.
+use mathlib.Core.Path.{_≡_, refl, sym, ap, _∙_, subst}
 use mathlib.Core.Logic.{_⊎_, ⊎-elim}
 use mathlib.Core.Bool.{Bool, true, false, cond}
-use Prim.Native.Nat.{ℕ, suc, _+_, _*_, _-_, _≤_, _<_}
+use mathlib.Core.Option.{Option, none, some}
+use Prim.Native.Nat.{ℕ, suc, _+_, _*_, _-_, _^_, _≤_, _<_}
 use native.Mathlib.Nat.{le-refl, le-of-lt, eq-or-lt-of-le, mul-lt-mul-of-pos-right}
 use native.Mathlib.Omega.{arith}
-use lib.Dec.{T, ltb, eqb, le→leb, lt→ltb, ltb→lt}
+use lib.Dec.{T, leb, ltb, le→leb, lt→ltb, ltb→lt}
 use lib.Signed.{mag, ltZ, leZ, _<ℤ_, _≤ℤ_, ≤ℤ-refl}
 use lib.IntN.{ℤ, pos, negsuc, natAbs, _+ℤ_}
 use borrow.Author.Tests.{ltb-true, ltb-false}
 use Rattle.rows.specs.declared.Row.{Row}
+use Rattle.rows.specs.Rows.{rows}
 use Rattle.rows.specs.Rule.{Rule}
+use Rattle.rows.specs.PrintedLimits.{PrintedLimits}
+use Rattle.rows.specs.RawLimits.{limitsOf, RawLimits}
+use Rattle.rows.proofs.Whole.{count}
+use Rattle.rows.proofs.Limits.{raw-limits}
 use Rattle.catalogue.specs.declared.Raw.{Raw}
 use Rattle.catalogue.specs.declared.Thousandths.{Thousandths}
 use Rattle.catalogue.specs.declared.Class.{Class}
 use Rattle.catalogue.specs.declared.Class.the-variants.{Value, Invalid, Absent, Error, Reserved, Outside, NotInCatalogue, TooWide}
-use Rattle.catalogue.specs.Class.{markClass, readingOf, classIn}
+use Rattle.catalogue.specs.Find.{rowOf}
+use Rattle.catalogue.specs.Class.{markClass, readingOf, classIn, classFor, classOf, classNumber}
 use Rattle.catalogue.specs.Belongs.{WithinLimits, Belongs, by-mark1, by-mark2, by-mark3, as-value, as-outside}
+use Rattle.catalogue.proofs.Found.{FoundIn, found, RuleOf, rule-of}
+use Rattle.catalogue.proofs.Marks.{of-kind}
 use Rattle.catalogue.proofs.OneClass.{belongs}
 
 -- a + z is no larger than a and z together
@@ -75,29 +84,51 @@ Reads r raw (Outside x) = Unit
 Reads r raw NotInCatalogue = Unit
 Reads r raw TooWide = Unit
 
-module _ (r : Row) (raw : Raw) where
-  either : (b : Bool) (k l : Class) → Reads r raw k → Reads r raw l → Reads r raw (cond b k l)
-  either true k l p q = p
-  either false k l p q = q
+module _ (r : Row) (rule : Rule r) (raw : Raw) where
+  -- no kind of marks gives a value
+  ByMark : Option Class → Type 0
+  ByMark none = Unit
+  ByMark (some k) = Reads r raw k
 
-  no-value : (kind : ℕ) → Reads r raw (markClass kind raw)
-  no-value kind =
-      either (eqb kind 1) (Invalid raw) _ tt (either (eqb kind 2) (Absent raw) _ tt (either (eqb kind 3) (Error raw) (Reserved raw) tt tt))
+  by-mark : (kind : ℕ) {k : Class} → markClass kind raw ≡ some k → Reads r raw k
+  unfolding ByMark
+  by-mark kind e = subst ByMark e (of-kind raw ByMark tt tt tt tt tt kind)
 
   reads : {k : Class} → Belongs r raw k → Reads r raw k
-  reads (by-mark1 h) = no-value (r .mark1 .kind)
-  reads (by-mark2 h) = no-value (r .mark2 .kind)
-  reads (by-mark3 h) = no-value (r .mark3 .kind)
+  reads (by-mark1 h) = by-mark (r .mark1 .kind) (h .1)
+  reads (by-mark2 h) = by-mark (r .mark2 .kind) (h .1)
+  reads (by-mark3 h) = by-mark (r .mark3 .kind) (h .1)
   reads (as-value f h) = (h, refl)
   reads (as-outside f h) = tt
 
-  value-reads : (t : Thousandths) → classIn r raw ≡ Value t → WithinLimits r raw × (t ≡ readingOf r raw)
-  value-reads t e = subst (Reads r raw) e (reads (belongs r raw))
+  reads-or-wide : (b : Bool) → Reads r raw (cond b TooWide (classIn r raw))
+  reads-or-wide true = tt
+  reads-or-wide false = reads (belongs r raw rule)
 
-  -- a value's reading lies within the printed limits
-  pub within-printed : Rule r → (t : Thousandths) → classIn r raw ≡ Value t → (readingOf r (record { 0 = r .lowest }) .0 ≤ℤ t .0) × (t .0 ≤ℤ readingOf r (record { 0 = r .highest }) .0)
-  within-printed rule t e =
+  value-reads : (t : Thousandths) → classFor (some r) raw ≡ Value t → WithinLimits r raw × (t ≡ readingOf r raw)
+  value-reads t e = subst (Reads r raw) e (reads-or-wide (leb (2 ^ r .bits) (raw .0)))
+
+  -- a value's reading lies between those of the raw limits
+  pub within-limits : (t : Thousandths) → classFor (some r) raw ≡ Value t → (readingOf r (record { 0 = r .lowest }) .0 ≤ℤ t .0) × (t .0 ≤ℤ readingOf r (record { 0 = r .highest }) .0)
+  within-limits t e =
       let v = value-reads t e in (
         subst (λ (x : Thousandths). readingOf r (record { 0 = r .lowest }) .0 ≤ℤ x .0) (sym (v .1)) (not-falling r rule (record { 0 = r .lowest }) raw (v .0 .0)),
         subst (λ (x : Thousandths). x .0 ≤ℤ readingOf r (record { 0 = r .highest }) .0) (sym (v .1)) (not-falling r rule raw (record { 0 = r .highest }) (v .0 .1)),
       )
+
+  -- and between the printed ones, which these are
+  within-those : (t : Thousandths) (p : PrintedLimits) → RawLimits r (some p) → classFor (some r) raw ≡ Value t → (p .lowest ≤ℤ t .0) × (t .0 ≤ℤ p .highest)
+  within-those t p limits e =
+      let v = within-limits t e in
+      (subst (λ (z : ℤ). z ≤ℤ t .0) (limits .0 .reads) (v .0), subst (λ (z : ℤ). t .0 ≤ℤ z) (limits .1 .reads) (v .1))
+
+-- a signal's value lies between the limits that are printed for it
+pub within-printed : (n : ℕ) (raw : Raw) (t : Thousandths) (p : PrintedLimits) → classOf n raw ≡ Value t → limitsOf n ≡ some p → (p .lowest ≤ℤ t .0) × (t .0 ≤ℤ p .highest)
+unfolding classOf
+within-printed n raw t p e printed = go (rowOf n) (found n) (rule-of n) e
+  where
+    go : (o : Option Row) → FoundIn n rows o → RuleOf o → classFor o raw ≡ Value t → (p .lowest ≤ℤ t .0) × (t .0 ≤ℤ p .highest)
+    go none f rule k = absurd (omega (arith, ap classNumber k))
+    go (some r) f rule k =
+        let here : RawLimits r (limitsOf (r .number)) = subst (λ (x : Row). RawLimits x (limitsOf (x .number))) (f .1 .1 .0) (raw-limits (f .0) (subst (λ (m : ℕ). f .0 < m) count (f .1 .0))) in
+        within-those r rule raw t p (subst (RawLimits r) (ap limitsOf (f .1 .1 .1) ∙ printed) here) k

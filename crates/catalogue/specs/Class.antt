@@ -10,17 +10,21 @@ use Rattle.catalogue.specs.declared.Raw.{Raw}
 use Rattle.catalogue.specs.declared.Thousandths.{Thousandths}
 use Rattle.catalogue.specs.declared.Class.{Class}
 use Rattle.catalogue.specs.declared.Class.the-variants.{Value, Invalid, Absent, Error, Reserved, Outside, NotInCatalogue, TooWide}
-use Rattle.rows.specs.Rows.{invalidKind, absentKind, errorKind}
+use Rattle.rows.specs.Rows.{invalidKind, absentKind, errorKind, reservedKind}
 use Rattle.catalogue.specs.Find.{rowOf}
 
 -- first <= count <= last
 unfoldable pub between : ℕ → ℕ → ℕ → Bool
 between first last count = leb first count && leb count last
 
--- the class that a mark gives, by its kind
-abbrev pub markClass : ℕ → Raw → Class
+-- each kind of marks with the class that it gives; a kind that is none of these gives none
+abbrev pub markClass : ℕ → Raw → Option Class
 markClass kind raw =
-    cond (eqb kind invalidKind) (Invalid raw) (cond (eqb kind absentKind) (Absent raw) (cond (eqb kind errorKind) (Error raw) (Reserved raw)))
+    cond (eqb kind invalidKind) (some (Invalid raw))
+    (cond (eqb kind absentKind) (some (Absent raw))
+    (cond (eqb kind errorKind) (some (Error raw))
+    (cond (eqb kind reservedKind) (some (Reserved raw))
+    none)))
 
 -- raw x resolution + offset, exactly
 abbrev pub readingOf : Row → Raw → Thousandths
@@ -30,12 +34,21 @@ readingOf r raw = record { 0 = pos (raw .0 * r .resolution) +ℤ r .offset }
 abbrev pub has : Mark → Raw → Bool
 has m raw = between (m .first) (m .last) (raw .0)
 
+-- the class that a mark gives a count: none where the mark has it not
+abbrev pub markedBy : Mark → Raw → Option Class
+markedBy m raw = cond (has m raw) (markClass (m .kind) raw) none
+
+-- that class, or else another
+abbrev pub orElse : Option Class → Class → Class
+orElse (some k) other = k
+orElse none other = other
+
 -- a mark wins over the range; then value if within the raw limits; else outside
 abbrev pub classIn : Row → Raw → Class
 classIn r raw =
-    cond (has (r .mark1) raw) (markClass (r .mark1 .kind) raw)
-    (cond (has (r .mark2) raw) (markClass (r .mark2 .kind) raw)
-    (cond (has (r .mark3) raw) (markClass (r .mark3 .kind) raw)
+    orElse (markedBy (r .mark1) raw)
+    (orElse (markedBy (r .mark2) raw)
+    (orElse (markedBy (r .mark3) raw)
     (cond (between (r .lowest) (r .highest) (raw .0)) (Value (readingOf r raw))
     (Outside raw))))
 
@@ -51,15 +64,15 @@ classOf number raw = classFor (rowOf number) raw
 -- ---- what document 01 says for each case
 
 -- the refusal's number, 0 where nothing is refused
-abbrev pub refusalOf : Class → ℕ
-refusalOf (Value t) = 0
-refusalOf (Invalid raw) = 0
-refusalOf (Absent raw) = 0
-refusalOf (Error raw) = 0
-refusalOf (Reserved raw) = 0
-refusalOf (Outside raw) = 0
-refusalOf NotInCatalogue = 3
-refusalOf TooWide = 26
+abbrev pub classNumber : Class → ℕ
+classNumber (Value t) = 0
+classNumber (Invalid raw) = 0
+classNumber (Absent raw) = 0
+classNumber (Error raw) = 0
+classNumber (Reserved raw) = 0
+classNumber (Outside raw) = 0
+classNumber NotInCatalogue = 3
+classNumber TooWide = 26
 
 -- the number that goes with it: the thousandths of a value, the raw count of any other class
 abbrev pub carriedBy : Class → ℤ

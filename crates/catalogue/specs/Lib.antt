@@ -1,4 +1,5 @@
 pub mod Find
+pub mod Places
 pub mod Shapes
 pub mod Class
 pub mod Belongs

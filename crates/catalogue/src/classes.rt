@@ -15,7 +15,7 @@ ghost use Prim.Native.Nat.{_*_, _^_, _≤_};
 ghost use lib.Dec.{leb};
 ghost use lib.IntN.{pos, _+ℤ_};
 ghost use Rattle.rows.specs.Rows.{row, mark, unmarked};
-ghost use Rattle.rows.specs.Rule.{mostBits};
+ghost use Rattle.rows.specs.Rule.{mostBits, IsKind, Kinded};
 ghost use Rattle.catalogue.specs.Shapes.{rowShaped};
 ghost use Rattle.catalogue.specs.Class.{between, markClass, classFor, classOf};
 
@@ -35,7 +35,8 @@ pub fn is_too_wide(bits: u32, count: u32) -> bool
 
 // The class that a mark gives, by its kind.
 fn marked(kind: u8, raw: Raw) -> Class
-    ensures { λ r. ⌜ r ≡ markClass kind raw ⌝ }
+    requires { ⌜ IsKind kind ⌝ }
+    ensures { λ r. ⌜ some r ≡ markClass kind raw ⌝ }
 {
     if kind == INVALID {
         return Class::Invalid(raw);
@@ -49,11 +50,11 @@ fn marked(kind: u8, raw: Raw) -> Class
     Class::Reserved(raw)
 }
 
-// Nothing here wraps: a count has 32 bits, a resolution 16 and an offset 32.
-fn reading(count: u32, resolution: u16, offset: i32) -> i64
-    ensures { λ r. ⌜ r ≡ pos (count * resolution) +ℤ offset ⌝ }
+// The reading of a raw count. Nothing here wraps: a count has 32 bits, a resolution 16 and an offset 32.
+fn reading(raw: Raw, resolution: u16, offset: i32) -> Thousandths
+    ensures { λ r. ⌜ r .0 ≡ pos (raw .0 * resolution) +ℤ offset ⌝ }
 {
-    ((count as u64) * (resolution as u64)) as i64 + offset as i64
+    Thousandths(((raw.0 as u64) * (resolution as u64)) as i64 + offset as i64)
 }
 
 // The class of a count in a row with these numbers and three marks; below, with two, one and none.
@@ -74,7 +75,7 @@ fn class_in(
     last3: u32,
     raw: Raw,
 ) -> Class
-    requires { ⌜ bits ≤ mostBits ⌝ }
+    requires { ⌜ (bits ≤ mostBits) × Kinded (mark kind1 first1 last1) × Kinded (mark kind2 first2 last2) × Kinded (mark kind3 first3 last3) ⌝ }
     ensures { λ r. ⌜ r ≡ classFor (some (row 0 bits resolution offset lowest highest (mark kind1 first1 last1) (mark kind2 first2 last2) (mark kind3 first3 last3))) raw ⌝ }
 {
     let count = raw.0;
@@ -91,7 +92,7 @@ fn class_in(
         return marked(kind3, raw);
     }
     if is_between(lowest, highest, count) {
-        return Class::Value(Thousandths(reading(count, resolution, offset)));
+        return Class::Value(reading(raw, resolution, offset));
     }
     Class::Outside(raw)
 }
@@ -110,7 +111,7 @@ fn two_marks(
     last2: u32,
     raw: Raw,
 ) -> Class
-    requires { ⌜ bits ≤ mostBits ⌝ }
+    requires { ⌜ (bits ≤ mostBits) × Kinded (mark kind1 first1 last1) × Kinded (mark kind2 first2 last2) ⌝ }
     ensures { λ r. ⌜ r ≡ classFor (some (row 0 bits resolution offset lowest highest (mark kind1 first1 last1) (mark kind2 first2 last2) unmarked)) raw ⌝ }
 {
     class_in(
@@ -143,7 +144,7 @@ fn one_mark(
     last: u32,
     raw: Raw,
 ) -> Class
-    requires { ⌜ bits ≤ mostBits ⌝ }
+    requires { ⌜ (bits ≤ mostBits) × Kinded (mark kind first last) ⌝ }
     ensures { λ r. ⌜ r ≡ classFor (some (row 0 bits resolution offset lowest highest (mark kind first last) unmarked unmarked)) raw ⌝ }
 {
     two_marks(

@@ -1,6 +1,6 @@
 // The shape of a signal: rows that differ in the number alone have the same. A const array is built anew at every read,
-// so what is asked for each signal goes by `match`, which becomes a jump; the contracts tie it to the catalogue. This is the
-// one list of the signals' numbers; bits and class go by the shape.
+// so what is asked for each signal of a frame goes by `match`, which becomes a jump; the contracts tie it to the catalogue. Class and
+// bits go by the shape.
 ghost use mathlib.Core.Path.{_≡_};
 ghost use Rattle.catalogue.specs.Shapes.{shapeOf};
 

@@ -1,7 +1,13 @@
-// The bits of a signal: its shape has them.
+// The bits of a signal: from the constant table's own column, which the caller holds, by the signal's place; or by its shape, which the
+// class goes by too.
+use crate::places::Place;
+use crate::places::place_of;
 use crate::shapes::shape_of;
 ghost use mathlib.Core.Path.{_≡_};
+ghost use Rattle.rows.specs.Rows.{rows};
+ghost use Rattle.rows.specs.Widths.{widthsOf};
 ghost use Rattle.catalogue.specs.Find.{bitsIn, bitsOf};
+ghost use Rattle.catalogue.specs.Places.{surpluses, bounds};
 ghost use Rattle.catalogue.specs.Shapes.{rowShaped};
 
 // The bits of a shape, each an arm: 0 where there is no such shape.
@@ -50,7 +56,25 @@ pub fn bits_shaped(shape: usize) -> u32
     }
 }
 
-// The bits of a signal: 0 where the catalogue has no such signal.
+fn wide(bits: u8) -> u32
+    ensures { λ r. ⌜ r ≡ bits ⌝ }
+{
+    bits as u32
+}
+
+// The bits of a signal, from the table's column and by the columns of its place, which the caller holds; 0 where the catalogue has
+// no such signal.
+pub fn bits_at(number: u32, widths: &[u8], above: &[usize], ends: &[u8]) -> u32
+    requires { ⌜ ((now above ≡ surpluses) × (now ends ≡ bounds)) × (now widths ≡ widthsOf rows) ⌝ }
+    ensures { λ r. ⌜ r ≡ bitsOf number ⌝ }
+{
+    let Place::At(place) = place_of(number, above, ends) else {
+        return 0;
+    };
+    wide(widths[place])
+}
+
+// The bits of a signal: 0 where the catalogue has no such signal. Who asks for those of many holds the columns and calls `bits_at`.
 pub fn bits_of(number: u32) -> u32
     ensures { λ r. ⌜ r ≡ bitsOf number ⌝ }
 {

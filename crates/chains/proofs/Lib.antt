@@ -1,9 +1,11 @@
 pub mod Bools
 pub mod Walks
-pub mod Pigeons
 pub mod Reach
 pub mod Loops
 pub mod Forks
 pub mod Tests
+pub mod Routes
+pub mod ChainLists
 pub mod Longest
 pub mod Spreads
+pub mod Along

@@ -4,11 +4,11 @@ use mathlib.Core.Bool.{Bool, true, false, true≢false}
 use Prim.Native.Nat.{ℕ, _≤_, _<_}
 use mathlib.Core.List.{List, [], _∷_, _++_, List·Memᴰ, List·Memᴰ·head}
 use lib.ListN.{length, getD}
+use Rattle.lists.specs.Lists.{Distinct}
+use Rattle.lists.proofs.Pigeons.{below-length}
 use Rattle.chains.specs.Chain.{Walk, OnClosed, LoopFree}
-use Rattle.chains.specs.Spread.{Distinct}
 use Rattle.chains.proofs.Walks.{walk-append, Through, through, chain-walk}
 use Rattle.chains.proofs.Reach.{reach, reach-leads, leads-reach}
-use Rattle.chains.proofs.Pigeons.{below-length}
 
 module _ (fs ts : List ℕ) where
   -- route i comes back to where it started

@@ -10,7 +10,7 @@ use lib.ListN.{length, getD}
 use lib.Dec.{eqb}
 use borrow.Author.Tests.{eqb-true, eqb-false, eq-eqb, ne-eqb, not-true}
 use Rattle.chains.specs.Chain.{LeadsOn, LoopFree, BeginsDoubling}
-use Rattle.chains.specs.Tests.{any, First}
+use Rattle.chains.specs.Tests.{any, FirstPassing}
 use Rattle.chains.proofs.Walks.{walk-last}
 use Rattle.chains.proofs.Bools.{or-cases, or-left, or-right}
 use Rattle.chains.proofs.Reach.{reach, reach-leads, leads-reach}
@@ -26,14 +26,14 @@ some-any (suc n) P k l e =
     ⊎-elim (λ h. or-right (any n P) (P n) (let x : k ≡ n = omega arith in ap P (sym x) ∙ e)) (λ h. or-left (any n P) (P n) (some-any n P k (le-of-suc-le-suc h) e)) (eq-or-lt-of-le l)
 
 -- there is a first number below n that passes, or none
-pub first : (P : ℕ → Bool) (n : ℕ) → (r : ℕ) × First P n r
+pub first : (P : ℕ → Bool) (n : ℕ) → (r : ℕ) × FirstPassing P n r
 first P zero = (0, record { within = omega arith; before = λ k l. absurd (omega arith); found = λ l. absurd (omega arith) })
 first P (suc n) = go (first P n) (P n) refl
   where
-    go : (r : ℕ) × First P n r → (b : Bool) → P n ≡ b → (r : ℕ) × First P (suc n) r
+    go : (r : ℕ) × FirstPassing P n r → (b : Bool) → P n ≡ b → (r : ℕ) × FirstPassing P (suc n) r
     go (r, f) b e = at (eq-or-lt-of-le (f .within)) b e
       where
-        at : (r ≡ n) ⊎ (r < n) → (b : Bool) → P n ≡ b → (r : ℕ) × First P (suc n) r
+        at : (r ≡ n) ⊎ (r < n) → (b : Bool) → P n ≡ b → (r : ℕ) × FirstPassing P (suc n) r
         at (inr l) b e = (r, record { within = omega arith; before = f .before; found = λ _. f .found l })
         at (inl k) true e = (n, record { within = omega arith; before = λ x l. f .before x (omega arith); found = λ _. e })
         at (inl k) false e = (

@@ -1,16 +1,11 @@
 -- Walks put together and taken apart. Assumes nothing.
 use mathlib.Core.Path.{_≡_, refl, sym, ap, _∙_, subst}
-use Prim.Native.Nat.{ℕ, zero, suc, _<_}
+use Prim.Native.Nat.{ℕ, _<_}
 use native.Mathlib.Omega.{arith}
 use mathlib.Core.List.{List, [], _∷_, _++_, List·Memᴰ, List·Memᴰ·head, List·Memᴰ·tail, Memᴰ·cast}
 use lib.ListN.{length, getD}
-use native.Mathlib.Nat.{le-of-suc-le-suc}
+use Rattle.lists.proofs.Lists.{mem-at}
 use Rattle.chains.specs.Chain.{Walk, Chain}
-
-getD-mem : (l : List ℕ) (j : ℕ) → j < length l → List·Memᴰ (getD l j 0) l
-getD-mem [] j h = absurd (omega arith)
-getD-mem (x ∷ l) zero h = List·Memᴰ·head refl
-getD-mem (x ∷ l) (suc j) h = List·Memᴰ·tail (getD-mem l j (le-of-suc-le-suc h))
 
 module _ (fs ts : List ℕ) where
   pub walk-append : (p : ℕ) (c : List ℕ) (m q : ℕ) (d : List ℕ) → Walk fs ts p c m → Walk fs ts m d q → Walk fs ts p (c ++ d) q
@@ -41,4 +36,4 @@ module _ (fs ts : List ℕ) where
 
   -- so it ends at a place that routes lead to
   pub walk-end : length fs ≡ length ts → (p j : ℕ) (c : List ℕ) (q : ℕ) → Walk fs ts p (j ∷ c) q → List·Memᴰ q ts
-  walk-end e p j c q w = let r = walk-last p j c q w in Memᴰ·cast (sym (r .2)) (getD-mem ts (r .0) (omega (arith, r .1)))
+  walk-end e p j c q w = let r = walk-last p j c q w in Memᴰ·cast (sym (r .2)) (mem-at ts 0 (r .0) (omega (arith, r .1)))

@@ -1,3 +1,5 @@
 pub mod Chain
 pub mod Spread
+pub mod ChainLists
+pub mod Along
 pub mod Tests

@@ -15,7 +15,7 @@ any zero P = false
 any (suc n) P = any n P || P n
 
 -- r is the first number below n that passes, and n where none does
-pub record First (P : ℕ → Bool) (n r : ℕ) : Type 0 where
+pub record FirstPassing (P : ℕ → Bool) (n r : ℕ) : Type 0 where
   pub within : r ≤ n
   pub before : (k : ℕ) → k < r → P k ≡ false
   pub found : r < n → P r ≡ true

@@ -12,7 +12,7 @@ use lib.ListN.{length, take, drop, getD, set, drop-of-length-le}
 use lib.Seq.{drop-cons, take-suc, getD-set-same, getD-set-other}
 use Rattle.books.specs.Lines.{isIn, identifierLimit}
 use Rattle.columns.specs.Identifiers.{distinctAfter}
-use Rattle.columns.specs.Slots.{slotOf}
+use Rattle.columns.specs.Slots.{identifierSlot}
 use Rattle.columns.proofs.Searching.{absent}
 
 module _ (l : List ℕ) (i : ℕ) where
@@ -36,21 +36,21 @@ module _ (l : List ℕ) (i : ℕ) where
 
 -- the slot of each of the first i identifiers is used
 abbrev pub Used : List ℕ → List ℕ → ℕ → Type 0
-Used l used i = (j : ℕ) → j < i → j < length l → getD used (slotOf (getD l j 0)) 0 ≡ 1
+Used l used i = (j : ℕ) → j < i → j < length l → getD used (identifierSlot (getD l j 0)) 0 ≡ 1
 
-pub unused : (l used : List ℕ) (i x k : ℕ) → k ≡ slotOf x → getD used k 0 ≡ 0 → Used l used i → isIn x (take i l) ≡ false
+pub unused : (l used : List ℕ) (i x k : ℕ) → k ≡ identifierSlot x → getD used k 0 ≡ 0 → Used l used i → isIn x (take i l) ≡ false
 unused l used i x k e z f =
     absent x l i (λ j p q d.
-    let a : getD used (slotOf x) 0 ≡ 1 = subst (λ (m : ℕ). getD used (slotOf m) 0 ≡ 1) d (f j p q) in
-    let b : getD used (slotOf x) 0 ≡ 0 = subst (λ (m : ℕ). getD used m 0 ≡ 0) e z in
+    let a : getD used (identifierSlot x) 0 ≡ 1 = subst (λ (m : ℕ). getD used (identifierSlot m) 0 ≡ 1) d (f j p q) in
+    let b : getD used (identifierSlot x) 0 ≡ 0 = subst (λ (m : ℕ). getD used m 0 ≡ 0) e z in
     omega arith)
 
-pub used-more : (l used : List ℕ) (i k : ℕ) → k ≡ slotOf (getD l i 0) → k < length used → Used l used i → Used l (set used k 1) (i + 1)
-used-more l used i k e h f j p q = go (eqb (slotOf (getD l j 0)) k) refl
+pub used-more : (l used : List ℕ) (i k : ℕ) → k ≡ identifierSlot (getD l i 0) → k < length used → Used l used i → Used l (set used k 1) (i + 1)
+used-more l used i k e h f j p q = go (eqb (identifierSlot (getD l j 0)) k) refl
   where
-    go : (b : Bool) → eqb (slotOf (getD l j 0)) k ≡ b → getD (set used k 1) (slotOf (getD l j 0)) 0 ≡ 1
+    go : (b : Bool) → eqb (identifierSlot (getD l j 0)) k ≡ b → getD (set used k 1) (identifierSlot (getD l j 0)) 0 ≡ 1
     go true d = subst (λ (m : ℕ). getD (set used k 1) m 0 ≡ 1) (sym (eqb-true _ _ d)) (getD-set-same used k 1 0 h)
     go false d =
-        let ne = eqb-false (slotOf (getD l j 0)) k d in
-        let n : j ≡ i → ⊥ = λ u. ne (subst (λ (m : ℕ). slotOf (getD l m 0) ≡ k) (sym u) (sym e)) in
-        getD-set-other used k (slotOf (getD l j 0)) 1 0 ne ∙ f j (lt-of-le-ne (omega arith) n) q
+        let ne = eqb-false (identifierSlot (getD l j 0)) k d in
+        let n : j ≡ i → ⊥ = λ u. ne (subst (λ (m : ℕ). identifierSlot (getD l m 0) ≡ k) (sym u) (sym e)) in
+        getD-set-other used k (identifierSlot (getD l j 0)) 1 0 ne ∙ f j (lt-of-le-ne (omega arith) n) q

@@ -2,13 +2,13 @@
 use Prim.Native.Nat.{ℕ, _%_}
 
 -- how many slots there are
-abbrev pub slotCount : ℕ
-slotCount = 256
+abbrev pub identifierSlots : ℕ
+identifierSlots = 256
 
 -- the largest prime below their count
 abbrev pub slotPrime : ℕ
 slotPrime = 251
 
 -- the slot of an identifier: its remainder, so that neighbours fall into different ones
-abbrev pub slotOf : ℕ → ℕ
-slotOf identifier = identifier % slotPrime
+abbrev pub identifierSlot : ℕ → ℕ
+identifierSlot identifier = identifier % slotPrime

@@ -5,7 +5,7 @@ ghost use Prim.Native.Nat.{_-_, _≤_, _<_};
 ghost use lib.ListN.{length, getD, take, drop};
 ghost use Rattle.books.specs.Lines.{isIn};
 ghost use Rattle.columns.specs.Identifiers.{distinctAfter};
-ghost use Rattle.columns.specs.Slots.{slotCount, slotOf};
+ghost use Rattle.columns.specs.Slots.{identifierSlots, identifierSlot};
 use record::IDENTIFIER_LIMIT;
 use record::wide;
 
@@ -49,7 +49,7 @@ pub fn holds(column: &[u32], number: u32) -> bool
 
 // The slot of an identifier: a remainder, so that neighbours fall into different ones.
 fn slot(identifier: u32) -> usize
-    ensures { λ r. ⌜ (r ≡ slotOf identifier) × (r < slotCount) ⌝ }
+    ensures { λ r. ⌜ (r ≡ identifierSlot identifier) × (r < identifierSlots) ⌝ }
 {
     (identifier % SLOT_PRIME) as usize
 }

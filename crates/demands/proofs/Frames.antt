@@ -1,5 +1,5 @@
--- Demand 2, from a text on: reading and packing by the book of a taken text are reading and packing by the messages that its M and S
--- lines say. Assumes nothing.
+-- Demand 2, from the reader's answer on: reading and packing by the words that it left of a taken text are reading and packing by the
+-- messages that the text's M and S lines say. Assumes nothing.
 use mathlib.Core.Path.{_≡_, refl, sym, ap, _∙_}
 use Prim.Native.Nat.{ℕ}
 use mathlib.Core.Bool.{true}
@@ -7,18 +7,20 @@ use mathlib.Core.List.{List, [], _∷_, _++_, append-assoc, append-nil}
 use Rattle.line.specs.declared.Line.{Line}
 use Rattle.line.specs.declared.Line.the-variants as line
 use Rattle.books.specs.Book.{Book, Message, Placement, fresh, inLast, withPlacement}
-use Rattle.books.specs.Good.{good}
-use Rattle.books.specs.Words.{messagesOf, messagesTaken, wordsOf, Stands}
+use Rattle.books.specs.Words.{messagesOf, messagesTaken, wordsOf}
 use Rattle.books.proofs.Building.{built-good}
-use Rattle.books.proofs.Columns.{within, shows, stands-taken, words-stand}
+use Rattle.books.proofs.Columns.{within, shows, words-stand}
 use Rattle.books.proofs.Ends.{in-last}
 use Rattle.reading.specs.Reading.{passed, withLine, meanings, linesRead}
-use Rattle.reading.specs.Taken.{TakenWith}
 use Rattle.reading.proofs.Passing.{text-kept, read-built}
-use Rattle.framing.specs.Messages.{messageOf}
+use Rattle.answers.specs.Numbers.{taken}
+use Rattle.book.specs.Answered.{Answered}
+use Rattle.route_tables.proofs.OneText.{text-messages-taken}
+use Rattle.framing.specs.Messages.{messageWith}
 use Rattle.framing.specs.Reading.{Slices, readByMessages, reading}
 use Rattle.framing.specs.Packing.{packByMessage, packing}
 use Rattle.demands.specs.Text.{sPlacements, mMessages, textMessages}
+use Rattle.demands.proofs.Taken.{Left, left}
 
 -- messages with more signals in the last of them
 grown : List Message → List Placement → List Message
@@ -61,29 +63,30 @@ messages-of-text text {b} e =
     in
     sym (append-nil (b .messages)) ∙ kept ∙ ap (λ (ms : List Message). ms ++ textMessages text) (grown-none (sPlacements (meanings text)))
 
-module _ (text : List ℕ) (b : Book) (t : TakenWith text b) where
-  is-good : good (b .messages) ≡ true
-  is-good = built-good (read-built text (t .read))
+-- by the words that the reader left of a taken text
+module _ (text : List ℕ) {m s r : ℕ} {w : List ℕ} (a : Answered text (taken m s r) w) where
+  abbrev was : Left text w
+  was = left text a
 
-  stand : Stands (wordsOf b) (b .messages)
-  stand = words-stand b (within (b .messages) is-good .few) (within (b .messages) is-good .room)
-
-  -- the words of the book pass the test of reading and packing
-  passes : messagesTaken (wordsOf b) ≡ true
-  passes = stands-taken (wordsOf b) (b .messages) stand is-good
+  -- they pass the test of reading and packing
+  passes : messagesTaken w ≡ true
+  passes = ap messagesTaken (was .words) ∙ text-messages-taken text (was .book) (was .with-book)
 
   -- and show the messages of the text
-  shown : messagesOf (wordsOf b) ≡ textMessages text
+  shown : messagesOf w ≡ textMessages text
   shown =
-      shows (wordsOf b) (b .messages) (within (b .messages) is-good .few) (within (b .messages) is-good .room) stand ∙
+      let t = was .with-book in
+      let l = within (was .book .messages) (built-good (read-built text (t .read))) in
+      ap messagesOf (was .words) ∙
+      shows (wordsOf (was .book)) (was .book .messages) (l .few) (l .room) (words-stand (was .book) (l .few) (l .room)) ∙
       messages-of-text text (t .read)
 
   -- a frame is read by the text's messages: 22 where none has the identifier, else each signal in the order of the S lines
-  pub read-of-taken : (identifier : ℕ) (frame : List ℕ) (lent : Slices) → reading (wordsOf b) identifier frame lent ≡ readByMessages (textMessages text) identifier frame lent
+  pub read-of-taken : (identifier : ℕ) (frame : List ℕ) (lent : Slices) → reading w identifier frame lent ≡ readByMessages (textMessages text) identifier frame lent
   unfolding reading
   read-of-taken identifier frame lent = rw (passes, shown) refl
 
   -- and packed by them
-  pub pack-of-taken : (identifier : ℕ) (vs lent : List ℕ) → packing (wordsOf b) identifier vs lent ≡ packByMessage (messageOf identifier (textMessages text)) vs lent
+  pub pack-of-taken : (identifier : ℕ) (vs lent : List ℕ) → packing w identifier vs lent ≡ packByMessage (messageWith identifier (textMessages text)) vs lent
   unfolding packing
   pack-of-taken identifier vs lent = rw (passes, shown) refl

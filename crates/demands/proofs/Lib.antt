@@ -1,9 +1,14 @@
 pub mod LineNumbers
+pub mod Keys
+pub mod ByLines
 pub mod LineRefusals
-pub mod LowestLines
 pub mod Refusals
-pub mod OneRoute
-pub mod RouteTables
+pub mod LowestLines
+pub mod Taken
 pub mod Spreading
 pub mod Frames
+pub mod NoBook
+pub mod FirstBad
+pub mod Witnesses
+pub mod OneRoute
 pub mod StandIns

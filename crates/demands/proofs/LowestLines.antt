@@ -17,8 +17,10 @@ use Rattle.reading.specs.Taken.{froms, tos}
 use Rattle.reading.proofs.Counts.{text-counted}
 use Rattle.book.specs.Answered.{Answered, too-long, bad-line, closed-chain, two-chains, taken-with}
 use Rattle.demands.specs.Text.{textRoutes, lineOf, LowestLine}
-use Rattle.demands.specs.Loops.{OnLoop, BeginsPair}
+use Rattle.demands.specs.RLines.{textRLines, OnLoop, BeginsPair}
 use Rattle.demands.proofs.LineNumbers.{rising, kept, routes-of-text}
+use Rattle.demands.proofs.Keys.{text-in-limits}
+use Rattle.demands.proofs.ByLines.{loop-keyed, loop-unkeyed, pair-keyed, pair-unkeyed}
 use Rattle.demands.proofs.LineRefusals.{line-low, apart, not-taken}
 
 -- the lowest route has the lowest line
@@ -46,32 +48,36 @@ module _ (text : List ℕ) (b : Book) (at : List ℕ) (e : linesRead text ≡ pa
       subst (λ (rs : List Route). LowestLine text (P (froms rs) (tos rs)) (getD at i 0)) (routes-of-text text e)
       (record { route = i; holds = holds; line = line-is; lowest = not-lower })
 
+-- the same of what holds of the same R lines
+same-lowest : {text : List ℕ} {P Q : ℕ → Type 0} {n : ℕ} → ((k : ℕ) → P k → Q k) → ((k : ℕ) → Q k → P k) → LowestLine text P n → LowestLine text Q n
+same-lowest f g l = record { route = l .route; holds = f (l .route) (l .holds); line = l .line; lowest = λ k h. l .lowest k (g k h) }
+
 begins-route : (fs ts : List ℕ) (k : ℕ) → BeginsDoubling fs ts k → k < length fs
 begins-route fs ts k (p, q, c, d, h) = h .one .0
 
 module _ (text : List ℕ) (n : ℕ) (w : List ℕ) where
-  pub loop-line : Answered text (refused 10 n) w → LowestLine text (OnLoop text) n
+  pub loop-line : Answered text (refused 10 n) w → LowestLine text (OnLoop (textRLines text)) n
   loop-line a = from (refused 10 n) w refl a
     where
-      from : (s : Said) (v : List ℕ) → s ≡ refused 10 n → Answered text s v → LowestLine text (OnLoop text) n
+      from : (s : Said) (v : List ℕ) → s ≡ refused 10 n → Answered text s v → LowestLine text (OnLoop (textRLines text)) n
       from s v e (too-long h) = apart (λ z. omega arith) e
       from s v e (bad-line {why = why} {n = m} h r) = apart (λ z. omega (arith, line-low text why m r .most)) e
       from s v e (closed-chain {b = b} {at = at} {i = i} p l) =
           let same : getD at i 0 ≡ n = cc in
-          subst (LowestLine text (OnLoop text)) same
-          (lowest-line text b at (p .read) OnClosed i (λ fs ts k h. closed-back fs ts k h .0) (l .0) (l .1))
+          subst (LowestLine text (OnLoop (textRLines text))) same
+          (same-lowest (loop-unkeyed text (text-in-limits text (p .read))) (loop-keyed text) (lowest-line text b at (p .read) OnClosed i (λ fs ts k h. closed-back fs ts k h .0) (l .0) (l .1)))
       from s v e (two-chains p free l) = apart (λ z. omega arith) e
       from s v e (taken-with t) = not-taken e
 
-  pub doubling-line : Answered text (refused 11 n) w → LowestLine text (BeginsPair text) n
+  pub doubling-line : Answered text (refused 11 n) w → LowestLine text (BeginsPair (textRLines text)) n
   doubling-line a = from (refused 11 n) w refl a
     where
-      from : (s : Said) (v : List ℕ) → s ≡ refused 11 n → Answered text s v → LowestLine text (BeginsPair text) n
+      from : (s : Said) (v : List ℕ) → s ≡ refused 11 n → Answered text s v → LowestLine text (BeginsPair (textRLines text)) n
       from s v e (too-long h) = apart (λ z. omega arith) e
       from s v e (bad-line {why = why} {n = m} h r) = apart (λ z. omega (arith, line-low text why m r .most)) e
       from s v e (closed-chain p l) = apart (λ z. omega arith) e
       from s v e (two-chains {b = b} {at = at} {i = i} p free l) =
           let same : getD at i 0 ≡ n = cc in
-          subst (LowestLine text (BeginsPair text)) same
-          (lowest-line text b at (p .read) BeginsDoubling i begins-route (l .0) (l .1))
+          subst (LowestLine text (BeginsPair (textRLines text))) same
+          (same-lowest (pair-unkeyed text (text-in-limits text (p .read))) (pair-keyed text) (lowest-line text b at (p .read) BeginsDoubling i begins-route (l .0) (l .1)))
       from s v e (taken-with t) = not-taken e

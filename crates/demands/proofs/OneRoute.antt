@@ -1,15 +1,28 @@
 -- "a repeated R line therefore doubles. A route from a place to itself is a closed chain." Assumes nothing.
-use mathlib.Core.Path.{_≡_, refl}
+use mathlib.Core.Path.{_≡_, refl, ap}
 use Prim.Native.Nat.{ℕ, _<_}
 use mathlib.Core.List.{List, [], _∷_}
-use lib.ListN.{length, getD}
-use Rattle.chains.specs.Chain.{Closed, Doubling}
+use lib.ListN.{length}
+use Rattle.demands.specs.RLines.{RLine, rLineAt}
+use Rattle.demands.specs.Loops.{Returns, Doubles}
 
-module _ (froms tos : List ℕ) where
-  -- two routes that lead from one place to another: each of them alone is a chain that joins these
-  pub repeated-doubles : (i j : ℕ) → (i ≡ j → ⊥) → i < length froms → j < length froms → getD froms j 0 ≡ getD froms i 0 → getD tos j 0 ≡ getD tos i 0
-      → Doubling froms tos (getD froms i 0) (getD tos i 0) (i ∷ []) (j ∷ [])
-  repeated-doubles i j apart h k from to = record { one = (h, refl, refl); other = (k, from, to); different = λ e. apart (let z : i ≡ j = cc in z) }
+module _ (ls : List RLine) where
+  -- each of two equal lines alone is a chain that joins their places
+  pub repeated-doubles : (k m : ℕ) → (k ≡ m → ⊥) → k < length ls → m < length ls → rLineAt ls m ≡ rLineAt ls k → Doubles ls
+  repeated-doubles k m apart h l e =
+      record {
+        bus = rLineAt ls k .bus;
+        identifier = rLineAt ls k .identifier;
+        to-bus = rLineAt ls k .to-bus;
+        to-identifier = rLineAt ls k .to-identifier;
+        chain = k ∷ [];
+        another = m ∷ [];
+        joining = record {
+          one = (h, refl, refl, (refl, refl));
+          other = (l, ap (λ (x : RLine). x .bus) e, ap (λ (x : RLine). x .identifier) e, (ap (λ (x : RLine). x .to-bus) e, ap (λ (x : RLine). x .to-identifier) e));
+          different = λ f. apart (let z : k ≡ m = cc in z);
+        };
+      }
 
-  pub self-closed : (i : ℕ) → i < length froms → getD tos i 0 ≡ getD froms i 0 → Closed froms tos (getD froms i 0) (i ∷ [])
-  self-closed i h e = (h, refl, e)
+  pub self-returns : (k : ℕ) → k < length ls → rLineAt ls k .to-bus ≡ rLineAt ls k .bus → rLineAt ls k .to-identifier ≡ rLineAt ls k .identifier → Returns ls
+  self-returns k h e f = record { bus = rLineAt ls k .bus; identifier = rLineAt ls k .identifier; chain = k ∷ []; returning = record { closed = (h, refl, refl, (e, f)) } }

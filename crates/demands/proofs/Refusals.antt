@@ -1,6 +1,6 @@
--- Demand 3: a book is refused for a loop exactly when some chain of routes returns to the place it left, for doubling exactly when none does
--- but two different chains join the same two places, otherwise taken. Over every text: its routes are those of its R lines, and where its
--- lines don't pass, exactly there, the refusal is one of 1 to 9. Assumes nothing.
+-- Demand 3: a book is refused for a loop exactly when some chain of its R lines returns to the bus and identifier it left, for doubling
+-- exactly when none does but two different chains join the same two places, otherwise taken. Over every text; and where its lines don't
+-- pass, exactly there, the refusal is one of 1 to 9. Assumes nothing.
 use mathlib.Core.Path.{_≡_, refl, sym, _∙_, subst}
 use Prim.Native.Nat.{ℕ}
 use native.Mathlib.Omega.{arith}
@@ -14,37 +14,27 @@ use Rattle.reading.specs.Reading as lines
 use Rattle.reading.specs.Taken.{froms, tos}
 use Rattle.book.specs.Answered.{Passes, Answered, too-long, bad-line, closed-chain, two-chains, taken-with}
 use Rattle.demands.specs.Text.{textRoutes}
-use Rattle.demands.specs.Loops.{Returns, Doubles, LinesPass, Loops, OnlyDoubles, Otherwise, RefusedWith, RefusedBefore, IsTaken}
+use Rattle.demands.specs.Loops.{LinesPass, Loops, OnlyDoubles, Otherwise, RefusedWith, RefusedBefore, IsTaken}
 use Rattle.demands.proofs.LineNumbers.{routes-of-text}
+use Rattle.demands.proofs.Keys.{text-in-limits}
+use Rattle.demands.proofs.ByLines.{returns, doubles, none-returns, none-doubles}
 use Rattle.demands.proofs.LineRefusals.{line-low, apart, not-taken}
 
 -- what a text is answered with, by its lines and its routes
-data Answer (text : List ℕ) (s : Said) : Type 0 where
-  before : (LinesPass text → ⊥) → RefusedBefore s → Answer text s
-  loop : Loops text → RefusedWith 10 s → Answer text s
-  doubling : OnlyDoubles text → RefusedWith 11 s → Answer text s
-  sound : Otherwise text → IsTaken s → Answer text s
+data Outcomes (text : List ℕ) (s : Said) : Type 0 where
+  before : (LinesPass text → ⊥) → RefusedBefore s → Outcomes text s
+  loop : Loops text → RefusedWith 10 s → Outcomes text s
+  doubling : OnlyDoubles text → RefusedWith 11 s → Outcomes text s
+  sound : Otherwise text → IsTaken s → Outcomes text s
 
 not-refused : {b : Book} {at : List ℕ} {why n : ℕ} {o : Outcome} → o ≡ passed b at → o ≡ lines.refused why n → ⊥
 not-refused e f = let z : _≡_ {A = ℕ} 0 1 = cc in omega arith
-
-returns : (rs : List Route) (i : ℕ) → OnClosed (froms rs) (tos rs) i → Returns rs
-returns rs i (p, c, h, m) = record { place = p; chain = c; closed = h }
-
-none-returns : (rs : List Route) → LoopFree (froms rs) (tos rs) → Returns rs → ⊥
-none-returns rs free r = free (r .place) (r .chain) (r .closed)
-
-doubles : (rs : List Route) (i : ℕ) → BeginsDoubling (froms rs) (tos rs) i → Doubles rs
-doubles rs i (p, q, c, d, h) = record { start = p; end = q; chain = _; another = d; both = h }
-
-none-doubles : (rs : List Route) → Single (froms rs) (tos rs) → Doubles rs → ⊥
-none-doubles rs single d = single (d .start) (d .end) (d .chain) (d .another) (d .both)
 
 -- what holds of the routes that the reader keeps holds of the text's
 of-text : (text : List ℕ) {b : Book} {at : List ℕ} (P : List Route → Type 0) → Passes text b at → P (b .routes) → P (textRoutes text)
 of-text text P p h = subst P (routes-of-text text (p .read)) h
 
-answer : (text : List ℕ) (s : Said) (w : List ℕ) → Answered text s w → Answer text s
+answer : (text : List ℕ) (s : Said) (w : List ℕ) → Answered text s w → Outcomes text s
 answer text s w (too-long h) =
     before (λ l. omega (arith, l .passes .short, h)) (record { why = 1; some = omega arith; low = omega arith; refused = record { line = 0; is = refl } })
 answer text s w (bad-line {why = why} {n = n} h e) =
@@ -52,14 +42,14 @@ answer text s w (bad-line {why = why} {n = n} h e) =
     before (λ p. not-refused (p .passes .read) e) (record { why = why; some = omega (arith, l .least); low = l .most; refused = record { line = n; is = refl } })
 answer text s w (closed-chain {b = b} {at = at} {i = i} p l) =
     loop
-    (record { passes = record { book = b; at = at; passes = p }; returns = of-text text Returns p (returns (b .routes) i (l .0)) })
+    (record { passes = record { book = b; at = at; passes = p }; returns = returns text (text-in-limits text (p .read)) i (of-text text (λ (rs : List Route). OnClosed (froms rs) (tos rs) i) p (l .0)) })
     (record { line = getD at i 0; is = refl })
 answer text s w (two-chains {b = b} {at = at} {i = i} p free l) =
     doubling
     (record {
       passes = record { book = b; at = at; passes = p };
-      none-returns = of-text text (λ (rs : List Route). Returns rs → ⊥) p (none-returns (b .routes) free);
-      doubles = of-text text Doubles p (doubles (b .routes) i (l .0));
+      none-returns = none-returns text (of-text text (λ (rs : List Route). LoopFree (froms rs) (tos rs)) p free);
+      doubles = doubles text (text-in-limits text (p .read)) i (of-text text (λ (rs : List Route). BeginsDoubling (froms rs) (tos rs) i) p (l .0));
     })
     (record { line = getD at i 0; is = refl })
 answer text s w (taken-with {b = b} t) =
@@ -67,8 +57,8 @@ answer text s w (taken-with {b = b} t) =
     sound
     (record {
       passes = record { book = b; at = t .at; passes = p };
-      none-returns = of-text text (λ (rs : List Route). Returns rs → ⊥) p (none-returns (b .routes) (t .sound .loop-free));
-      none-doubles = of-text text (λ (rs : List Route). Doubles rs → ⊥) p (none-doubles (b .routes) (t .sound .single));
+      none-returns = none-returns text (of-text text (λ (rs : List Route). LoopFree (froms rs) (tos rs)) p (t .sound .loop-free));
+      none-doubles = none-doubles text (of-text text (λ (rs : List Route). Single (froms rs) (tos rs)) p (t .sound .single));
     })
     (record { messages = _; signals = _; routes = _; is = refl })
 
@@ -84,7 +74,7 @@ module _ (text : List ℕ) (s : Said) (w : List ℕ) (a : Answered text s w) whe
   pub loop-refused : Loops text → RefusedWith 10 s
   loop-refused l = go (answer text s w a)
     where
-      go : Answer text s → RefusedWith 10 s
+      go : Outcomes text s → RefusedWith 10 s
       go (before none _) = absurd (none (l .passes))
       go (loop _ r) = r
       go (doubling h _) = absurd (h .none-returns (l .returns))
@@ -93,7 +83,7 @@ module _ (text : List ℕ) (s : Said) (w : List ℕ) (a : Answered text s w) whe
   pub refused-loop : RefusedWith 10 s → Loops text
   refused-loop r = go (answer text s w a)
     where
-      go : Answer text s → Loops text
+      go : Outcomes text s → Loops text
       go (before _ x) = absurd (not-both (λ e. omega (arith, x .low, e)) (x .refused) r)
       go (loop h _) = h
       go (doubling _ x) = absurd (not-both (λ e. omega arith) r x)
@@ -103,7 +93,7 @@ module _ (text : List ℕ) (s : Said) (w : List ℕ) (a : Answered text s w) whe
   pub doubling-refused : OnlyDoubles text → RefusedWith 11 s
   doubling-refused f = go (answer text s w a)
     where
-      go : Answer text s → RefusedWith 11 s
+      go : Outcomes text s → RefusedWith 11 s
       go (before none _) = absurd (none (f .passes))
       go (loop h _) = absurd (f .none-returns (h .returns))
       go (doubling _ r) = r
@@ -112,7 +102,7 @@ module _ (text : List ℕ) (s : Said) (w : List ℕ) (a : Answered text s w) whe
   pub refused-doubling : RefusedWith 11 s → OnlyDoubles text
   refused-doubling r = go (answer text s w a)
     where
-      go : Answer text s → OnlyDoubles text
+      go : Outcomes text s → OnlyDoubles text
       go (before _ x) = absurd (not-both (λ e. omega (arith, x .low, e)) (x .refused) r)
       go (loop _ x) = absurd (not-both (λ e. omega arith) x r)
       go (doubling h _) = h
@@ -122,7 +112,7 @@ module _ (text : List ℕ) (s : Said) (w : List ℕ) (a : Answered text s w) whe
   pub otherwise-taken : Otherwise text → IsTaken s
   otherwise-taken o = go (answer text s w a)
     where
-      go : Answer text s → IsTaken s
+      go : Outcomes text s → IsTaken s
       go (before none _) = absurd (none (o .passes))
       go (loop h _) = absurd (o .none-returns (h .returns))
       go (doubling h _) = absurd (o .none-doubles (h .doubles))
@@ -131,7 +121,7 @@ module _ (text : List ℕ) (s : Said) (w : List ℕ) (a : Answered text s w) whe
   pub taken-otherwise : IsTaken s → Otherwise text
   taken-otherwise t = go (answer text s w a)
     where
-      go : Answer text s → Otherwise text
+      go : Outcomes text s → Otherwise text
       go (before _ x) = absurd (not-and-taken (x .refused) t)
       go (loop _ x) = absurd (not-and-taken x t)
       go (doubling _ x) = absurd (not-and-taken x t)
@@ -141,7 +131,7 @@ module _ (text : List ℕ) (s : Said) (w : List ℕ) (a : Answered text s w) whe
   pub before-refused : (LinesPass text → ⊥) → RefusedBefore s
   before-refused none = go (answer text s w a)
     where
-      go : Answer text s → RefusedBefore s
+      go : Outcomes text s → RefusedBefore s
       go (before _ r) = r
       go (loop h _) = absurd (none (h .passes))
       go (doubling h _) = absurd (none (h .passes))
@@ -150,7 +140,7 @@ module _ (text : List ℕ) (s : Said) (w : List ℕ) (a : Answered text s w) whe
   pub refused-before : RefusedBefore s → LinesPass text → ⊥
   refused-before r p = go (answer text s w a)
     where
-      go : Answer text s → ⊥
+      go : Outcomes text s → ⊥
       go (before none _) = none p
       go (loop _ x) = not-both (λ e. omega (arith, r .low, e)) (r .refused) x
       go (doubling _ x) = not-both (λ e. omega (arith, r .low, e)) (r .refused) x

@@ -1,2 +1,6 @@
 pub mod Text
+pub mod RLines
 pub mod Loops
+pub mod Examples
+pub mod FirstBad
+pub mod Spreads

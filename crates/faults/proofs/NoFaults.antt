@@ -9,7 +9,7 @@ use lib.Dec.{T, eqb}
 use lib.ListN.{set}
 use lib.Seq.{getD-set-other}
 use Rattle.faults.specs.Rows.{firstRow, toldRow, counted, levelRows, oneBitRows, emergencyRows, fireRow}
-use Rattle.faults.specs.Counts.{at, standsAt, howMany, allOf, anyOf, highestOf}
+use Rattle.faults.specs.Counts.{levelOf, standsAt, howMany, allOf, anyOf, highestOf}
 use Rattle.faults.specs.Sum.{isEmergency, sumOf}
 
 -- the row's count stands at another place than i
@@ -21,7 +21,7 @@ module _ (counts : List ℕ) (i v : ℕ) where
   unfolding allOf
   split row rs h = and-yes (away i row) (allOf (away i) rs) h
 
-  same-count : (row : ℕ) → T (away i row) → at (set counts i v) row ≡ at counts row
+  same-count : (row : ℕ) → T (away i row) → levelOf (set counts i v) row ≡ levelOf counts row
   same-count row h = getD-set-other counts i (row - firstRow) v 0 (λ e. rw (eq-eqb (row - firstRow) i e) at h)
 
   same-many : (wanted : ℕ) (rs : List ℕ) → T (allOf (away i) rs) → howMany (standsAt (set counts i v) wanted) rs ≡ howMany (standsAt counts wanted) rs
@@ -29,7 +29,7 @@ module _ (counts : List ℕ) (i v : ℕ) where
   same-many wanted [] h = refl
   same-many wanted (row ∷ rs) h = simp (same-count row (split row rs h .0), same-many wanted rs (split row rs h .1))
 
-  same-highest : (rs : List ℕ) → T (allOf (away i) rs) → highestOf (at (set counts i v)) rs ≡ highestOf (at counts) rs
+  same-highest : (rs : List ℕ) → T (allOf (away i) rs) → highestOf (levelOf (set counts i v)) rs ≡ highestOf (levelOf counts) rs
   unfolding highestOf allOf
   same-highest [] h = refl
   same-highest (row ∷ rs) h = simp (same-count row (split row rs h .0), same-highest rs (split row rs h .1))

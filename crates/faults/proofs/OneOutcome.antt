@@ -14,7 +14,7 @@ use denote.Ref.{RefT, now}
 use denote.Triple.Clauses.{AtExit}
 use Rattle.only.specs.Only.{Only, only-this}
 use Rattle.faults.specs.Sum.{answerTo}
-use Rattle.faults.proofs.Answer as S
+use Rattle.faults.proofs.FaultAnswer as S
 use Rattle.faults.proofs.sum as sum
 
 module _ {M : Type 1} (𝓤 : URA M) (H : Heap 𝓤) (A : Atoms 𝓤) (mem : Memory → SProp 𝓤) (run : Routine → Fun 𝓤) where

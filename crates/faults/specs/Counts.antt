@@ -4,19 +4,24 @@ use mathlib.Core.Bool.{Bool, true, false, cond, _&&_, _||_}
 use mathlib.Core.List.{List, [], _∷_}
 use lib.Dec.{eqb, ltb}
 use lib.ListN.{getD}
+use Rattle.catalogue.specs.declared.Raw.{Raw}
 use Rattle.faults.specs.Rows.{firstRow}
 
 -- the raw count of a row: the counts stand in the order of the rows
-abbrev pub at : List ℕ → ℕ → ℕ
-at counts row = getD counts (row - firstRow) 0
+abbrev pub rawOf : List ℕ → ℕ → Raw
+rawOf counts row = record { 0 = getD counts (row - firstRow) 0 }
 
--- a row's count is the one that is wanted
+-- the level of a row that has one is its raw count
+abbrev pub levelOf : List ℕ → ℕ → ℕ
+levelOf counts row = rawOf counts row .0
+
+-- a row's raw count is the number that is wanted
 abbrev pub standsAt : List ℕ → ℕ → ℕ → Bool
-standsAt counts wanted row = eqb (at counts row) wanted
+standsAt counts wanted row = eqb (rawOf counts row .0) wanted
 
--- a row's count is below a limit
-abbrev pub below : List ℕ → ℕ → ℕ → Bool
-below counts limit row = ltb (at counts row) limit
+-- a row's raw count is below a limit
+abbrev pub rawBelow : List ℕ → ℕ → ℕ → Bool
+rawBelow counts limit row = ltb (rawOf counts row .0) limit
 
 -- how many of the rows pass a test
 unfoldable pub howMany : (ℕ → Bool) → List ℕ → ℕ

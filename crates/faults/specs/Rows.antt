@@ -9,8 +9,8 @@ counted zero from = []
 counted (suc n) from = from ∷ counted n (suc from)
 
 -- the rows from one to another, both included
-abbrev pub rows : ℕ → ℕ → List ℕ
-rows from to = counted (suc to - from) from
+abbrev pub rowsBetween : ℕ → ℕ → List ℕ
+rowsBetween from to = counted (suc to - from) from
 
 -- the fault rows: "1901 to 1927"
 abbrev pub firstRow : ℕ
@@ -20,7 +20,7 @@ abbrev pub lastRow : ℕ
 lastRow = 1927
 
 abbrev pub faultRows : List ℕ
-faultRows = rows firstRow lastRow
+faultRows = rowsBetween firstRow lastRow
 
 -- "27 fault values", one for each row
 abbrev pub rowCount : ℕ
@@ -32,11 +32,11 @@ toldRow = firstRow
 
 -- "the level rows (1902 to 1914, 1925)"
 abbrev pub levelRows : List ℕ
-levelRows = rows 1902 1914 ++ rows 1925 1925
+levelRows = rowsBetween 1902 1914 ++ rowsBetween 1925 1925
 
 -- "one-bit faults .. (1915 to 1921, 1924, 1926, 1927)"
 abbrev pub oneBitRows : List ℕ
-oneBitRows = rows 1915 1921 ++ rows 1924 1924 ++ rows 1926 1927
+oneBitRows = rowsBetween 1915 1921 ++ rowsBetween 1924 1924 ++ rowsBetween 1926 1927
 
 -- the rows that make an emergency at level 3: "1902, 1903, 1905, 1907 or 1908"
 abbrev pub emergencyRows : List ℕ

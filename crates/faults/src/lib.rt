@@ -3,12 +3,13 @@
 // For a gateway that has read the counts of table 19 into a slice, row 1901 first. `sum` has no `requires`: a slice of
 // another length, or with a count too wide for its signal, is refused and nothing is summed. `specs/Sum.antt` says what
 // is counted over which rows.
+use catalogue::Raw;
 ghost use mathlib.Core.Path.{_≡_};
 ghost use mathlib.Core.Bool.{cond};
 ghost use Prim.Native.Nat.{_≤_, max};
 ghost use lib.ListN.{length};
-ghost use Rattle.faults.specs.Rows.{rowCount, rows, levelRows, oneBitRows, InTable};
-ghost use Rattle.faults.specs.Counts.{at, standsAt, below, howMany, allOf, highestOf};
+ghost use Rattle.faults.specs.Rows.{rowCount, rowsBetween, levelRows, oneBitRows, InTable};
+ghost use Rattle.faults.specs.Counts.{rawOf, levelOf, standsAt, rawBelow, howMany, allOf, highestOf};
 ghost use Rattle.faults.specs.Sum.{allFit, isEmergency, answerTo};
 
 pub struct FaultSum {
@@ -25,7 +26,7 @@ pub struct FaultSum {
     pub agrees: bool,
 }
 
-pub enum Answer {
+pub enum FaultAnswer {
     Summed(FaultSum),
     NotTwentySeven,
     TooWide,
@@ -48,11 +49,36 @@ const TWO_BITS: u32 = 4;
 
 const FIVE_BITS: u32 = 32;
 
-fn count_at(counts: &[u32], row: usize) -> u32
+// The raw count of a row.
+fn raw_of(counts: &[u32], row: usize) -> Raw
     requires { ⌜ InTable (length (now counts)) row row ⌝ }
-    ensures { λ r. ⌜ r ≡ at (now (counts .entry)) row ⌝ }
+    ensures { λ r. ⌜ r ≡ rawOf (now (counts .entry)) row ⌝ }
 {
-    counts[row - FIRST_ROW]
+    Raw(counts[row - FIRST_ROW])
+}
+
+fn level_of(counts: &[u32], row: usize) -> u32
+    requires { ⌜ InTable (length (now counts)) row row ⌝ }
+    ensures { λ r. ⌜ r ≡ levelOf (now (counts .entry)) row ⌝ }
+{
+    let raw = raw_of(counts, row);
+    raw.0
+}
+
+fn stands_at(counts: &[u32], row: usize, wanted: u32) -> bool
+    requires { ⌜ InTable (length (now counts)) row row ⌝ }
+    ensures { λ r. ⌜ r ≡ standsAt (now (counts .entry)) wanted row ⌝ }
+{
+    let raw = raw_of(counts, row);
+    raw.0 == wanted
+}
+
+fn is_below(counts: &[u32], row: usize, limit: u32) -> bool
+    requires { ⌜ InTable (length (now counts)) row row ⌝ }
+    ensures { λ r. ⌜ r ≡ rawBelow (now (counts .entry)) limit row ⌝ }
+{
+    let raw = raw_of(counts, row);
+    raw.0 < limit
 }
 
 fn one_if(test: bool) -> u32
@@ -70,12 +96,12 @@ fn greater(a: u32, b: u32) -> u32
 // How many of the rows `from` to `to` stand at `wanted`.
 fn how_many(counts: &[u32], from: usize, to: usize, wanted: u32) -> u32
     requires { ⌜ InTable (length (now counts)) from to ⌝ }
-    ensures { λ r. ⌜ (r ≡ howMany (standsAt (now (counts .entry)) wanted) (rows from to)) × (r ≤ rowCount) ⌝ }
+    ensures { λ r. ⌜ (r ≡ howMany (standsAt (now (counts .entry)) wanted) (rowsBetween from to)) × (r ≤ rowCount) ⌝ }
 {
     let mut n: u32 = 0;
     let mut row: usize = from;
     while row <= to {
-        n += one_if(count_at(counts, row) == wanted);
+        n += one_if(stands_at(counts, row, wanted));
         row += 1;
     }
     n
@@ -84,12 +110,12 @@ fn how_many(counts: &[u32], from: usize, to: usize, wanted: u32) -> u32
 // The highest count among the rows `from` to `to`.
 fn highest_of(counts: &[u32], from: usize, to: usize) -> u32
     requires { ⌜ InTable (length (now counts)) from to ⌝ }
-    ensures { λ r. ⌜ r ≡ highestOf (at (now (counts .entry))) (rows from to) ⌝ }
+    ensures { λ r. ⌜ r ≡ highestOf (levelOf (now (counts .entry))) (rowsBetween from to) ⌝ }
 {
     let mut highest: u32 = 0;
     let mut row: usize = from;
     while row <= to {
-        highest = greater(highest, count_at(counts, row));
+        highest = greater(highest, level_of(counts, row));
         row += 1;
     }
     highest
@@ -98,12 +124,12 @@ fn highest_of(counts: &[u32], from: usize, to: usize) -> u32
 // Whether each of the rows `from` to `to` has a count below `limit`.
 fn all_below(counts: &[u32], from: usize, to: usize, limit: u32) -> bool
     requires { ⌜ InTable (length (now counts)) from to ⌝ }
-    ensures { λ r. ⌜ r ≡ allOf (below (now (counts .entry)) limit) (rows from to) ⌝ }
+    ensures { λ r. ⌜ r ≡ allOf (rawBelow (now (counts .entry)) limit) (rowsBetween from to) ⌝ }
 {
     let mut all = true;
     let mut row: usize = from;
     while row <= to {
-        all = all & (count_at(counts, row) < limit);
+        all = all & is_below(counts, row, limit);
         row += 1;
     }
     all
@@ -123,7 +149,7 @@ fn all_fit(counts: &[u32]) -> bool
 
 fn highest_level(counts: &[u32]) -> u32
     requires { ⌜ length (now counts) ≡ rowCount ⌝ }
-    ensures { λ r. ⌜ r ≡ highestOf (at (now (counts .entry))) levelRows ⌝ }
+    ensures { λ r. ⌜ r ≡ highestOf (levelOf (now (counts .entry))) levelRows ⌝ }
 {
     greater(
         highest_of(counts, 1902, 1914),
@@ -151,23 +177,23 @@ fn is_emergency(counts: &[u32]) -> bool
     requires { ⌜ length (now counts) ≡ rowCount ⌝ }
     ensures { λ r. ⌜ r ≡ isEmergency (now (counts .entry)) ⌝ }
 {
-    (count_at(counts, 1902) == 3)
-        | (count_at(counts, 1903) == 3)
-        | (count_at(counts, 1905) == 3)
-        | (count_at(counts, 1907) == 3)
-        | (count_at(counts, 1908) == 3)
-        | (count_at(counts, 1921) == 1)
+    stands_at(counts, 1902, 3)
+        | stands_at(counts, 1903, 3)
+        | stands_at(counts, 1905, 3)
+        | stands_at(counts, 1907, 3)
+        | stands_at(counts, 1908, 3)
+        | stands_at(counts, 1921, 1)
 }
 
 // The fault sum over the raw counts of 1901 to 1927, in that order.
-pub fn sum(counts: &[u32]) -> Answer
+pub fn sum(counts: &[u32]) -> FaultAnswer
     ensures { λ r. ⌜ r ≡ answerTo (now (counts .entry)) ⌝ }
 {
     if counts.len() != ROW_COUNT {
-        return Answer::NotTwentySeven;
+        return FaultAnswer::NotTwentySeven;
     }
     if !all_fit(counts) {
-        return Answer::TooWide;
+        return FaultAnswer::TooWide;
     }
     let highest = highest_level(counts);
     let at_1 = levels_at(counts, 1);
@@ -175,8 +201,8 @@ pub fn sum(counts: &[u32]) -> Answer
     let at_3 = levels_at(counts, 3);
     let set = one_bit_faults(counts);
     let emergency = is_emergency(counts);
-    let agrees = count_at(counts, TOLD_ROW) == highest;
-    Answer::Summed(FaultSum {
+    let agrees = stands_at(counts, TOLD_ROW, highest);
+    FaultAnswer::Summed(FaultSum {
         highest,
         at_1,
         at_2,

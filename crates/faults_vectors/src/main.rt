@@ -1,6 +1,6 @@
 // Runs the fault sum over the counts on standard input. A line is how many counts, in two hex digits, and the counts in
 // eight each. Each gives a line: `sum` and the parts of the sum, or `no` and the refusal.
-use faults::Answer;
+use faults::FaultAnswer;
 use faults::FaultSum;
 use libc::STDIN_FILENO;
 use libc::STDOUT_FILENO;
@@ -38,11 +38,11 @@ fn print_sum(sum: FaultSum) {
 
 fn sum(counts: &[u32]) {
     match faults::sum(counts) {
-        Answer::Summed(sum) => print_sum(sum),
-        Answer::NotTwentySeven => {
+        FaultAnswer::Summed(sum) => print_sum(sum),
+        FaultAnswer::NotTwentySeven => {
             io::write_all(STDOUT_FILENO, b"no\t31\n");
         }
-        Answer::TooWide => {
+        FaultAnswer::TooWide => {
             io::write_all(STDOUT_FILENO, b"no\t32\n");
         }
     }

@@ -13,7 +13,7 @@ use Rattle.numerals.specs.declared.Number.the-variants as number
 use Rattle.numerals.specs.Numeral.{identifierDigits, identifier, zeroByte}
 use Rattle.numerals.proofs.Identifiers.{identifier-written}
 use Rattle.parts.specs.Parts.{indexOf}
-use Rattle.parts.specs.Joined.{Free}
+use Rattle.parts.specs.Joined.{Lacks}
 use Rattle.parts.proofs.Seek.{index-at, index-le}
 use Rattle.parts.proofs.Joins.{free-at}
 use Rattle.fields.specs.declared.Front.the-variants.{Nothing}
@@ -49,7 +49,7 @@ module _ (text : List ℕ) (stop : ℕ) where
     -- a number has no such byte in it
     inside : indexOf stop text < 8 → indexOf stop text < length text → (n : Number) → identifier part ≡ n → n ≡ number.Not
     inside h i (number.Is n) q =
-        let f : Free stop part = rw (identifier-written part n q .text) (identifier-free stop n low) in
+        let f : Lacks stop part = rw (identifier-written part n q .text) (identifier-free stop n low) in
         let s : length part ≡ 8 = ap length e ∙ length-take-le 8 text (omega arith) in
         let z : indexOf stop text < length part = omega arith in
         let g : getD part (indexOf stop text) 0 ≡ stop = rw e (getD-take 8 text (indexOf stop text) 0 h ∙ index-at stop text i) in

@@ -12,7 +12,7 @@ use borrow.Author.Tests.{lt-ltb, ltb-true}
 use Rattle.numerals.specs.declared.Number.{Number}
 use Rattle.numerals.specs.declared.Number.the-variants as number
 use Rattle.parts.specs.Parts.{indexOf}
-use Rattle.parts.specs.Joined.{Free}
+use Rattle.parts.specs.Joined.{Lacks}
 use Rattle.parts.proofs.Seek.{index-at}
 use Rattle.parts.proofs.Joins.{index-after}
 use Rattle.fields.specs.declared.Front.the-variants.{Found, Nothing}
@@ -51,7 +51,7 @@ module _ (form : List ℕ → Number) (stop : ℕ) where
       by true q number.Not f e = never e
       by false q v f e = never e
 
-  module _ (p rest : List ℕ) (n : ℕ) (free : Free stop p) (reads : form p ≡ number.Is n) where
+  module _ (p rest : List ℕ) (n : ℕ) (free : Lacks stop p) (reads : form p ≡ number.Is n) where
     pub field-found : Found n (length p) ≡ numberBefore form stop (p ++ stop ∷ rest)
     unfolding numberBefore
     field-found =

@@ -14,11 +14,12 @@ use Rattle.parts.specs.Parts.{fields}
 use Rattle.bits.specs.Frame.{frameBytes}
 use Rattle.bits.specs.Word.{wordOf}
 use Rattle.frame_lines.specs.declared.FrameLine.the-variants.{Frame, NotEightBytes, IllFormed}
-use Rattle.frame_lines.specs.Meaning.{Said, frame, illFormed, allDigits, areBytes, bytesIn, saidBy, ofFrameFields, frameLineSays, told}
+use Rattle.frame_lines.specs.Meaning.{FrameMeaning, frame, illFormed, allDigits, areBytes, bytesIn, saidBy, ofFrameFields, frameLineSays}
+use Rattle.frame_lines.specs.Told.{told}
 use Rattle.frame_lines.proofs.Digits.{bytes-small}
 
 -- every byte that a line says is one
-abbrev pub SmallBytes : Said → Type 0
+abbrev pub SmallBytes : FrameMeaning → Type 0
 SmallBytes (frame i bytes) = (k : ℕ) → getD bytes k 0 < 256
 SmallBytes illFormed = Unit
 
@@ -69,7 +70,7 @@ module _ (l : List ℕ) where
           record { bytes = bytes; said = s ∙ ap (λ (k : ℕ). frame k bytes) (sym x); eight = eqb-true (length bytes) frameBytes q; word = y; small = m }
       of n bytes false q s m e = absurd (let z : _≡_ {A = ℕ} 0 1 = cc in omega arith)
 
-      by : (s : Said) → frameLineSays l ≡ s → SmallBytes s → Frame i w ≡ told s → SaysFrame l i w
+      by : (s : FrameMeaning) → frameLineSays l ≡ s → SmallBytes s → Frame i w ≡ told s → SaysFrame l i w
       by (frame n bytes) s m e = of n bytes (eqb (length bytes) frameBytes) refl s m e
       by illFormed s m e = absurd (let z : _≡_ {A = ℕ} 0 1 = cc in omega arith)
 
@@ -83,7 +84,7 @@ module _ (l : List ℕ) where
           let x : i ≡ n = cc in
           record { bytes = bytes; said = s ∙ ap (λ (k : ℕ). frame k bytes) (sym x); other = eqb-false (length bytes) frameBytes q }
 
-      by : (s : Said) → frameLineSays l ≡ s → NotEightBytes i ≡ told s → SaysFewer l i
+      by : (s : FrameMeaning) → frameLineSays l ≡ s → NotEightBytes i ≡ told s → SaysFewer l i
       by (frame n bytes) s e = of n bytes (eqb (length bytes) frameBytes) refl s e
       by illFormed s e = absurd (let z : _≡_ {A = ℕ} 0 1 = cc in omega arith)
 
@@ -94,6 +95,6 @@ module _ (l : List ℕ) where
       of n bytes true e = absurd (let z : _≡_ {A = ℕ} 0 1 = cc in omega arith)
       of n bytes false e = absurd (let z : _≡_ {A = ℕ} 0 1 = cc in omega arith)
 
-      by : (s : Said) → IllFormed ≡ told s → s ≡ illFormed
+      by : (s : FrameMeaning) → IllFormed ≡ told s → s ≡ illFormed
       by (frame n bytes) e = of n bytes (eqb (length bytes) frameBytes) e
       by illFormed e = refl

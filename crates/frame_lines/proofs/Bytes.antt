@@ -9,7 +9,8 @@ use borrow.Author.Tests.{le-leb, lt-leb, eq-eqb, ne-eqb}
 use Rattle.numerals.specs.declared.Number.the-variants.{Is}
 use Rattle.bits.specs.Word.{wordOf}
 use Rattle.frame_lines.specs.declared.FrameLine.the-variants.{Frame, NotEightBytes, IllFormed}
-use Rattle.frame_lines.specs.Meaning.{allDigits, areBytes, bytesIn, saidBy, told}
+use Rattle.frame_lines.specs.Meaning.{allDigits, areBytes, bytesIn, saidBy}
+use Rattle.frame_lines.specs.Told.{told}
 use Rattle.frame_lines.proofs.Digits.{length-bytes}
 
 module _ (i : ℕ) (l : List ℕ) where

@@ -12,13 +12,14 @@ use Rattle.numerals.specs.declared.Number.{Number}
 use Rattle.numerals.specs.declared.Number.the-variants.{Is, Not}
 use Rattle.numerals.specs.Numeral.{digitValue, numeralFrom, identifier}
 use Rattle.parts.specs.Parts.{fields, indexOf}
-use Rattle.parts.specs.Joined.{Free, join}
+use Rattle.parts.specs.Joined.{Lacks, join}
 use Rattle.parts.proofs.Joins.{join-split, split-free, index-after}
 use Rattle.parts.proofs.Seek.{indexOf-le, index-at}
 use Rattle.parts.proofs.Splits.{some, cut-more, cut-last}
 use Rattle.frame_lines.specs.declared.FrameLine.{FrameLine}
 use Rattle.frame_lines.specs.declared.FrameLine.the-variants.{IllFormed}
-use Rattle.frame_lines.specs.Meaning.{illFormed, allDigits, areBytes, saidBy, ofFrameFields, frameLineSays, told}
+use Rattle.frame_lines.specs.Meaning.{illFormed, allDigits, areBytes, saidBy, ofFrameFields, frameLineSays}
+use Rattle.frame_lines.specs.Told.{told}
 use Rattle.frame_lines.proofs.Digits.{digits-free}
 
 -- with a tab among them they are no bytes
@@ -58,11 +59,11 @@ digits-in (b ∷ t) v {n} e = go (ltb (digitValue b) 16) e (digits-in t (v * 16 
     go true e r = r e
     go false e r = absurd (let z : _≡_ {A = ℕ} 0 1 = cc in omega arith)
 
-identifier-free : (l : List ℕ) {n : ℕ} → identifier l ≡ Is n → Free 9 l
+identifier-free : (l : List ℕ) {n : ℕ} → identifier l ≡ Is n → Lacks 9 l
 unfolding identifier
 identifier-free l {n} e = go (eqb (length l) 8) e
   where
-    go : (q : Bool) → cond q (numeralFrom 16 0 l) Not ≡ Is n → Free 9 l
+    go : (q : Bool) → cond q (numeralFrom 16 0 l) Not ≡ Is n → Lacks 9 l
     go true e = digits-free l (digits-in l 0 e)
     go false e = absurd (let z : _≡_ {A = ℕ} 0 1 = cc in omega arith)
 

@@ -8,7 +8,7 @@ use lib.Dec.{ltb}
 use lib.ListN.{length, getD}
 use borrow.Author.Tests.{ltb-true}
 use Rattle.numerals.specs.Numeral.{digitValue}
-use Rattle.parts.specs.Joined.{Free, none, more}
+use Rattle.parts.specs.Joined.{Lacks, none, more}
 use Rattle.frame_lines.specs.Meaning.{allDigits, bytesIn}
 
 module _ (b : ℕ) (t : List ℕ) (e : allDigits (b ∷ t) ≡ true) where
@@ -38,7 +38,7 @@ no-tab : (b : ℕ) → digitValue b < 16 → b ≡ 9 → ⊥
 unfolding digitValue
 no-tab b h e = let v : 16 < 16 = rw e at h in omega arith
 
-pub digits-free : (l : List ℕ) → allDigits l ≡ true → Free 9 l
+pub digits-free : (l : List ℕ) → allDigits l ≡ true → Lacks 9 l
 digits-free [] e = none
 digits-free (b ∷ t) e = more {b = b} {t = t} (no-tab b (first-digit b t e)) (digits-free t (other-digits b t e))
 

@@ -13,7 +13,8 @@ use contract.Monad.{Fun}
 use denote.Ref.{RefT, now}
 use denote.Triple.Clauses.{AtExit}
 use Rattle.only.specs.Only.{Only, only-this}
-use Rattle.frame_lines.specs.Meaning.{told, frameLineSays}
+use Rattle.frame_lines.specs.Meaning.{frameLineSays}
+use Rattle.frame_lines.specs.Told.{told}
 use Rattle.frame_lines.proofs.FrameLine as T
 use Rattle.frame_lines.proofs.read_frame_line as read-frame-line
 

@@ -9,14 +9,13 @@ use Rattle.numerals.specs.declared.Number.the-variants.{Is, Not}
 use Rattle.numerals.specs.Numeral.{digitValue, identifier}
 use Rattle.parts.specs.Parts.{fields}
 use Rattle.bits.specs.Frame.{frameBytes}
-use Rattle.bits.specs.Word.{wordOf}
 use Rattle.frame_lines.specs.declared.FrameLine.{FrameLine}
 use Rattle.frame_lines.specs.declared.FrameLine.the-variants.{Frame, NotEightBytes, IllFormed}
 
 -- what a frame line says: an identifier and bytes, byte 0 first
-pub data Said : Type 0 where
-  frame : ℕ → List ℕ → Said
-  illFormed : Said
+pub data FrameMeaning : Type 0 where
+  frame : ℕ → List ℕ → FrameMeaning
+  illFormed : FrameMeaning
 
 -- two digits for each byte of a frame: 16
 abbrev pub frameDigits : ℕ
@@ -38,28 +37,23 @@ bytesIn (a ∷ []) = []
 bytesIn (a ∷ b ∷ t) = (16 * digitValue a + digitValue b) ∷ bytesIn t
 
 -- by the identifier, with the digits after it
-abbrev pub saidBy : Number → List ℕ → Said
+abbrev pub saidBy : Number → List ℕ → FrameMeaning
 saidBy (Is i) l = cond (areBytes l) (frame i (bytesIn l)) illFormed
 saidBy Not l = illFormed
 
 -- two fields: the identifier and the bytes
-unfoldable pub ofFrameFields : List (List ℕ) → Said
+unfoldable pub ofFrameFields : List (List ℕ) → FrameMeaning
 ofFrameFields [] = illFormed
 ofFrameFields (i ∷ []) = illFormed
 ofFrameFields (i ∷ l ∷ []) = saidBy (identifier i) l
 ofFrameFields (i ∷ l ∷ x ∷ fs) = illFormed
 
 -- what the bytes of a line, without its newline, say
-unfoldable pub frameLineSays : List ℕ → Said
+unfoldable pub frameLineSays : List ℕ → FrameMeaning
 frameLineSays l = ofFrameFields (fields l)
 
--- the answer that tells it: eight bytes as one number, byte 0 lowest
-abbrev pub told : Said → FrameLine
-told (frame i bytes) = cond (eqb (length bytes) frameBytes) (Frame i (wordOf bytes)) (NotEightBytes i)
-told illFormed = IllFormed
-
 -- document 01's number of each answer; 0 is no refusal
-abbrev pub refusal : FrameLine → ℕ
-refusal (Frame identifier word) = 0
-refusal (NotEightBytes identifier) = 21
-refusal IllFormed = 20
+abbrev pub frameLineNumber : FrameLine → ℕ
+frameLineNumber (Frame identifier word) = 0
+frameLineNumber (NotEightBytes identifier) = 21
+frameLineNumber IllFormed = 20

@@ -8,7 +8,8 @@ use parts::TAB;
 use parts::part_after;
 use parts::part_before;
 ghost use mathlib.Core.Path.{_≡_};
-ghost use Rattle.frame_lines.specs.Meaning.{told, saidBy, frameLineSays};
+ghost use Rattle.frame_lines.specs.Meaning.{saidBy, frameLineSays};
+ghost use Rattle.frame_lines.specs.Told.{told};
 
 const FRAME_DIGITS: usize = 16;
 

@@ -2,6 +2,7 @@
 ghost use mathlib.Core.Path.{_≡_};
 ghost use Prim.Native.Nat.{_+_, _-_, _≤_};
 ghost use lib.ListN.{length, take, drop};
+ghost use Rattle.frame_list.specs.Whole.{WholeUsed};
 use libc::STDIN_FILENO;
 use libc::STDOUT_FILENO;
 use listing::Listed;
@@ -38,7 +39,7 @@ fn read_more(input: &mut [u8], held: usize) -> usize
 
 // Lists every whole line of a text, and answers how many bytes they are.
 fn list_whole(book: &[u32; BOOK_WORDS], text: &[u8], out: &mut [u8]) -> usize
-    ensures { λ r. ⌜ r ≤ length (now (text .entry)) ⌝ }
+    ensures { λ r. ⌜ WholeUsed (now (book .entry)) (now (text .entry)) (now (out .entry)) r ⌝ }
 {
     let mut used: usize = 0;
     while used < text.len() {
@@ -99,7 +100,12 @@ fn list_buffer(
 }
 
 // Reads once, and lists what came. A last line without a newline is ill formed.
-pub fn step(book: &[u32; BOOK_WORDS], input: &mut [u8], out: &mut [u8], held: Held) -> Held {
+pub fn read_and_list(
+    book: &[u32; BOOK_WORDS],
+    input: &mut [u8],
+    out: &mut [u8],
+    held: Held,
+) -> Held {
     let before = held.size;
     let passing = held.passing;
     if before > input.len() {

@@ -6,7 +6,7 @@ mod input;
 use answers::Answer;
 use book::read;
 use input::Held;
-use input::step;
+use input::read_and_list;
 use record::BOOK_WORDS;
 use streams::write_first;
 
@@ -38,7 +38,7 @@ fn list_input(book: &[u32; BOOK_WORDS], input: &mut [u8], out: &mut [u8]) {
     };
     let mut turns = u64::MAX;
     while turns > 0 {
-        held = step(book, &mut *input, &mut *out, held);
+        held = read_and_list(book, &mut *input, &mut *out, held);
         if !held.more {
             return;
         }

@@ -16,11 +16,11 @@ use Rattle.framing.specs.declared.Reading.{Reading}
 use Rattle.framing.specs.declared.Reading.the-variants as Read
 use Rattle.framing.specs.declared.Packing.{Packing}
 use Rattle.framing.specs.declared.Packing.the-variants as Pack
-use Rattle.framing.specs.Messages.{messageOf}
+use Rattle.framing.specs.Messages.{messageWith}
 use Rattle.framing.specs.Reading.{Slices, readByMessage, readByMessages, reading}
-use Rattle.framing.specs.Packing.{judged, packByMessage, packing}
-use Rattle.framing.proofs.Sound.{sound-message}
-use Rattle.framing.proofs.Sent.{put-or}
+use Rattle.framing.specs.Packing.{judgedValues, packByMessage, packing}
+use Rattle.framing.proofs.WellPlaced.{sound-message}
+use Rattle.framing.proofs.FrameSent.{put-or}
 use Rattle.record.specs.Columns.{numbersOf, startsOf}
 use Rattle.messages.specs.Signals.{AllFit, messageFrom, Readable}
 use Rattle.messages.specs.Put.{Packable, packInto}
@@ -36,43 +36,43 @@ module _ (ms : List Message) (identifier : ℕ) (frame : List ℕ) (lent : Slice
   read-short n = rw (ne-eqb (length frame) frameBytes n) refl
 
   pub read-eight : length frame ≡ frameBytes → ((k : ℕ) → getD frame k 0 < 256) → (word : ℕ) → word ≡ wordOf frame → (out : Reading × Slices)
-      → out ≡ readByMessage (messageOf identifier ms) (bytesOf word) lent → out ≡ readByMessages ms identifier frame lent
+      → out ≡ readByMessage (messageWith identifier ms) (bytesOf word) lent → out ≡ readByMessages ms identifier frame lent
   unfolding readByMessages
   read-eight e small word w out h =
       rw (eq-eqb (length frame) frameBytes e)
-      (h ∙ ap (λ (f : List ℕ). readByMessage (messageOf identifier ms) f lent) (ap bytesOf w ∙ word-bytes frame (record { many = e; small = small })))
+      (h ∙ ap (λ (f : List ℕ). readByMessage (messageWith identifier ms) f lent) (ap bytesOf w ∙ word-bytes frame (record { many = e; small = small })))
 
 -- what was found of the message
 module _ (ms : List Message) (identifier : ℕ) (frame : List ℕ) (lent : Slices) where
-  pub read-unknown : messageOf identifier ms ≡ none → _≡_ {A = Reading × Slices} (Read.UnknownIdentifier, lent) (readByMessage (messageOf identifier ms) frame lent)
+  pub read-unknown : messageWith identifier ms ≡ none → _≡_ {A = Reading × Slices} (Read.UnknownIdentifier, lent) (readByMessage (messageWith identifier ms) frame lent)
   unfolding readByMessage
   read-unknown f = rw f refl
 
-  pub read-known : (m : Message) → messageOf identifier ms ≡ some m → (out : Reading × Slices) → out ≡ readByMessage (some m) frame lent → out ≡ readByMessage (messageOf identifier ms) frame lent
+  pub read-known : (m : Message) → messageWith identifier ms ≡ some m → (out : Reading × Slices) → out ≡ readByMessage (some m) frame lent → out ≡ readByMessage (messageWith identifier ms) frame lent
   read-known m f out h = rw f h
 
 -- ---- packing
 
 module _ (ms : List Message) (identifier : ℕ) (vs lent : List ℕ) where
-  pub pack-unknown : messageOf identifier ms ≡ none → _≡_ {A = Packing × List ℕ} (Pack.UnknownIdentifier, lent) (packByMessage (messageOf identifier ms) vs lent)
+  pub pack-unknown : messageWith identifier ms ≡ none → _≡_ {A = Packing × List ℕ} (Pack.UnknownIdentifier, lent) (packByMessage (messageWith identifier ms) vs lent)
   unfolding packByMessage
   pack-unknown f = rw f refl
 
-  module _ (m : Message) (f : messageOf identifier ms ≡ some m) where
-    pub pack-count : (length vs ≡ length (m .placements) → ⊥) → _≡_ {A = Packing × List ℕ} (Pack.WrongCountOfValues, lent) (packByMessage (messageOf identifier ms) vs lent)
+  module _ (m : Message) (f : messageWith identifier ms ≡ some m) where
+    pub pack-count : (length vs ≡ length (m .placements) → ⊥) → _≡_ {A = Packing × List ℕ} (Pack.WrongCountOfValues, lent) (packByMessage (messageWith identifier ms) vs lent)
     unfolding packByMessage
     pack-count n = rw (f, ne-eqb (length vs) (length (m .placements)) n) refl
 
-    pub pack-short : length vs ≡ length (m .placements) → (length lent ≡ frameBytes → ⊥) → _≡_ {A = Packing × List ℕ} (Pack.NotEightBytes, lent) (packByMessage (messageOf identifier ms) vs lent)
+    pub pack-short : length vs ≡ length (m .placements) → (length lent ≡ frameBytes → ⊥) → _≡_ {A = Packing × List ℕ} (Pack.NotEightBytes, lent) (packByMessage (messageWith identifier ms) vs lent)
     unfolding packByMessage
     pack-short e n = rw (f, eq-eqb (length vs) (length (m .placements)) e, ne-eqb (length lent) frameBytes n) refl
 
     -- the message of a taken book: what is put is what is sent
-    pub pack-known : good ms ≡ true → length vs ≡ length (m .placements) → length lent ≡ frameBytes → (out : Packing × List ℕ) → out ≡ packInto m vs lent → out ≡ packByMessage (messageOf identifier ms) vs lent
+    pub pack-known : good ms ≡ true → length vs ≡ length (m .placements) → length lent ≡ frameBytes → (out : Packing × List ℕ) → out ≡ packInto m vs lent → out ≡ packByMessage (messageWith identifier ms) vs lent
     unfolding packByMessage
     pack-known g e n out h =
         rw (f, eq-eqb (length vs) (length (m .placements)) e, eq-eqb (length lent) frameBytes n)
-        (h ∙ ap (λ (x : List ℕ). (judged (m .placements) vs, x)) (put-or m vs lent (sound-message identifier ms m g f) e))
+        (h ∙ ap (λ (x : List ℕ). (judgedValues (m .placements) vs, x)) (put-or m vs lent (sound-message identifier ms m g f) e))
 
 -- ---- the test of the book
 
@@ -89,14 +89,14 @@ module _ (words : List ℕ) (identifier : ℕ) where
   unfolding packing
   pack-no-book vs lent e = rw e refl
 
-  pub pack-book : (vs lent : List ℕ) (out : Packing × List ℕ) → messagesTaken words ≡ true → out ≡ packByMessage (messageOf identifier (messagesOf words)) vs lent → out ≡ packing words identifier vs lent
+  pub pack-book : (vs lent : List ℕ) (out : Packing × List ℕ) → messagesTaken words ≡ true → out ≡ packByMessage (messageWith identifier (messagesOf words)) vs lent → out ≡ packing words identifier vs lent
   unfolding packing
   pack-book vs lent out e h = rw e h
 
 -- ---- the parts of the columns
 
 module _ (w : List ℕ) (identifier from to : ℕ) (s : Spans w identifier from to) (ns ss : List ℕ) (n : ns ≡ numbersOf w) (t : ss ≡ startsOf w) where
-  pub found : messageOf identifier (messagesOf w) ≡ some (messageFrom identifier (part from to ns) (part from to ss))
+  pub found : messageWith identifier (messagesOf w) ≡ some (messageFrom identifier (part from to ns) (part from to ss))
   found = rw (n, t) (s .found)
 
   pub many : length (sideBySide (part from to ns) (part from to ss)) ≡ to - from

@@ -12,12 +12,12 @@ use borrow.Author.Tests.{eqb-true, eq-eqb, ne-eqb}
 use Rattle.books.specs.Book.{Placement, Message, identifiers, numbers, allPlacements}
 use Rattle.books.specs.Lines.{messageLimit, signalLimit}
 use Rattle.books.specs.Good.{good}
-use Rattle.books.specs.Words.{starts, sideBySide, messagesOf, messagesTaken, Stands}
+use Rattle.books.specs.Words.{placementStarts, sideBySide, messagesOf, messagesTaken, Stands}
 use Rattle.books.proofs.Sides.{side-back}
 use Rattle.books.proofs.Columns.{taken-stands, within, take-column, ids-stand, ends-stand, numbers-stand, starts-stand}
 use Rattle.books.proofs.Parts.{beginOf, endOf, placementsAt, order, inside, part-long, part-stands, begin-stands, end-stands}
-use Rattle.framing.specs.Messages.{messageOf}
-use Rattle.framing.proofs.Sound.{Sound, sound-message}
+use Rattle.framing.specs.Messages.{messageWith}
+use Rattle.framing.proofs.WellPlaced.{WellPlaced, sound-message}
 use Rattle.record.specs.Columns.{messageCountOf, idsOf, endsOf, numbersOf, startsOf}
 use Rattle.messages.specs.Signals.{AllFit}
 use Rattle.frames.specs.Lookup.{firstAt, before, part, Spans}
@@ -54,30 +54,30 @@ first-within n (x ∷ l) = go (eqb n x) (first-within n l)
 
 -- the message with an identifier is the first that has it
 message-there : (identifier : ℕ) (ms : List Message) → firstAt identifier (identifiers ms) < length ms
-    → messageOf identifier ms ≡ some (record { identifier = identifier; placements = placementsAt ms (firstAt identifier (identifiers ms)) })
-unfolding messageOf firstAt
+    → messageWith identifier ms ≡ some (record { identifier = identifier; placements = placementsAt ms (firstAt identifier (identifiers ms)) })
+unfolding messageWith firstAt
 message-there identifier [] h = absurd (not-suc-le-zero h)
 message-there identifier (m ∷ ms) h = go (eqb identifier (m .identifier)) refl h (message-there identifier ms)
   where
     go : (b : Bool) → eqb identifier (m .identifier) ≡ b → cond b 0 (suc (firstAt identifier (identifiers ms))) < length (m ∷ ms)
-        → (firstAt identifier (identifiers ms) < length ms → messageOf identifier ms ≡ some (record { identifier = identifier; placements = placementsAt ms (firstAt identifier (identifiers ms)) }))
-        → cond b (some m) (messageOf identifier ms) ≡ some (record { identifier = identifier; placements = placementsAt (m ∷ ms) (cond b 0 (suc (firstAt identifier (identifiers ms)))) })
+        → (firstAt identifier (identifiers ms) < length ms → messageWith identifier ms ≡ some (record { identifier = identifier; placements = placementsAt ms (firstAt identifier (identifiers ms)) }))
+        → cond b (some m) (messageWith identifier ms) ≡ some (record { identifier = identifier; placements = placementsAt (m ∷ ms) (cond b 0 (suc (firstAt identifier (identifiers ms)))) })
     go true e h rest = ap (λ (i : ℕ). some (record { identifier = i; placements = m .placements })) (sym (eqb-true identifier (m .identifier) e))
     go false e h rest = rest (le-of-suc-le-suc h)
 
-message-nowhere : (identifier : ℕ) (ms : List Message) → length ms ≤ firstAt identifier (identifiers ms) → messageOf identifier ms ≡ none
-unfolding messageOf firstAt
+message-nowhere : (identifier : ℕ) (ms : List Message) → length ms ≤ firstAt identifier (identifiers ms) → messageWith identifier ms ≡ none
+unfolding messageWith firstAt
 message-nowhere identifier [] h = refl
 message-nowhere identifier (m ∷ ms) h = go (eqb identifier (m .identifier)) h (message-nowhere identifier ms)
   where
-    go : (b : Bool) → length (m ∷ ms) ≤ cond b 0 (suc (firstAt identifier (identifiers ms))) → (length ms ≤ firstAt identifier (identifiers ms) → messageOf identifier ms ≡ none)
-        → cond b (some m) (messageOf identifier ms) ≡ none
+    go : (b : Bool) → length (m ∷ ms) ≤ cond b 0 (suc (firstAt identifier (identifiers ms))) → (length ms ≤ firstAt identifier (identifiers ms) → messageWith identifier ms ≡ none)
+        → cond b (some m) (messageWith identifier ms) ≡ none
     go true h rest = absurd (not-suc-le-zero h)
     go false h rest = rest (le-of-suc-le-suc h)
 
-fit-all : {ps : List Placement} → Sound ps → AllFit ps
-fit-all Sound.none = AllFit.none
-fit-all (Sound.more s b r) = AllFit.more (s .fits) (fit-all r)
+fit-all : {ps : List Placement} → WellPlaced ps → AllFit ps
+fit-all WellPlaced.none = AllFit.none
+fit-all (WellPlaced.more s b r) = AllFit.more (s .fits) (fit-all r)
 
 -- ---- in words that pass the test
 
@@ -119,7 +119,7 @@ module _ (w : List ℕ) (t : messagesTaken w ≡ true) where
   at-few identifier at e n = let h = there-is identifier at e n in omega (arith, few)
 
   -- no message has the identifier
-  pub nothing : (identifier at : ℕ) → at ≡ firstAt identifier (identifiers Ms) → at ≡ messageCountOf w → messageOf identifier Ms ≡ none
+  pub nothing : (identifier at : ℕ) → at ≡ firstAt identifier (identifiers Ms) → at ≡ messageCountOf w → messageWith identifier Ms ≡ none
   nothing identifier at e f = message-nowhere identifier Ms (omega (arith, count-is))
 
   module _ (identifier at : ℕ) (first : at ≡ firstAt identifier (identifiers Ms)) (there : at < length Ms) where
@@ -135,10 +135,10 @@ module _ (w : List ℕ) (t : messagesTaken w ≡ true) where
     numbers-are : part From To (numbersOf w) ≡ numbers Ps
     numbers-are = ap (λ (l : List ℕ). part From To l) (numbers-stand w Ms few roomy stand) ∙ part-stands Ms at there (λ (p : Placement). p .number)
 
-    starts-are : part From To (startsOf w) ≡ starts Ps
+    starts-are : part From To (startsOf w) ≡ placementStarts Ps
     starts-are = ap (λ (l : List ℕ). part From To l) (starts-stand w Ms few roomy stand) ∙ part-stands Ms at there (λ (p : Placement). p .start)
 
-    here : messageOf identifier Ms ≡ some (record { identifier = identifier; placements = Ps })
+    here : messageWith identifier Ms ≡ some (record { identifier = identifier; placements = Ps })
     here =
         message-there identifier Ms (omega arith)
         ∙ ap (λ (i : ℕ). some (record { identifier = identifier; placements = placementsAt Ms i })) (sym first)

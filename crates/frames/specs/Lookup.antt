@@ -7,7 +7,7 @@ use Prim.Native.Nat.{ℕ, suc, _-_, _≤_}
 use lib.Dec.{eqb}
 use lib.ListN.{length, getD, take, drop}
 use Rattle.books.specs.Words.{sideBySide, messagesOf}
-use Rattle.framing.specs.Messages.{messageOf}
+use Rattle.framing.specs.Messages.{messageWith}
 use Rattle.record.specs.Columns.{messageCountOf, idsOf, endsOf, numbersOf, startsOf}
 use Rattle.record.specs.Limits.{signalLimit}
 use Rattle.messages.specs.Signals.{AllFit, messageFrom}
@@ -33,11 +33,11 @@ pub record Spans (words : List ℕ) (identifier from to : ℕ) : Type 0 where
   pub ends : to ≡ getD (endsOf words) (before words identifier) 0
   pub order : from ≤ to
   pub inside : to ≤ signalLimit
-  pub found : messageOf identifier (messagesOf words) ≡ some (messageFrom identifier (part from to (numbersOf words)) (part from to (startsOf words)))
+  pub found : messageWith identifier (messagesOf words) ≡ some (messageFrom identifier (part from to (numbersOf words)) (part from to (startsOf words)))
   pub many : length (sideBySide (part from to (numbersOf words)) (part from to (startsOf words))) ≡ to - from
   pub same : length (part from to (startsOf words)) ≡ length (part from to (numbersOf words))
   pub fit : AllFit (sideBySide (part from to (numbersOf words)) (part from to (startsOf words)))
 
 abbrev pub Finds : List ℕ → ℕ → Found → Type 0
 Finds words identifier (Signals from to) = Spans words identifier from to
-Finds words identifier Nothing = messageOf identifier (messagesOf words) ≡ none
+Finds words identifier Nothing = messageWith identifier (messagesOf words) ≡ none

@@ -11,12 +11,8 @@ pub use lookup::find_message;
 use record::BOOK_WORDS;
 use tested::pack_tested;
 use tested::read_tested;
-ghost use mathlib.Core.Path.{_≡_};
-ghost use mathlib.Core.List.{List};
-ghost use Prim.Native.Nat.{ℕ};
-ghost use Rattle.framing.specs.declared.Reading.{Reading};
-ghost use Rattle.framing.specs.declared.Packing.{Packing};
-ghost use Rattle.framing.specs.Reading.{Slices, reading};
+ghost use Rattle.framing.specs.Lending.{ReadsInto, PacksInto};
+ghost use Rattle.framing.specs.Reading.{reading};
 ghost use Rattle.framing.specs.Packing.{packing};
 
 // Reads a frame: the raw count, class code and thousandths of each placement, in the order of the S lines, from the front of the three
@@ -30,9 +26,7 @@ pub fn read(
     classes: &mut [u8],
     thousandths: &mut [i64],
 ) -> Reading
-    ensures { λ r. ⌜ _≡_ {A = Reading × Slices} (r, record { raws = now (raws .exit); classes = now (classes .exit); thousandths = now (thousandths .exit) })
-        (reading (now (book .entry)) identifier (now (frame .entry))
-        (record { raws = now (raws .entry); classes = now (classes .entry); thousandths = now (thousandths .entry) })) ⌝ }
+    ensures { λ r. ⌜ ReadsInto (reading (now (book .entry)) identifier (now (frame .entry))) r raws classes thousandths ⌝ }
 {
     if !tables::messages_taken(book) {
         return Reading::NotABook;
@@ -45,7 +39,7 @@ pub fn read(
 // identifier that the book lacks, another count of values than of placements, a frame that is not 8 bytes, and at the first bad position
 // a count too wide for its signal, or reserved or outside.
 pub fn pack(book: &[u32; BOOK_WORDS], identifier: u32, values: &[u32], frame: &mut [u8]) -> Packing
-    ensures { λ r. ⌜ _≡_ {A = Packing × List ℕ} (r, now (frame .exit)) (packing (now (book .entry)) identifier (now (values .entry)) (now (frame .entry))) ⌝ }
+    ensures { λ r. ⌜ PacksInto (packing (now (book .entry)) identifier (now (values .entry))) r frame ⌝ }
 {
     if !tables::messages_taken(book) {
         return Packing::NotABook;

@@ -8,14 +8,11 @@ use messages::read_message;
 use record::BOOK_WORDS;
 ghost use mathlib.Core.Path.{_≡_};
 ghost use mathlib.Core.Bool.{true};
-ghost use mathlib.Core.List.{List};
-ghost use Prim.Native.Nat.{ℕ};
 ghost use Rattle.bits.specs.Word.{bytesOf};
 ghost use Rattle.books.specs.Words.{messagesOf, messagesTaken};
-ghost use Rattle.framing.specs.declared.Reading.{Reading};
-ghost use Rattle.framing.specs.declared.Packing.{Packing};
-ghost use Rattle.framing.specs.Messages.{messageOf};
-ghost use Rattle.framing.specs.Reading.{Slices, readByMessage, readByMessages};
+ghost use Rattle.framing.specs.Lending.{ReadsInto, PacksInto};
+ghost use Rattle.framing.specs.Messages.{messageWith};
+ghost use Rattle.framing.specs.Reading.{readByMessage, readByMessages};
 ghost use Rattle.framing.specs.Packing.{packByMessage};
 
 const FRAME_BYTES: usize = 8;
@@ -30,9 +27,7 @@ fn read_word(
     thousandths: &mut [i64],
 ) -> Reading
     requires { ⌜ messagesTaken (now book) ≡ true ⌝ }
-    ensures { λ r. ⌜ _≡_ {A = Reading × Slices} (r, record { raws = now (raws .exit); classes = now (classes .exit); thousandths = now (thousandths .exit) })
-        (readByMessage (messageOf identifier (messagesOf (now (book .entry)))) (bytesOf word)
-        (record { raws = now (raws .entry); classes = now (classes .entry); thousandths = now (thousandths .entry) })) ⌝ }
+    ensures { λ r. ⌜ ReadsInto (readByMessage (messageWith identifier (messagesOf (now (book .entry)))) (bytesOf word)) r raws classes thousandths ⌝ }
 {
     match find_message(book, identifier) {
         Found::Nothing => Reading::UnknownIdentifier,
@@ -62,9 +57,7 @@ pub fn read_tested(
     thousandths: &mut [i64],
 ) -> Reading
     requires { ⌜ messagesTaken (now book) ≡ true ⌝ }
-    ensures { λ r. ⌜ _≡_ {A = Reading × Slices} (r, record { raws = now (raws .exit); classes = now (classes .exit); thousandths = now (thousandths .exit) })
-        (readByMessages (messagesOf (now (book .entry))) identifier (now (frame .entry))
-        (record { raws = now (raws .entry); classes = now (classes .entry); thousandths = now (thousandths .entry) })) ⌝ }
+    ensures { λ r. ⌜ ReadsInto (readByMessages (messagesOf (now (book .entry))) identifier (now (frame .entry))) r raws classes thousandths ⌝ }
 {
     if frame.len() != FRAME_BYTES {
         return Reading::NotEightBytes;
@@ -87,8 +80,7 @@ pub fn pack_tested(
     frame: &mut [u8],
 ) -> Packing
     requires { ⌜ messagesTaken (now book) ≡ true ⌝ }
-    ensures { λ r. ⌜ _≡_ {A = Packing × List ℕ} (r, now (frame .exit))
-        (packByMessage (messageOf identifier (messagesOf (now (book .entry)))) (now (values .entry)) (now (frame .entry))) ⌝ }
+    ensures { λ r. ⌜ PacksInto (packByMessage (messageWith identifier (messagesOf (now (book .entry)))) (now (values .entry))) r frame ⌝ }
 {
     match find_message(book, identifier) {
         Found::Nothing => Packing::UnknownIdentifier,

@@ -14,9 +14,9 @@ use Rattle.framing.specs.declared.Reading.the-variants.{Read, NotABook, 
 use Rattle.framing.specs.declared.Packing.{Packing}
 use Rattle.framing.specs.declared.Packing.the-variants as Pack
 use Rattle.bits.specs.Frame.{frameBytes}
-use Rattle.framing.specs.Messages.{messageOf}
+use Rattle.framing.specs.Messages.{messageWith}
 use Rattle.framing.specs.Reading.{Slices, checksumHolds, room, readings, readByMessage, readByMessages, reading, readingNumber}
-use Rattle.framing.specs.Packing.{judged, packedFrame, packByMessage, packing, packingNumber}
+use Rattle.framing.specs.Packing.{judgedValues, packedFrame, packByMessage, packing, packingNumber}
 
 -- a test before a refusal: where the answer is no refusal, the test held
 passes : {A X : Type 0} (number : A → ℕ) (n : ℕ) (held : Bool) (other : A × X) (refused : A) (lent : X) → number refused ≡ suc n
@@ -29,7 +29,7 @@ passes number n false other refused lent h e = absurd (omega arith)
 pub record WasRead (words : List ℕ) (identifier : ℕ) (frame : List ℕ) (lent : Slices) (m : Message) : Type 0 where
   pub taken : messagesTaken words ≡ true
   pub eight : length frame ≡ frameBytes
-  pub found : messageOf identifier (messagesOf words) ≡ some m
+  pub found : messageWith identifier (messagesOf words) ≡ some m
   pub checked : checksumHolds m frame ≡ true
   pub roomy : length (m .placements) ≤ room lent
 
@@ -56,17 +56,17 @@ unfolding reading readByMessages
 read-was words identifier frame lent e =
     let a = passes readingNumber 11 (messagesTaken words) _ NotABook lent refl e in
     let b = passes readingNumber 20 (eqb (length frame) frameBytes) _ NotEightBytes lent refl (a .1) in
-    let c = by-message (messageOf identifier (messagesOf words)) frame lent (b .1) in
+    let c = by-message (messageWith identifier (messagesOf words)) frame lent (b .1) in
     (c .0, record { taken = a .0; eight = eqb-true (length frame) frameBytes (b .0); found = c .1; checked = c .2; roomy = c .3 })
 
 -- ---- packing
 
 pub record WasPacked (words : List ℕ) (identifier : ℕ) (vs lent : List ℕ) (m : Message) : Type 0 where
   pub taken : messagesTaken words ≡ true
-  pub found : messageOf identifier (messagesOf words) ≡ some m
+  pub found : messageWith identifier (messagesOf words) ≡ some m
   pub many : length vs ≡ length (m .placements)
   pub eight : length lent ≡ frameBytes
-  pub good : judged (m .placements) vs ≡ Pack.Packed
+  pub good : judgedValues (m .placements) vs ≡ Pack.Packed
 
 pub was-packed : (words : List ℕ) (identifier : ℕ) (vs lent : List ℕ) (m : Message) → WasPacked words identifier vs lent m
     → packing words identifier vs lent ≡ (Pack.Packed, packedFrame m vs)
@@ -85,18 +85,18 @@ no-refusal Pack.TooWide e = absurd (omega arith)
 no-refusal Pack.ReservedOrOutside e = absurd (omega arith)
 
 by-values : (o : Option Message) (vs lent : List ℕ) → packingNumber (packByMessage o vs lent .0) ≡ 0
-    → (m : Message) × (o ≡ some m) × (length vs ≡ length (m .placements)) × (length lent ≡ frameBytes) × (judged (m .placements) vs ≡ Pack.Packed)
+    → (m : Message) × (o ≡ some m) × (length vs ≡ length (m .placements)) × (length lent ≡ frameBytes) × (judgedValues (m .placements) vs ≡ Pack.Packed)
 unfolding packByMessage
 by-values none vs lent e = absurd (omega arith)
 by-values (some m) vs lent e =
     let c = passes packingNumber 24 (eqb (length vs) (length (m .placements))) _ Pack.WrongCountOfValues lent refl e in
     let f = passes packingNumber 20 (eqb (length lent) frameBytes) _ Pack.NotEightBytes lent refl (c .1) in
-    (m, refl, eqb-true (length vs) (length (m .placements)) (c .0), eqb-true (length lent) frameBytes (f .0), no-refusal (judged (m .placements) vs) (f .1))
+    (m, refl, eqb-true (length vs) (length (m .placements)) (c .0), eqb-true (length lent) frameBytes (f .0), no-refusal (judgedValues (m .placements) vs) (f .1))
 
 pub packed-was : (words : List ℕ) (identifier : ℕ) (vs lent : List ℕ) → packingNumber (packing words identifier vs lent .0) ≡ 0
     → (m : Message) × WasPacked words identifier vs lent m
 unfolding packing
 packed-was words identifier vs lent e =
     let a = passes packingNumber 11 (messagesTaken words) _ Pack.NotABook lent refl e in
-    let c = by-values (messageOf identifier (messagesOf words)) vs lent (a .1) in
+    let c = by-values (messageWith identifier (messagesOf words)) vs lent (a .1) in
     (c .0, record { taken = a .0; found = c .1; many = c .2; eight = c .3; good = c .4 })

@@ -17,9 +17,9 @@ use Rattle.books.proofs.Columns.{taken-stands}
 use Rattle.bits.specs.Frame.{frameBytes}
 use Rattle.framing.specs.declared.Reading.{Reading}
 use Rattle.framing.specs.declared.Reading.the-variants.{Read, NotABook, NotEightBytes, WrongChecksum, TooLittleRoom}
-use Rattle.framing.specs.Messages.{messageOf}
+use Rattle.framing.specs.Messages.{messageWith}
 use Rattle.framing.specs.Reading.{Slices, checksumHolds, room, readings, readByMessage, readByMessages, reading, readingNumber}
-use Rattle.framing.proofs.Sound.{Sits, BesideAll, Sound, sound-message}
+use Rattle.framing.proofs.WellPlaced.{Sits, BesideAll, WellPlaced, sound-message}
 
 -- how many placements start below n
 below : ℕ → List Placement → ℕ
@@ -35,20 +35,20 @@ none-below (p ∷ ps) = go (ltb (p .start) 0) refl (none-below ps)
     go true e h = let z = ltb-true (p .start) 0 e in absurd (omega arith)
     go false e h = h
 
-all-below : {ps : List Placement} → Sound ps → below frameBits ps ≡ length ps
+all-below : {ps : List Placement} → WellPlaced ps → below frameBits ps ≡ length ps
 unfolding below
-all-below Sound.none = refl
-all-below (Sound.more {p} {ps} s b r) = go (ltb (p .start) frameBits) refl (all-below r)
+all-below WellPlaced.none = refl
+all-below (WellPlaced.more {p} {ps} s b r) = go (ltb (p .start) frameBits) refl (all-below r)
   where
     go : (t : Bool) → ltb (p .start) frameBits ≡ t → below frameBits ps ≡ length ps → cond t (suc (below frameBits ps)) (below frameBits ps) ≡ suc (length ps)
     go true e h = ap suc h
     go false e h = let z = ltb-false (p .start) frameBits e in absurd (omega (arith, s .fits .some, s .fits .inside))
 
 -- no other starts where q does
-none-there : {q : Placement} {ps : List Placement} → Sits q → BesideAll q ps → Sound ps → below (suc (q .start)) ps ≡ below (q .start) ps
+none-there : {q : Placement} {ps : List Placement} → Sits q → BesideAll q ps → WellPlaced ps → below (suc (q .start)) ps ≡ below (q .start) ps
 unfolding below
-none-there sq BesideAll.none Sound.none = refl
-none-there {q} sq (BesideAll.more {p} {ps} b bs) (Sound.more sp _ r) =
+none-there sq BesideAll.none WellPlaced.none = refl
+none-there {q} sq (BesideAll.more {p} {ps} b bs) (WellPlaced.more sp _ r) =
     go (ltb (p .start) (suc (q .start))) (ltb (p .start) (q .start)) refl refl (none-there sq bs r)
   where
     go : (x y : Bool) → ltb (p .start) (suc (q .start)) ≡ x → ltb (p .start) (q .start) ≡ y → below (suc (q .start)) ps ≡ below (q .start) ps
@@ -65,10 +65,10 @@ none-there {q} sq (BesideAll.more {p} {ps} b bs) (Sound.more sp _ r) =
     go false false d e h = h
 
 -- so at most one starts at n
-one-more : (n : ℕ) {ps : List Placement} → Sound ps → below (suc n) ps ≤ suc (below n ps)
+one-more : (n : ℕ) {ps : List Placement} → WellPlaced ps → below (suc n) ps ≤ suc (below n ps)
 unfolding below
-one-more n Sound.none = omega arith
-one-more n (Sound.more {p} {ps} s b r) = go (ltb (p .start) (suc n)) (ltb (p .start) n) refl refl (one-more n r)
+one-more n WellPlaced.none = omega arith
+one-more n (WellPlaced.more {p} {ps} s b r) = go (ltb (p .start) (suc n)) (ltb (p .start) n) refl refl (one-more n r)
   where
     go : (x y : Bool) → ltb (p .start) (suc n) ≡ x → ltb (p .start) n ≡ y → below (suc n) ps ≤ suc (below n ps)
         → cond x (suc (below (suc n) ps)) (below (suc n) ps) ≤ suc (cond y (suc (below n ps)) (below n ps))
@@ -82,15 +82,15 @@ one-more n (Sound.more {p} {ps} s b r) = go (ltb (p .start) (suc n)) (ltb (p .st
     go false true d e h = omega arith
     go false false d e h = h
 
-few-below : (n : ℕ) {ps : List Placement} → Sound ps → below n ps ≤ n
+few-below : (n : ℕ) {ps : List Placement} → WellPlaced ps → below n ps ≤ n
 few-below zero {ps} s = omega (arith, none-below ps)
 few-below (suc n) s = omega (arith, one-more n s, few-below n s)
 
-few : {ps : List Placement} → Sound ps → length ps ≤ frameBits
+few : {ps : List Placement} → WellPlaced ps → length ps ≤ frameBits
 few s = omega (arith, few-below frameBits s, all-below s)
 
 -- no message of a taken book has more than 64 signals
-pub few-signals : (words : List ℕ) (identifier : ℕ) (m : Message) → messagesTaken words ≡ true → messageOf identifier (messagesOf words) ≡ some m → length (m .placements) ≤ frameBits
+pub few-signals : (words : List ℕ) (identifier : ℕ) (m : Message) → messagesTaken words ≡ true → messageWith identifier (messagesOf words) ≡ some m → length (m .placements) ≤ frameBits
 few-signals words identifier m t found = few (sound-message identifier (messagesOf words) m (taken-stands words t .1) found)
 
 enough : (o : Option Message) (frame : List ℕ) (lent : Slices) → ((m : Message) → o ≡ some m → length (m .placements) ≤ room lent) → readingNumber (readByMessage o frame lent .0) ≡ readingNumber TooLittleRoom → ⊥
@@ -111,7 +111,7 @@ unfolding reading readByMessages
 room-enough words identifier frame lent h e = go (messagesTaken words) (eqb (length frame) frameBytes) refl e
   where
     go : (a b : Bool) → messagesTaken words ≡ a
-        → readingNumber (cond {A = Reading × Slices} a (cond b (readByMessage (messageOf identifier (messagesOf words)) frame lent) (NotEightBytes, lent)) (NotABook, lent) .0) ≡ 24 → ⊥
-    go true true t e = enough (messageOf identifier (messagesOf words)) frame lent (λ m found. omega (arith, few-signals words identifier m t found)) e
+        → readingNumber (cond {A = Reading × Slices} a (cond b (readByMessage (messageWith identifier (messagesOf words)) frame lent) (NotEightBytes, lent)) (NotABook, lent) .0) ≡ 24 → ⊥
+    go true true t e = enough (messageWith identifier (messagesOf words)) frame lent (λ m found. omega (arith, few-signals words identifier m t found)) e
     go true false t e = omega arith
     go false b t e = omega arith

@@ -1,10 +1,10 @@
-pub mod Sound
+pub mod WellPlaced
 pub mod Classes
 pub mod FrameBits
 pub mod PackedOnce
 pub mod Putting
 pub mod Summing
-pub mod Sent
+pub mod FrameSent
 pub mod Answers
 pub mod PackedBy
 pub mod ReadBack

@@ -24,15 +24,15 @@ use Rattle.catalogue.specs.declared.Class.the-variants.{Value, Invalid, Absent,
 use Rattle.framing.specs.declared.Reading.{Reading}
 use Rattle.framing.specs.declared.Reading.the-variants.{Read}
 use Rattle.framing.specs.declared.Packing.the-variants.{Packed}
-use Rattle.framing.specs.Messages.{checksumNumber, checksumStart, checksumBits, messageOf, placesChecksum, countOf, classIn}
+use Rattle.framing.specs.Messages.{checksumNumber, checksumStart, checksumBits, messageWith, placesChecksum, countOf, placedClass}
 use Rattle.framing.specs.Reading.{Slices, classCode, checksumHolds, reading, readings, readingNumber}
 use Rattle.framing.specs.Packing.{packable, packing, packedFrame}
-use Rattle.framing.specs.Packed.{Carries, OnesElsewhere}
+use Rattle.framing.specs.Packed.{CarriesValues, OnesElsewhere}
 use Rattle.framing.specs.Demand.{placementAt, Counted, reservedCode, outsideCode, NoneBarred, PacksAgain}
-use Rattle.framing.proofs.Sound.{Sound, sound-message, sits-at}
+use Rattle.framing.proofs.WellPlaced.{WellPlaced, sound-message, sits-at}
 use Rattle.framing.proofs.PackedOnce.{packed-frame}
 use Rattle.framing.proofs.Putting.{Accepted, accepted-judged}
-use Rattle.framing.proofs.Sent.{is-packed, sum-placed}
+use Rattle.framing.proofs.FrameSent.{is-packed, sum-placed}
 use Rattle.framing.proofs.Answers.{WasRead, read-was, was-read, was-packed}
 use Rattle.framing.proofs.ReadBack.{carried-at}
 
@@ -51,7 +51,7 @@ module _ (frame : List ℕ) where
   Counts ps = map (λ (p : Placement). countOf frame p) ps
 
   abbrev pub Codes : List Placement → List ℕ
-  Codes ps = map (λ (p : Placement). classCode (classIn frame p)) ps
+  Codes ps = map (λ (p : Placement). classCode (placedClass frame p)) ps
 
   -- counts that were read, none of them reserved or outside, are accepted
   again : (ps : List Placement) → ((i : ℕ) → i < length ps → (getD (Codes ps) i 0 ≡ reservedCode → ⊥) × (getD (Codes ps) i 0 ≡ outsideCode → ⊥)) → Accepted ps (Counts ps)
@@ -59,12 +59,12 @@ module _ (frame : List ℕ) where
   again (p ∷ ps) h =
       one p (h 0 (omega arith)) (again ps (λ i b. h (suc i) (omega arith)))
     where
-      one : (p : Placement) → (classCode (classIn frame p) ≡ reservedCode → ⊥) × (classCode (classIn frame p) ≡ outsideCode → ⊥) → Accepted ps (Counts ps) → Accepted (p ∷ ps) (countOf frame p ∷ Counts ps)
+      one : (p : Placement) → (classCode (placedClass frame p) ≡ reservedCode → ⊥) × (classCode (placedClass frame p) ≡ outsideCode → ⊥) → Accepted ps (Counts ps) → Accepted (p ∷ ps) (countOf frame p ∷ Counts ps)
       one p n a = go (eqb (p .number) checksumNumber) refl
         where
           go : (b : Bool) → eqb (p .number) checksumNumber ≡ b → Accepted (p ∷ ps) (countOf frame p ∷ Counts ps)
           go true e = Accepted.skip (eqb-true (p .number) checksumNumber e) a
-          go false e = Accepted.fine (eqb-false (p .number) checksumNumber e) (raw-lt frame (p .start) (bitsOf (p .number))) (neither-packs (classIn frame p) (n .0) (n .1)) a
+          go false e = Accepted.fine (eqb-false (p .number) checksumNumber e) (raw-lt frame (p .start) (bitsOf (p .number))) (neither-packs (placedClass frame p) (n .0) (n .1)) a
 
 counts-at : (frame : List ℕ) (ps : List Placement) (d : Placement) (i : ℕ) → i < length ps → getD (Counts frame ps) i 0 ≡ countOf frame (getD ps i d)
 counts-at frame [] d i h = absurd (not-suc-le-zero h)
@@ -72,8 +72,8 @@ counts-at frame (p ∷ ps) d zero h = refl
 counts-at frame (p ∷ ps) d (suc i) h = counts-at frame ps d i (le-of-suc-le-suc h)
 
 -- what was read of a frame, the frame carries
-carries-own : (frame : List ℕ) (ps : List Placement) → Carries frame ps (Counts frame ps)
-unfolding Carries
+carries-own : (frame : List ℕ) (ps : List Placement) → CarriesValues frame ps (Counts frame ps)
+unfolding CarriesValues
 carries-own frame [] = tt
 carries-own frame (p ∷ ps) = (λ _. refl, carries-own frame ps)
 
@@ -99,7 +99,7 @@ module _ (words : List ℕ) (identifier : ℕ) (frame : List ℕ) (small : (k : 
   outs : readings frame (m .placements) slices ≡ out
   outs = ap (λ (x : Reading × Slices). x .1) as-read
 
-  sound : Sound (m .placements)
+  sound : WellPlaced (m .placements)
   sound = sound-message identifier (messagesOf words) m (taken-stands words (w .taken) .1) (w .found)
 
   abbrev Raws : List ℕ
@@ -109,7 +109,7 @@ module _ (words : List ℕ) (identifier : ℕ) (frame : List ℕ) (small : (k : 
   many = length-map (m .placements) (λ (p : Placement). countOf frame p)
 
   codes-many : length (Codes frame (m .placements)) ≡ length (m .placements)
-  codes-many = length-map (m .placements) (λ (p : Placement). classCode (classIn frame p))
+  codes-many = length-map (m .placements) (λ (p : Placement). classCode (placedClass frame p))
 
   code-at : (i : ℕ) → i < length (m .placements) → getD (out .classes) i 0 ≡ getD (Codes frame (m .placements)) i 0
   code-at i h =
@@ -173,7 +173,7 @@ module _ (words : List ℕ) (identifier : ℕ) (frame : List ℕ) (small : (k : 
   packs-again = renews words identifier frame small slices n out e (was .0) (was .1) none
 
   -- and a frame that has 1 in every unplaced bit packs again to itself, 503 and all
-  pub packs-same : (m : Message) → messageOf identifier (messagesOf words) ≡ some m → OnesElsewhere m frame → (lent : List ℕ) → length lent ≡ frameBytes
+  pub packs-same : (m : Message) → messageWith identifier (messagesOf words) ≡ some m → OnesElsewhere m frame → (lent : List ℕ) → length lent ≡ frameBytes
       → packing words identifier (take n (out .raws)) lent ≡ (Packed, frame)
   packs-same m found ones lent eight =
       let one : some (was .0) ≡ some m = sym (was .1 .found) ∙ found in

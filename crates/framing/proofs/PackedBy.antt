@@ -6,10 +6,10 @@ use Rattle.books.specs.Words.{messagesOf}
 use Rattle.books.proofs.Columns.{taken-stands}
 use Rattle.framing.specs.Packing.{packedFrame, packing, packingNumber}
 use Rattle.framing.specs.Demand.{PackedBy}
-use Rattle.framing.proofs.Sound.{sound-message}
+use Rattle.framing.proofs.WellPlaced.{sound-message}
 use Rattle.framing.proofs.PackedOnce.{packed-once}
 use Rattle.framing.proofs.Putting.{accepted}
-use Rattle.framing.proofs.Sent.{is-packed}
+use Rattle.framing.proofs.FrameSent.{is-packed}
 use Rattle.framing.proofs.Answers.{packed-was, was-packed}
 
 -- for every book, identifier and values that the packer does not refuse

@@ -11,13 +11,14 @@ use borrow.Author.Tests.{leb-true, leb-false, ltb-true, ltb-false, eqb-true, eqb
 use Rattle.bits.specs.Frame.{frameBytes, frameBit}
 use Rattle.bits.specs.Checksum.{checksumOf}
 use Rattle.bits.proofs.Weights.{Bytes, count-bit}
+use Rattle.books.specs.Belonging.{inRun}
 use Rattle.books.specs.Book.{Placement, Message}
 use Rattle.books.specs.Lines.{frameBits}
 use Rattle.catalogue.specs.Find.{bitsOf}
 use Rattle.framing.specs.Messages.{checksumNumber, checksumStart, countOf}
 use Rattle.framing.specs.Packing.{bitSent, frameSent, packedFrame}
-use Rattle.framing.specs.Packed.{Carries, Summed, Unplaced, IsPacked}
-use Rattle.framing.proofs.Sound.{Sits, Sound}
+use Rattle.framing.specs.Packed.{CarriesValues, Summed, Unplaced, IsPacked}
+use Rattle.framing.proofs.WellPlaced.{Sits, WellPlaced}
 use Rattle.framing.proofs.FrameBits.{frame-same, sum-same, own-bits}
 
 -- ---- the bits of a frame that carries the values
@@ -32,12 +33,12 @@ module _ (f : List ℕ) (F : Bytes frameBytes f) (sum k : ℕ) where
       ∙ sym (count-bit f (F .small) (p .start) (bitsOf (p .number)) j (s .fits .inside) (omega arith))
       ∙ ap (λ (n : ℕ). n / 2 ^ j % 2) e
 
-  bit-sent : {ps : List Placement} (vs : List ℕ) → Sound ps → length vs ≡ length ps → Carries f ps vs → Summed f sum ps → (Unplaced k ps → frameBit f k ≡ 1)
+  bit-sent : {ps : List Placement} (vs : List ℕ) → WellPlaced ps → length vs ≡ length ps → CarriesValues f ps vs → Summed f sum ps → (Unplaced k ps → frameBit f k ≡ 1)
       → frameBit f k ≡ bitSent sum ps vs k
-  unfolding Carries Summed Unplaced bitSent
-  bit-sent vs Sound.none n c d free = free tt
-  bit-sent [] (Sound.more s z r) n c d free = absurd (omega arith)
-  bit-sent (v ∷ vs) (Sound.more {p} {ps} s z r) n c d free =
+  unfolding CarriesValues Summed Unplaced bitSent inRun
+  bit-sent vs WellPlaced.none n c d free = free tt
+  bit-sent [] (WellPlaced.more s z r) n c d free = absurd (omega arith)
+  bit-sent (v ∷ vs) (WellPlaced.more {p} {ps} s z r) n c d free =
       go (leb (p .start) k) (ltb k (p .start + bitsOf (p .number))) (eqb (p .number) checksumNumber) refl refl refl
       (λ u. bit-sent vs r (omega arith) (c .1) (d .1) (λ w. free (u, w)))
     where
@@ -50,11 +51,11 @@ module _ (f : List ℕ) (F : Bytes frameBytes f) (sum k : ℕ) where
       go true true false l m o on = in-place p v s (c .0 (eqb-false (p .number) checksumNumber o)) (leb-true (p .start) k l) (ltb-true k (p .start + bitsOf (p .number)) m)
 
 -- below 503's place the bits do not depend on what is sent there
-check-aside : (x y k : ℕ) {ps : List Placement} (vs : List ℕ) → Sound ps → k < checksumStart → bitSent x ps vs k ≡ bitSent y ps vs k
-unfolding bitSent
-check-aside x y k vs Sound.none h = refl
-check-aside x y k [] (Sound.more s z r) h = refl
-check-aside x y k (v ∷ vs) (Sound.more {p} {ps} s z r) h =
+check-aside : (x y k : ℕ) {ps : List Placement} (vs : List ℕ) → WellPlaced ps → k < checksumStart → bitSent x ps vs k ≡ bitSent y ps vs k
+unfolding bitSent inRun
+check-aside x y k vs WellPlaced.none h = refl
+check-aside x y k [] (WellPlaced.more s z r) h = refl
+check-aside x y k (v ∷ vs) (WellPlaced.more {p} {ps} s z r) h =
     go (leb (p .start) k) (ltb k (p .start + bitsOf (p .number))) (eqb (p .number) checksumNumber) refl refl (check-aside x y k vs r h)
   where
     go : (i j e : Bool) → leb (p .start) k ≡ i → eqb (p .number) checksumNumber ≡ e → bitSent x ps vs k ≡ bitSent y ps vs k
@@ -69,7 +70,7 @@ check-aside x y k (v ∷ vs) (Sound.more {p} {ps} s z r) h =
 
 -- ---- one frame
 
-module _ (m : Message) (vs : List ℕ) (s : Sound (m .placements)) (n : length vs ≡ length (m .placements)) where
+module _ (m : Message) (vs : List ℕ) (s : WellPlaced (m .placements)) (n : length vs ≡ length (m .placements)) where
   -- a frame that carries the values of a message of a taken book is the packed frame
   pub packed-frame : (f : List ℕ) → IsPacked m vs f → f ≡ packedFrame m vs
   unfolding packedFrame
@@ -83,5 +84,5 @@ module _ (m : Message) (vs : List ℕ) (s : Sound (m .placements)) (n : length v
       own ∙ ap (λ (x : ℕ). frameSent x (m .placements) vs) same
 
 -- so any two are the same
-pub packed-once : (m : Message) (vs f g : List ℕ) → Sound (m .placements) → length vs ≡ length (m .placements) → IsPacked m vs f → IsPacked m vs g → f ≡ g
+pub packed-once : (m : Message) (vs f g : List ℕ) → WellPlaced (m .placements) → length vs ≡ length (m .placements) → IsPacked m vs f → IsPacked m vs g → f ≡ g
 packed-once m vs f g s n F G = packed-frame m vs s n f F ∙ sym (packed-frame m vs s n g G)

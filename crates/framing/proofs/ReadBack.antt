@@ -17,11 +17,11 @@ use Rattle.books.proofs.Columns.{taken-stands}
 use Rattle.framing.specs.Messages.{checksumNumber, checksumStart, checksumBits, placesChecksum, countOf}
 use Rattle.framing.specs.Reading.{Slices, checksumHolds, room, reading}
 use Rattle.framing.specs.Packing.{packing, packingNumber, packedFrame}
-use Rattle.framing.specs.Packed.{Carries}
+use Rattle.framing.specs.Packed.{CarriesValues}
 use Rattle.framing.specs.Demand.{SameCounts, ReadsBack}
-use Rattle.framing.proofs.Sound.{Sound, sound-message}
+use Rattle.framing.proofs.WellPlaced.{WellPlaced, sound-message}
 use Rattle.framing.proofs.Putting.{Accepted, accepted}
-use Rattle.framing.proofs.Sent.{is-packed, own-checksum}
+use Rattle.framing.proofs.FrameSent.{is-packed, own-checksum}
 use Rattle.framing.proofs.Answers.{WasRead, was-read, WasPacked, packed-was, was-packed}
 
 -- a frame that has its own checksum where the message places one passes the check
@@ -34,16 +34,16 @@ holds m frame h = go (placesChecksum (m .placements)) refl
     go false e = refl
 
 -- what a frame carries stands among its counts
-pub carried-at : (frame : List ℕ) (ps : List Placement) (vs : List ℕ) (d : Placement) → Carries frame ps vs → length vs ≡ length ps
+pub carried-at : (frame : List ℕ) (ps : List Placement) (vs : List ℕ) (d : Placement) → CarriesValues frame ps vs → length vs ≡ length ps
     → (i : ℕ) → i < length vs → (getD ps i d .number ≡ checksumNumber → ⊥) → getD (map (λ (p : Placement). countOf frame p) ps) i 0 ≡ getD vs i 0
-unfolding Carries
+unfolding CarriesValues
 carried-at frame ps [] d c n i h k = absurd (not-suc-le-zero h)
 carried-at frame [] (v ∷ vs) d c n i h k = absurd (omega arith)
 carried-at frame (p ∷ ps) (v ∷ vs) d c n zero h k = c .0 k
 carried-at frame (p ∷ ps) (v ∷ vs) d c n (suc i) h k = carried-at frame ps vs d (c .1) (omega arith) i (le-of-suc-le-suc h) k
 
 module _ (words : List ℕ) (identifier : ℕ) (vs lent : List ℕ) (m : Message) (p : WasPacked words identifier vs lent m) where
-  sound : Sound (m .placements)
+  sound : WellPlaced (m .placements)
   sound = sound-message identifier (messagesOf words) m (taken-stands words (p .taken) .1) (p .found)
 
   fine : Accepted (m .placements) vs

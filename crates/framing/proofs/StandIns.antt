@@ -20,9 +20,9 @@ use Rattle.bits.specs.Frame.{frameBytes, countAt}
 use Rattle.framing.specs.declared.Reading.{Reading}
 use Rattle.framing.specs.declared.Reading.the-variants.{Read}
 use Rattle.framing.specs.declared.Packing.{Packing}
-use Rattle.framing.specs.Messages.{messageOf, checksumNumber}
+use Rattle.framing.specs.Messages.{messageWith, checksumNumber}
 use Rattle.framing.specs.Reading.{Slices, checksumHolds, reading, readings, readingNumber}
-use Rattle.framing.specs.Packing.{judged, packing, packingNumber}
+use Rattle.framing.specs.Packing.{judgedValues, packing, packingNumber}
 use Rattle.framing.specs.Demand.{placementAt, ReadsBack}
 use Rattle.framing.proofs.Answers.{was-read, was-packed}
 
@@ -45,10 +45,10 @@ stand = words-stand book (within (book .messages) is-good .few) (within (book .m
 taken : messagesTaken words ≡ true
 taken = stands-taken words (book .messages) stand is-good
 
-found : messageOf 0 (messagesOf words) ≡ some message
-unfolding messageOf
+found : messageWith 0 (messagesOf words) ≡ some message
+unfolding messageWith
 found =
-    ap (messageOf 0) (shows words (book .messages) (within (book .messages) is-good .few) (within (book .messages) is-good .room) stand)
+    ap (messageWith 0) (shows words (book .messages) (within (book .messages) is-good .few) (within (book .messages) is-good .room) stand)
 
 -- a frame of zeros, and slices with room for one reading
 abbrev zeros : List ℕ
@@ -62,7 +62,7 @@ unfolding checksumHolds isIn
 reads = was-read words 0 zeros slices message (record { taken = taken; eight = refl; found = found; checked = refl; roomy = omega arith })
 
 packs : packingNumber (packing words 0 (250 ∷ []) zeros .0) ≡ 0
-unfolding judged classOf bitsOf rowOf rows between
+unfolding judgedValues classOf bitsOf rowOf rows between
 packs =
     ap (λ (x : Packing × List ℕ). packingNumber (x .0))
     (was-packed words 0 (250 ∷ []) zeros message (record { taken = taken; found = found; many = refl; eight = refl; good = refl }))

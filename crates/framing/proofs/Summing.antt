@@ -18,8 +18,8 @@ use Rattle.books.specs.Lines.{isIn, frameBits}
 use Rattle.catalogue.specs.Find.{bitsOf, rowOf}
 use Rattle.rows.specs.Rows.{rows}
 use Rattle.framing.specs.Messages.{checksumNumber, checksumStart, checksumBits, placesChecksum}
-use Rattle.framing.specs.Putting.{summed}
-use Rattle.framing.proofs.Sound.{Sits, Beside, BesideAll, Sound}
+use Rattle.framing.specs.Putting.{withChecksum}
+use Rattle.framing.proofs.WellPlaced.{Sits, Beside, BesideAll, WellPlaced}
 use Rattle.framing.proofs.Putting.{Has}
 
 bits-503 : bitsOf checksumNumber ≡ checksumBits
@@ -45,14 +45,14 @@ below p q sp sq e b =
 turned : (p q : Placement) → Beside q p → Beside p q
 turned p q b = ⊎-elim inr inl b
 
-after-check : {q : Placement} {ps : List Placement} → Sits q → q .number ≡ checksumNumber → BesideAll q ps → Sound ps → Clear ps
-after-check sq e BesideAll.none Sound.none = Clear.none
-after-check {q} sq e (BesideAll.more {p} {ps} b bs) (Sound.more sp _ s) = Clear.more (λ _. below p q sp sq e (turned p q b)) (after-check sq e bs s)
+after-check : {q : Placement} {ps : List Placement} → Sits q → q .number ≡ checksumNumber → BesideAll q ps → WellPlaced ps → Clear ps
+after-check sq e BesideAll.none WellPlaced.none = Clear.none
+after-check {q} sq e (BesideAll.more {p} {ps} b bs) (WellPlaced.more sp _ s) = Clear.more (λ _. below p q sp sq e (turned p q b)) (after-check sq e bs s)
 
-before-check : {p : Placement} {ps : List Placement} → Sits p → BesideAll p ps → Sound ps → isIn checksumNumber (numbers ps) ≡ true → p .start + bitsOf (p .number) ≤ checksumStart
+before-check : {p : Placement} {ps : List Placement} → Sits p → BesideAll p ps → WellPlaced ps → isIn checksumNumber (numbers ps) ≡ true → p .start + bitsOf (p .number) ≤ checksumStart
 unfolding isIn
-before-check sp BesideAll.none Sound.none h = let z : _≡_ {A = ℕ} 0 1 = cc in absurd (omega arith)
-before-check {p} sp (BesideAll.more {p = q} {ps} b bs) (Sound.more sq _ s) h =
+before-check sp BesideAll.none WellPlaced.none h = let z : _≡_ {A = ℕ} 0 1 = cc in absurd (omega arith)
+before-check {p} sp (BesideAll.more {p = q} {ps} b bs) (WellPlaced.more sq _ s) h =
     go (eqb checksumNumber (q .number)) refl h (before-check sp bs s)
   where
     go : (t : Bool) → eqb checksumNumber (q .number) ≡ t → t || isIn checksumNumber (numbers ps) ≡ true → (isIn checksumNumber (numbers ps) ≡ true → p .start + bitsOf (p .number) ≤ checksumStart)
@@ -60,10 +60,10 @@ before-check {p} sp (BesideAll.more {p = q} {ps} b bs) (Sound.more sq _ s) h =
     go true e h rest = below p q sp sq (sym (eqb-true checksumNumber (q .number) e)) b
     go false e h rest = rest h
 
-pub clear : {ps : List Placement} → Sound ps → placesChecksum ps ≡ true → Clear ps
+pub clear : {ps : List Placement} → WellPlaced ps → placesChecksum ps ≡ true → Clear ps
 unfolding isIn
-clear Sound.none h = Clear.none
-clear (Sound.more {p} {ps} sp b s) h = go (eqb checksumNumber (p .number)) refl h (clear s)
+clear WellPlaced.none h = Clear.none
+clear (WellPlaced.more {p} {ps} sp b s) h = go (eqb checksumNumber (p .number)) refl h (clear s)
   where
     go : (t : Bool) → eqb checksumNumber (p .number) ≡ t → t || isIn checksumNumber (numbers ps) ≡ true → (placesChecksum ps ≡ true → Clear ps) → Clear (p ∷ ps)
     go true e h rest = let x : p .number ≡ checksumNumber = sym (eqb-true checksumNumber (p .number) e) in Clear.more (λ n. absurd (n x)) (after-check sp x b s)
@@ -90,8 +90,8 @@ module _ (identifier w : ℕ) where
   sum-kept : checksumOf identifier (bytesOf (placed w checksumStart checksumBits Sum)) ≡ Sum
   sum-kept = checksum-kept identifier w Sum sum-lt
 
-  pub summed-lt : (ps : List Placement) → w < 2 ^ frameBits → summed identifier ps w < 2 ^ frameBits
-  unfolding summed
+  pub summed-lt : (ps : List Placement) → w < 2 ^ frameBits → withChecksum identifier ps w < 2 ^ frameBits
+  unfolding withChecksum
   summed-lt ps hw = go (placesChecksum ps)
     where
       go : (t : Bool) → cond t (placed w checksumStart checksumBits Sum) w < 2 ^ frameBits
@@ -99,8 +99,8 @@ module _ (identifier w : ℕ) where
       go false = hw
 
   -- a field that ends below it stays, and every field where the message does not place it
-  pub summed-keeps : (ps : List Placement) (t c : ℕ) → (placesChecksum ps ≡ true → (t + c ≤ checksumStart) ⊎ (frameBits ≤ t)) → fieldOf (summed identifier ps w) t c ≡ fieldOf w t c
-  unfolding summed
+  pub summed-keeps : (ps : List Placement) (t c : ℕ) → (placesChecksum ps ≡ true → (t + c ≤ checksumStart) ⊎ (frameBits ≤ t)) → fieldOf (withChecksum identifier ps w) t c ≡ fieldOf w t c
+  unfolding withChecksum
   summed-keeps ps t c h = go (placesChecksum ps) refl
     where
       go : (b : Bool) → placesChecksum ps ≡ b → fieldOf (cond b (placed w checksumStart checksumBits Sum) w) t c ≡ fieldOf w t c
@@ -109,12 +109,12 @@ module _ (identifier w : ℕ) where
 
 -- where the message places the checksum, the frame has its own
 pub summed-sum : (identifier w : ℕ) (ps : List Placement) → placesChecksum ps ≡ true
-    → fieldOf (summed identifier ps w) checksumStart checksumBits ≡ checksumOf identifier (bytesOf (summed identifier ps w))
-unfolding summed
+    → fieldOf (withChecksum identifier ps w) checksumStart checksumBits ≡ checksumOf identifier (bytesOf (withChecksum identifier ps w))
+unfolding withChecksum
 summed-sum identifier w ps e = rw e (sum-back identifier w ∙ sym (sum-kept identifier w))
 
 -- so every count stays
-pub summed-has : (identifier w : ℕ) (ps : List Placement) {qs : List Placement} {vs : List ℕ} → (placesChecksum ps ≡ true → Clear qs) → Has w qs vs → Has (summed identifier ps w) qs vs
+pub summed-has : (identifier w : ℕ) (ps : List Placement) {qs : List Placement} {vs : List ℕ} → (placesChecksum ps ≡ true → Clear qs) → Has w qs vs → Has (withChecksum identifier ps w) qs vs
 summed-has identifier w ps h Has.none = Has.none
 summed-has identifier w ps h (Has.more {p} {ps = qs} {v} {vs} e rest) =
     Has.more (λ n. summed-keeps identifier w ps (p .start) (bitsOf (p .number)) (λ b. inl (first (h b) n)) ∙ e n)

@@ -15,7 +15,7 @@ use Rattle.catalogue.specs.declared.Class.the-variants.{Reserved, Outside}
 use Rattle.framing.specs.declared.Reading.{Reading}
 use Rattle.framing.specs.declared.Reading.the-variants.{Read}
 use Rattle.framing.specs.declared.Packing.the-variants.{Packed}
-use Rattle.framing.specs.Messages.{checksumNumber, messageOf}
+use Rattle.framing.specs.Messages.{checksumNumber, messageWith}
 use Rattle.framing.specs.Reading.{Slices, classCode, room, reading}
 use Rattle.framing.specs.Packing.{packing}
 use Rattle.framing.specs.Packed.{Summed, OnesElsewhere, IsPacked}
@@ -23,7 +23,7 @@ use Rattle.framing.specs.Packed.{Summed, OnesElsewhere, IsPacked}
 -- a frame is packed of these values: it carries them as the message with the identifier asks, and no other frame does
 pub record PackedBy (words : List ℕ) (identifier : ℕ) (vs frame : List ℕ) : Type 0 where
   pub message : Message
-  pub found : messageOf identifier (messagesOf words) ≡ some message
+  pub found : messageWith identifier (messagesOf words) ≡ some message
   pub packed : IsPacked message vs frame
   pub only : (other : List ℕ) → IsPacked message vs other → other ≡ frame
 
@@ -43,7 +43,7 @@ pub record SameCounts (m : Message) (vs : List ℕ) (out : Reading × Slices) : 
 -- a frame reads back as these values: it reads under the identifier, with no refusal, into any slices that have room
 pub record ReadsBack (words : List ℕ) (identifier : ℕ) (vs frame : List ℕ) : Type 0 where
   pub message : Message
-  pub found : messageOf identifier (messagesOf words) ≡ some message
+  pub found : messageWith identifier (messagesOf words) ≡ some message
   pub reads : (lent : Slices) → length vs ≤ room lent → SameCounts message vs (reading words identifier frame lent)
 
 -- any raw count: the code of a class doesn't depend on it
@@ -71,6 +71,6 @@ pub record Renewed (m : Message) (old new : List ℕ) : Type 0 where
 -- a frame packs again from n counts that were read of it, into any lent frame of 8 bytes
 pub record PacksAgain (words : List ℕ) (identifier : ℕ) (frame : List ℕ) (n : ℕ) (raws : List ℕ) : Type 0 where
   pub message : Message
-  pub found : messageOf identifier (messagesOf words) ≡ some message
+  pub found : messageWith identifier (messagesOf words) ≡ some message
   pub packs : (lent : List ℕ) → length lent ≡ frameBytes
       → (packing words identifier (take n raws) lent .0 ≡ Packed) × Renewed message frame (packing words identifier (take n raws) lent .1)

@@ -1,5 +1,6 @@
 pub mod Messages
 pub mod Reading
+pub mod Lending
 pub mod Packing
 pub mod Putting
 pub mod Packed

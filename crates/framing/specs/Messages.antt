@@ -18,9 +18,9 @@ abbrev pub checksumBits : ℕ
 checksumBits = 4
 
 -- the message with the identifier, if there is one
-unfoldable pub messageOf : ℕ → List Message → Option Message
-messageOf identifier [] = none
-messageOf identifier (m ∷ ms) = cond (eqb identifier (m .identifier)) (some m) (messageOf identifier ms)
+unfoldable pub messageWith : ℕ → List Message → Option Message
+messageWith identifier [] = none
+messageWith identifier (m ∷ ms) = cond (eqb identifier (m .identifier)) (some m) (messageWith identifier ms)
 
 -- the message places 503
 abbrev pub placesChecksum : List Placement → Bool
@@ -30,8 +30,8 @@ placesChecksum ps = isIn checksumNumber (numbers ps)
 abbrev pub countOf : List ℕ → Placement → ℕ
 countOf frame p = countAt frame (p .start) (bitsOf (p .number))
 
-abbrev pub classIn : List ℕ → Placement → Class
-classIn frame p = classOf (p .number) (record { 0 = countOf frame p })
+abbrev pub placedClass : List ℕ → Placement → Class
+placedClass frame p = classOf (p .number) (record { 0 = countOf frame p })
 
 -- entries written into a lent slice from the front; those beyond them stay as lent
 abbrev pub written {ℓ} : {A : Type ℓ} → List A → List A → List A

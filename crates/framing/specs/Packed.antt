@@ -1,4 +1,4 @@
--- What holds of a packed frame and of no other (proofs/Sent.antt, proofs/PackedOnce.antt): its counts, its checksum, its other bits.
+-- What holds of a packed frame and of no other (proofs/FrameSent.antt, proofs/PackedOnce.antt): its counts, its checksum, its other bits.
 -- Assumes nothing: these are definitions.
 use mathlib.Core.Path.{_≡_}
 use mathlib.Core.Logic.{_⊎_}
@@ -12,10 +12,10 @@ use Rattle.catalogue.specs.Find.{bitsOf}
 use Rattle.framing.specs.Messages.{checksumNumber, countOf}
 
 -- each placement but that of 503 has its value in the frame
-unfoldable pub Carries : List ℕ → List Placement → List ℕ → Type 0
-Carries frame [] vs = Unit
-Carries frame (p ∷ ps) [] = Unit
-Carries frame (p ∷ ps) (v ∷ vs) = ((p .number ≡ checksumNumber → ⊥) → countOf frame p ≡ v) × Carries frame ps vs
+unfoldable pub CarriesValues : List ℕ → List Placement → List ℕ → Type 0
+CarriesValues frame [] vs = Unit
+CarriesValues frame (p ∷ ps) [] = Unit
+CarriesValues frame (p ∷ ps) (v ∷ vs) = ((p .number ≡ checksumNumber → ⊥) → countOf frame p ≡ v) × CarriesValues frame ps vs
 
 -- each placement of 503 has this count in the frame
 unfoldable pub Summed : List ℕ → ℕ → List Placement → Type 0
@@ -35,6 +35,6 @@ OnesElsewhere m frame = (k : ℕ) → k < frameBits → Unplaced k (m .placement
 pub record IsPacked (m : Message) (vs : List ℕ) (frame : List ℕ) : Type 0 where
   pub bytes : length frame ≡ frameBytes
   pub small : (k : ℕ) → getD frame k 0 < 256
-  pub counts : Carries frame (m .placements) vs
+  pub counts : CarriesValues frame (m .placements) vs
   pub checksum : Summed frame (checksumOf (m .identifier) frame) (m .placements)
   pub ones : OnesElsewhere m frame

@@ -1,13 +1,14 @@
 -- Packing a frame by a book: refusals 12, 22, 25, 21, then the first bad position, 26 before 27 (503 is skipped), each leaving the lent
 -- frame as it was; otherwise each frame bit is the bit of the value placed there, that of 503 being the checksum, and 1 where no signal
--- is placed. specs/Packed.antt says the same as what holds of a frame; proofs/Sent.antt and proofs/PackedOnce.antt show that it holds
+-- is placed. specs/Packed.antt says the same as what holds of a frame; proofs/FrameSent.antt and proofs/PackedOnce.antt show that it holds
 -- of this one and no other. specs/Putting.antt is how the code goes about it. Assumes nothing: these are definitions.
-use mathlib.Core.Bool.{Bool, true, false, cond, _&&_}
+use mathlib.Core.Bool.{Bool, true, false, cond}
 use mathlib.Core.List.{List, [], _∷_, map}
 use mathlib.Core.Option.{Option, none, some}
 use Prim.Native.Nat.{ℕ, zero, suc, _+_, _-_, _*_, _/_, _%_, _^_}
-use lib.Dec.{eqb, leb, ltb}
+use lib.Dec.{eqb, leb}
 use lib.ListN.{length}
+use Rattle.books.specs.Belonging.{bitBelongs}
 use Rattle.books.specs.Book.{Placement, Message}
 use Rattle.books.specs.Words.{messagesOf, messagesTaken}
 use Rattle.bits.specs.Frame.{frameBytes}
@@ -18,7 +19,7 @@ use Rattle.catalogue.specs.declared.Class.{Class}
 use Rattle.catalogue.specs.declared.Class.the-variants as Of
 use Rattle.framing.specs.declared.Packing.{Packing}
 use Rattle.framing.specs.declared.Packing.the-variants.{Packed, NotABook, UnknownIdentifier, WrongCountOfValues, NotEightBytes, TooWide, ReservedOrOutside}
-use Rattle.framing.specs.Messages.{checksumNumber, messageOf}
+use Rattle.framing.specs.Messages.{checksumNumber, messageWith}
 
 -- document 01's number for each answer; 0 is no refusal
 abbrev pub packingNumber : Packing → ℕ
@@ -43,31 +44,27 @@ packable Of.NotInCatalogue = false
 packable Of.TooWide = false
 
 -- the first bad position, with 26 before 27; 503 is skipped
-unfoldable pub judged : List Placement → List ℕ → Packing
-judged [] vs = Packed
-judged (p ∷ ps) [] = Packed
-judged (p ∷ ps) (v ∷ vs) =
-    cond (eqb (p .number) checksumNumber) (judged ps vs)
+unfoldable pub judgedValues : List Placement → List ℕ → Packing
+judgedValues [] vs = Packed
+judgedValues (p ∷ ps) [] = Packed
+judgedValues (p ∷ ps) (v ∷ vs) =
+    cond (eqb (p .number) checksumNumber) (judgedValues ps vs)
     (cond (leb (2 ^ bitsOf (p .number)) v) TooWide
-    (cond (packable (classOf (p .number) (record { 0 = v }))) (judged ps vs)
+    (cond (packable (classOf (p .number) (record { 0 = v }))) (judgedValues ps vs)
     ReservedOrOutside))
 
 -- ---- the frame that is sent, bit by bit
-
--- the placement has frame bit k: its weight 2^j is at frame bit start + j
-abbrev pub holds : Placement → ℕ → Bool
-holds p k = leb (p .start) k && ltb k (p .start + bitsOf (p .number))
 
 -- the value that is sent: of 503 the checksum, whatever is given
 abbrev pub valueSent : ℕ → Placement → ℕ → ℕ
 valueSent checksum p v = cond (eqb (p .number) checksumNumber) checksum v
 
--- what is sent at frame bit k: the bit of the value placed there, and 1 where none is placed
+-- what is sent at frame bit k: the bit of the value placed there, whose weight 2^j is at frame bit start + j, and 1 where none is placed
 unfoldable pub bitSent : ℕ → List Placement → List ℕ → ℕ → ℕ
 bitSent checksum [] vs k = 1
 bitSent checksum (p ∷ ps) [] k = 1
 bitSent checksum (p ∷ ps) (v ∷ vs) k =
-    cond (holds p k) (valueSent checksum p v / 2 ^ (k - p .start) % 2)
+    cond (bitBelongs p k) (valueSent checksum p v / 2 ^ (k - p .start) % 2)
     (bitSent checksum ps vs k)
 
 -- the number of these n bits, bit j by its weight 2^j
@@ -106,7 +103,7 @@ packByMessage none vs lent = (UnknownIdentifier, lent)
 packByMessage (some m) vs lent =
     cond (eqb (length vs) (length (m .placements)))
     (cond (eqb (length lent) frameBytes)
-    (judged (m .placements) vs, packedOr (judged (m .placements) vs) (packedFrame m vs) lent)
+    (judgedValues (m .placements) vs, packedOr (judgedValues (m .placements) vs) (packedFrame m vs) lent)
     (NotEightBytes, lent))
     (WrongCountOfValues, lent)
 
@@ -114,5 +111,5 @@ packByMessage (some m) vs lent =
 unfoldable pub packing : List ℕ → ℕ → List ℕ → List ℕ → Packing × List ℕ
 packing words identifier vs lent =
     cond (messagesTaken words)
-    (packByMessage (messageOf identifier (messagesOf words)) vs lent)
+    (packByMessage (messageWith identifier (messagesOf words)) vs lent)
     (NotABook, lent)

@@ -1,5 +1,5 @@
 -- The working side of packing, as the code goes about it: a word of ones, each count put at its place, the checksum last.
--- proofs/Sent.antt shows that its bytes are the packed frame (`put-sent`). Assumes nothing: these are definitions.
+-- proofs/FrameSent.antt shows that its bytes are the packed frame (`put-sent`). Assumes nothing: these are definitions.
 use mathlib.Core.Bool.{cond}
 use mathlib.Core.List.{List, [], _∷_}
 use Prim.Native.Nat.{ℕ, _-_, _^_}
@@ -24,12 +24,12 @@ put w (p ∷ ps) (v ∷ vs) =
     (put (placed w (p .start) (bitsOf (p .number)) v) ps vs)
 
 -- and with the checksum, where the message places it
-unfoldable pub summed : ℕ → List Placement → ℕ → ℕ
-summed identifier ps w =
+unfoldable pub withChecksum : ℕ → List Placement → ℕ → ℕ
+withChecksum identifier ps w =
     cond (placesChecksum ps)
     (placed w checksumStart checksumBits (checksumOf identifier (bytesOf w)))
     w
 
 -- the bytes of that word
 unfoldable pub putFrame : Message → List ℕ → List ℕ
-putFrame m vs = bytesOf (summed (m .identifier) (m .placements) (put allOnes (m .placements) vs))
+putFrame m vs = bytesOf (withChecksum (m .identifier) (m .placements) (put allOnes (m .placements) vs))

@@ -15,7 +15,7 @@ use Rattle.catalogue.specs.declared.Class.{Class}
 use Rattle.catalogue.specs.declared.Class.the-variants.{Value, Invalid, Absent, Error, Reserved, Outside, NotInCatalogue, TooWide}
 use Rattle.framing.specs.declared.Reading.{Reading}
 use Rattle.framing.specs.declared.Reading.the-variants.{Read, NotABook, NotEightBytes, UnknownIdentifier, WrongChecksum, TooLittleRoom}
-use Rattle.framing.specs.Messages.{checksumStart, checksumBits, messageOf, placesChecksum, countOf, classIn, written}
+use Rattle.framing.specs.Messages.{checksumStart, checksumBits, messageWith, placesChecksum, countOf, placedClass, written}
 
 -- document 01's number for each answer; 0 is no refusal
 abbrev pub readingNumber : Reading → ℕ
@@ -70,8 +70,8 @@ abbrev pub readings : List ℕ → List Placement → Slices → Slices
 readings frame ps lent =
     record {
       raws = written (map (λ (p : Placement). countOf frame p) ps) (lent .raws);
-      classes = written (map (λ (p : Placement). classCode (classIn frame p)) ps) (lent .classes);
-      thousandths = written (map (λ (p : Placement). thousandthsOf (classIn frame p)) ps) (lent .thousandths);
+      classes = written (map (λ (p : Placement). classCode (placedClass frame p)) ps) (lent .classes);
+      thousandths = written (map (λ (p : Placement). thousandthsOf (placedClass frame p)) ps) (lent .thousandths);
     }
 
 -- a frame of 8 bytes read by its message
@@ -88,7 +88,7 @@ readByMessage (some m) frame lent =
 unfoldable pub readByMessages : List Message → ℕ → List ℕ → Slices → Reading × Slices
 readByMessages ms identifier frame lent =
     cond (eqb (length frame) frameBytes)
-    (readByMessage (messageOf identifier ms) frame lent)
+    (readByMessage (messageWith identifier ms) frame lent)
     (NotEightBytes, lent)
 
 -- a frame read by the words of a book

@@ -10,7 +10,8 @@ use Rattle.parts.specs.Joined.{join}
 use Rattle.line.specs.declared.Line.{Line}
 use Rattle.line.specs.declared.Line.the-variants.{Message, Signal, Route, IllFormed}
 use Rattle.line.specs.Written.{fieldsOf, lineText}
-use Rattle.line.specs.First.{OfKind, illFormed, firstLine}
+use Rattle.line.specs.LineAt.{firstLine}
+use Rattle.line.specs.First.{OfKind, illFormed}
 use Rattle.line.proofs.Starts.{Starts, Started, first-starts}
 
 -- the numbers of a message, a signal, a route, from the front of a text
@@ -45,14 +46,14 @@ module _ (text fields : List ℕ) (y : fields ≡ drop 2 text) where
   after e = y ∙ ap (drop 2) e
 
   -- what follows from every line that the text may start with
-  started : {A : Type 0} → ((l : Line) (rest : List ℕ) → Starts text l rest → A) → (illFormed ≡ firstLine text) ⊎ A
+  started : {A : Type 0} → ((l : Line) (rest : List ℕ) → Starts text l rest → A) → (illFormed text ≡ firstLine text) ⊎ A
   started {A} at = by (first-starts text)
     where
-      by : (illFormed ≡ firstLine text) ⊎ Started text → (illFormed ≡ firstLine text) ⊎ A
+      by : (illFormed text ≡ firstLine text) ⊎ Started text → (illFormed text ≡ firstLine text) ⊎ A
       by (inl e) = inl e
       by (inr s) = inr (at (s .line) (s .rest) (s .starts))
 
-  pub message-or : OfKind 77 text → (illFormed ≡ firstLine text) ⊎ MessageAt fields
+  pub message-or : OfKind 77 text → (illFormed text ≡ firstLine text) ⊎ MessageAt fields
   unfolding lineText fieldsOf join
   message-or k = started at
     where
@@ -62,7 +63,7 @@ module _ (text fields : List ℕ) (y : fields ≡ drop 2 text) where
       at (Route a i b j) rest s = other (s .same) (k .kind) (λ e. omega arith)
       at IllFormed rest s = absurd (s .writable)
 
-  pub signal-or : OfKind 83 text → (illFormed ≡ firstLine text) ⊎ SignalAt fields
+  pub signal-or : OfKind 83 text → (illFormed text ≡ firstLine text) ⊎ SignalAt fields
   unfolding lineText fieldsOf join
   signal-or k = started at
     where
@@ -73,7 +74,7 @@ module _ (text fields : List ℕ) (y : fields ≡ drop 2 text) where
       at (Route a i b j) rest s = other (s .same) (k .kind) (λ e. omega arith)
       at IllFormed rest s = absurd (s .writable)
 
-  pub route-or : OfKind 82 text → (illFormed ≡ firstLine text) ⊎ RouteAt fields
+  pub route-or : OfKind 82 text → (illFormed text ≡ firstLine text) ⊎ RouteAt fields
   unfolding lineText fieldsOf join
   route-or k = started at
     where
@@ -103,20 +104,20 @@ begun text (Route a i b j) rest s = rw (s .same) (record { long = omega arith; t
 begun text IllFormed rest s = absurd (s .writable)
 
 module _ (text : List ℕ) where
-  unless-begun : (Begun text → ⊥) → illFormed ≡ firstLine text
+  unless-begun : (Begun text → ⊥) → illFormed text ≡ firstLine text
   unless-begun n = by (first-starts text)
     where
-      by : (illFormed ≡ firstLine text) ⊎ Started text → illFormed ≡ firstLine text
+      by : (illFormed text ≡ firstLine text) ⊎ Started text → illFormed text ≡ firstLine text
       by (inl e) = e
       by (inr s) = absurd (n (begun text (s .line) (s .rest) (s .starts)))
 
-  pub short : length text < 2 → illFormed ≡ firstLine text
+  pub short : length text < 2 → illFormed text ≡ firstLine text
   short h = unless-begun (λ b. omega (arith, b .long))
 
-  pub no-tab : (getD text 1 0 ≡ 9 → ⊥) → illFormed ≡ firstLine text
+  pub no-tab : (getD text 1 0 ≡ 9 → ⊥) → illFormed text ≡ firstLine text
   no-tab n = unless-begun (λ b. n (b .tab))
 
-  pub no-kind : (getD text 0 0 ≡ 83 → ⊥) → (getD text 0 0 ≡ 77 → ⊥) → (getD text 0 0 ≡ 82 → ⊥) → illFormed ≡ firstLine text
+  pub no-kind : (getD text 0 0 ≡ 83 → ⊥) → (getD text 0 0 ≡ 77 → ⊥) → (getD text 0 0 ≡ 82 → ⊥) → illFormed text ≡ firstLine text
   no-kind s m r = unless-begun (λ b. by (b .kind))
     where
       by : Kind (getD text 0 0) → ⊥

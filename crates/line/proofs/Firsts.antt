@@ -1,53 +1,91 @@
--- What the lines of a text say, by its first line: that line, and then what the lines after it say. Assumes nothing.
-use mathlib.Core.Path.{_≡_, refl, ap}
+-- The line that begins at a place is the first of the text's lines from there on, and the lines from the next place on are the others.
+-- Assumes nothing.
+use mathlib.Core.Path.{_≡_, refl, sym, ap, _∙_}
 use mathlib.Core.Bool.{Bool, true, false, cond}
-use mathlib.Core.List.{List, [], _∷_, map}
+use mathlib.Core.List.{List, _∷_}
 use Prim.Native.Nat.{ℕ, _+_, _≤_, _<_}
+use native.Mathlib.Nat.{add-zero}
 use native.Mathlib.Omega.{arith}
 use lib.Dec.{ltb}
-use lib.ListN.{length, take, drop}
-use borrow.Author.Tests.{ltb-true, ltb-false}
-use Rattle.parts.specs.Parts.{indexOf, lines}
+use lib.ListN.{length, take, drop, length-drop, drop-of-length-le}
+use lib.Seq.{drop-drop}
+use borrow.Author.Tests.{lt-ltb, le-ltb, ltb-true, ltb-false}
+use Rattle.parts.specs.Parts.{indexOf, TextLine, ended, unended, lines}
 use Rattle.parts.proofs.LineEnds.{lines-none, lines-more, lines-last}
-use Rattle.line.specs.declared.Line.{Line}
-use Rattle.line.specs.declared.Line.the-variants.{Message, Signal, Route, IllFormed}
-use Rattle.line.specs.declared.First.{First}
+use Rattle.parts.proofs.Seek.{indexOf-le}
+use Rattle.line.specs.declared.Line.the-variants.{IllFormed}
+use Rattle.line.specs.declared.ReadLine.{ReadLine}
 use Rattle.line.specs.Meaning.{lineMeaning, meaningOf}
-use Rattle.line.specs.First.{illFormed, sized, firstLine}
+use Rattle.line.specs.LineAt.{readLine, firstLine, lineAt}
+use Rattle.line.specs.First.{illFormed}
 
--- the first line of the text that is left, and the rest
-pub record Onward (text : List ℕ) (f : First) : Type 0 where
-  pub rest : List Line
-  pub says : map meaningOf (lines text) ≡ f .line ∷ rest
-  -- where the line is not ill formed, the rest is what the text after it says
-  pub after : (f .line ≡ IllFormed → ⊥) → rest ≡ map meaningOf (lines (drop (f .size) text))
-  pub some : (f .line ≡ IllFormed → ⊥) → 0 < f .size
-  pub within : f .size ≤ length text
+-- what is left of a text at a place is one line, which says what was read, and what is left at the next place
+pub record PassesLine (text : List ℕ) (at : ℕ) (r : ReadLine) : Type 0 where
+  pub first : TextLine
+  pub parted : lines (drop at text) ≡ first ∷ lines (drop (r .next) text)
+  pub says : r .line ≡ meaningOf first
+  pub further : at < r .next
+  pub within : r .next ≤ length text
 
-of-line : (text : List ℕ) (l : Line) (k : ℕ) → k + 1 ≤ length text → map meaningOf (lines text) ≡ l ∷ map meaningOf (lines (drop (k + 1) text)) → Onward text (sized l (k + 1))
-of-line text (Message i) k h e = record { rest = _; says = e; after = λ n. refl; some = λ n. omega arith; within = h }
-of-line text (Signal m s) k h e = record { rest = _; says = e; after = λ n. refl; some = λ n. omega arith; within = h }
-of-line text (Route a i b j) k h e = record { rest = _; says = e; after = λ n. refl; some = λ n. omega arith; within = h }
-of-line text IllFormed k h e = record { rest = _; says = e; after = λ n. absurd (n refl); some = λ n. absurd (n refl); within = omega arith }
+module _ (text : List ℕ) (at : ℕ) where
+  pub passes-line : at < length text → PassesLine text at (lineAt text at)
+  unfolding lineAt firstLine meaningOf
+  passes-line h = by (ltb k (length rest)) refl
+    where
+      rest : List ℕ
+      rest = drop at text
 
-pub onward : (text : List ℕ) → 0 < length text → Onward text (firstLine text)
-unfolding firstLine meaningOf
-onward text p = by (ltb (indexOf 10 text) (length text)) refl
-  where
-    by : (q : Bool) → ltb (indexOf 10 text) (length text) ≡ q
-        → Onward text (cond q (sized (lineMeaning (take (indexOf 10 text) text)) (indexOf 10 text + 1)) illFormed)
-    by true q =
-        let h : indexOf 10 text < length text = ltb-true _ _ q in
-        of-line text (lineMeaning (take (indexOf 10 text) text)) (indexOf 10 text) (omega arith) (ap (map meaningOf) (lines-more text refl h))
-    by false q =
-        record {
-          rest = [];
-          says = ap (map meaningOf) (lines-last text refl (ltb-false _ _ q) p);
-          after = λ n. absurd (n refl);
-          some = λ n. absurd (n refl);
-          within = omega arith;
-        }
+      k : ℕ
+      k = indexOf 10 rest
 
--- a text without bytes has no lines
-pub no-more : (text : List ℕ) (i : ℕ) → length text ≤ i → map meaningOf (lines (drop i text)) ≡ []
-no-more text i h = ap (map meaningOf) (lines-none text i h)
+      left : length rest + at ≡ length text
+      left = omega (arith, length-drop at text)
+
+      first : Bool → ReadLine
+      first q = cond q (readLine (lineMeaning (take k rest)) (k + 1)) (readLine IllFormed (length rest))
+
+      by : (q : Bool) → ltb k (length rest) ≡ q → PassesLine text at (readLine (first q .line) (at + first q .next))
+      by true q =
+          let s : k < length rest = ltb-true _ _ q in
+          record {
+            first = ended (take k rest);
+            parted = lines-more rest refl s ∙ ap (λ (l : List ℕ). ended (take k rest) ∷ lines l) (drop-drop (k + 1) at text);
+            says = refl;
+            further = omega arith;
+            within = omega (arith, left);
+          }
+      by false q =
+          let s : length rest ≤ k = ltb-false _ _ q in
+          record {
+            first = unended rest;
+            parted = lines-last rest refl s (omega (arith, left)) ∙ ap (_∷_ (unended rest)) (sym (lines-none text (at + length rest) (omega (arith, left))));
+            says = refl;
+            further = omega (arith, left);
+            within = omega (arith, left);
+          }
+
+  -- at the text's end or past it nothing is left
+  pub no-line : length text ≤ at → readLine IllFormed at ≡ lineAt text at
+  unfolding lineAt firstLine indexOf
+  no-line h = rw (drop-of-length-le text h, add-zero at)
+
+  -- the first line of what is left
+  module _ {rest : List ℕ} (r : rest ≡ drop at text) (f : ReadLine) (e : f ≡ firstLine rest) where
+    pub first-left : readLine (f .line) (at + f .next) ≡ lineAt text at
+    unfolding lineAt
+    first-left = rw (e, r)
+
+    pub fits : at < length text → at + f .next ≤ length text
+    fits h = omega (arith, passes-line h .within, ap (λ (l : ReadLine). l .next) first-left)
+
+-- an ill-formed first line, by where its newline stands
+module _ (text : List ℕ) {k : ℕ} (e : k ≡ indexOf 10 text) where
+  pub ill-ended : k < length text → readLine IllFormed (k + 1) ≡ illFormed text
+  unfolding firstLine
+  ill-ended h = rw (e, lt-ltb (indexOf 10 text) (length text) (rw e at h))
+
+  pub ill-unended : length text ≤ k → readLine IllFormed k ≡ illFormed text
+  unfolding firstLine
+  ill-unended h =
+      let z : k ≡ length text = omega (arith, e, indexOf-le 10 text) in
+      rw (le-ltb (indexOf 10 text) (length text) (rw e at h), z)

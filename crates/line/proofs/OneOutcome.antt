@@ -1,4 +1,4 @@
--- `read_first`'s contract allows one outcome and no other. Assumes nothing.
+-- `line_at`'s contract allows one outcome and no other. Assumes nothing.
 use mathlib.Core.Path.{refl}
 use mathlib.Core.List.{List}
 use Prim.Native.Nat.{ℕ}
@@ -13,10 +13,10 @@ use contract.Monad.{Fun}
 use denote.Ref.{RefT, now}
 use denote.Triple.Clauses.{AtExit}
 use Rattle.only.specs.Only.{Only, only-this}
-use Rattle.line.specs.First.{firstLine}
-use Rattle.line.proofs.First as T
-use Rattle.line.proofs.read_first as read-first
+use Rattle.line.specs.LineAt.{lineAt}
+use Rattle.line.proofs.ReadLine as T
+use Rattle.line.proofs.line_at as line-at
 
 module _ {M : Type 1} (𝓤 : URA M) (H : Heap 𝓤) (A : Atoms 𝓤) (mem : Memory → SProp 𝓤) (run : Routine → Fun 𝓤) (κs : Lfts 1) (text : RefT (List ℕ)) where
-  pub one-read-first : (e : AtExit read-first.ended κs) → Only 𝓤 (λ r. read-first.clauses 𝓤 H A mem run κs (text, tt) .ensures tt r e)
-  one-read-first e = only-this 𝓤 _ (T.the-row .coded) (firstLine (now text)) (λ r. refl)
+  pub one-line-at : (at : ℕ) (e : AtExit line-at.ended κs) → Only 𝓤 (λ r. line-at.clauses 𝓤 H A mem run κs (text, (at, tt)) .ensures tt r e)
+  one-line-at at e = only-this 𝓤 _ (T.the-row .coded) (lineAt (now text) at) (λ r. refl)

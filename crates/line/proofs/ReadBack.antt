@@ -6,7 +6,7 @@ use native.Mathlib.Omega.{arith}
 use Rattle.numerals.proofs.Identifiers.{identifier-read}
 use Rattle.numerals.proofs.Decimals.{decimal-read}
 use Rattle.parts.specs.Parts.{fields}
-use Rattle.parts.specs.Joined.{Free, none, more, Frees, no-part, part}
+use Rattle.parts.specs.Joined.{Lacks, none, more, AllLack, no-part, part}
 use Rattle.parts.proofs.Joins.{split-join, free-join}
 use Rattle.line.specs.declared.Line.{Line}
 use Rattle.line.specs.declared.Line.the-variants.{Message, Signal, Route, IllFormed}
@@ -15,10 +15,10 @@ use Rattle.line.specs.Written.{fieldsOf, lineText, Writable}
 use Rattle.fields.proofs.Tabless.{identifier-free, decimal-free}
 
 -- no field of a line has a byte below the digits
-kind-free : (s b : ℕ) → s < 48 → 48 ≤ b → Free s (b ∷ [])
+kind-free : (s b : ℕ) → s < 48 → 48 ≤ b → Lacks s (b ∷ [])
 kind-free s b h l = let other : b ≡ s → ⊥ = λ e. omega arith in more other none
 
-fields-free : (s : ℕ) → s < 48 → (l : Line) → Frees s (fieldsOf l)
+fields-free : (s : ℕ) → s < 48 → (l : Line) → AllLack s (fieldsOf l)
 unfolding fieldsOf
 fields-free s h (Message i) = part (kind-free s 77 h (omega arith)) (part (identifier-free s i h) no-part)
 fields-free s h (Signal n t) =
@@ -29,7 +29,7 @@ fields-free s h (Route a i b j) =
 fields-free s h IllFormed = no-part
 
 -- so a line's text has no newline, and its tabs part its fields
-pub text-free : (l : Line) → Free 10 (lineText l)
+pub text-free : (l : Line) → Lacks 10 (lineText l)
 unfolding lineText
 text-free l = free-join 10 9 (λ e. omega arith) (fieldsOf l) (fields-free 10 (omega arith) l)
 

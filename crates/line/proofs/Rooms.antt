@@ -19,9 +19,9 @@ use Rattle.fields.proofs.Tabless.{identifier-free, decimal-free}
 use Rattle.fields.proofs.Written.{Field, found-field, not-nothing, after-field}
 use Rattle.line.specs.declared.Line.{Line}
 use Rattle.line.specs.declared.Line.the-variants.{Message, Signal, Route}
-use Rattle.line.specs.declared.First.{First}
 use Rattle.line.specs.Written.{fieldsOf, lineText, Writable}
-use Rattle.line.specs.First.{OfKind, illFormed, sized, firstLine}
+use Rattle.line.specs.LineAt.{readLine, firstLine}
+use Rattle.line.specs.First.{OfKind, illFormed}
 use Rattle.line.proofs.Starts.{starts-first}
 use Rattle.line.proofs.ByKind.{RouteAt, message-or, signal-or, route-or}
 
@@ -63,7 +63,7 @@ whole (a ∷ []) k = absurd (omega (arith, k .long))
 whole (a ∷ b ∷ t) {letter} k = ap (λ (x : ℕ). x ∷ b ∷ t) (k .kind) ∙ ap (λ (x : ℕ). letter ∷ x ∷ t) (k .parted)
 
 -- a text that is refused, for nothing that was looked for is there
-refuse : {A : Type 0} (text : List ℕ) → (illFormed ≡ firstLine text) ⊎ A → (A → illFormed ≡ firstLine text) → illFormed ≡ firstLine text
+refuse : {A : Type 0} (text : List ℕ) → (illFormed text ≡ firstLine text) ⊎ A → (A → illFormed text ≡ firstLine text) → illFormed text ≡ firstLine text
 refuse text (inl e) f = e
 refuse text (inr a) f = f a
 
@@ -90,28 +90,28 @@ low-newline = omega arith
 
 module _ (text : List ℕ) {fields : List ℕ} (y : fields ≡ drop 2 text) where
   -- the numbers of a line, and the text that starts with it
-  first : (l : Line) (rest : List ℕ) {n : ℕ} → Writable l → text ≡ lineText l ++ 10 ∷ rest → length (lineText l) + 1 ≡ n → sized l n ≡ firstLine text
-  first l rest w e q = ap (sized l) (sym q) ∙ sym (starts-first text l rest (record { writable = w; same = e }))
+  first : (l : Line) (rest : List ℕ) {n : ℕ} → Writable l → text ≡ lineText l ++ 10 ∷ rest → length (lineText l) + 1 ≡ n → readLine l n ≡ firstLine text
+  first l rest w e q = ap (readLine l) (sym q) ∙ sym (starts-first text l rest (record { writable = w; same = e }))
 
   begins : {letter : ℕ} → OfKind letter text → text ≡ letter ∷ 9 ∷ fields
   begins k = whole text k ∙ rw y
 
   module _ (kind : OfKind 77 text) {f : Front} (e : f ≡ numberBefore identifier 10 fields) where
-    pub message-ill : f ≡ Nothing → illFormed ≡ firstLine text
+    pub message-ill : f ≡ Nothing → illFormed text ≡ firstLine text
     message-ill g = refuse text (message-or text fields y kind) (λ m. no-identifier 10 low-newline (m .id) (m .rest) (m .small) (m .same) (sym g ∙ e))
 
-    pub message-well : {n k : ℕ} → f ≡ Found n k → _≡_ {A = First} (record { line = Message n; size = 11 }) (firstLine text)
+    pub message-well : {n k : ℕ} → f ≡ Found n k → readLine (Message n) 11 ≡ firstLine text
     unfolding lineText fieldsOf join
     message-well {n} {k} g =
         let r : Read identifierText 4294967296 10 fields n k (drop (k + 1) fields) = identifier-found 10 fields n k _ e g refl in
         first (Message n) (drop (k + 1) fields) (r .small) (begins kind ∙ ap (λ (l : List ℕ). 77 ∷ 9 ∷ l) (r .same)) (omega (arith, length-identifier n))
 
   module _ (kind : OfKind 83 text) {f : Front} (e : f ≡ numberBefore decimal 9 fields) where
-    pub signal-ill : f ≡ Nothing → illFormed ≡ firstLine text
+    pub signal-ill : f ≡ Nothing → illFormed text ≡ firstLine text
     signal-ill g = refuse text (signal-or text fields y kind) (λ s. no-decimal 9 low-tab (s .number) (decimalText (s .start) ++ 10 ∷ s .rest) (s .small .0) (s .same) (sym g ∙ e))
 
     module _ {n k : ℕ} (g : f ≡ Found n k) {last : List ℕ} (z : last ≡ drop (k + 1) fields) {f′ : Front} (e′ : f′ ≡ numberBefore decimal 10 last) where
-      pub start-ill : f′ ≡ Nothing → illFormed ≡ firstLine text
+      pub start-ill : f′ ≡ Nothing → illFormed text ≡ firstLine text
       start-ill g′ =
           refuse text (signal-or text fields y kind)
           (λ s. no-decimal 10 low-newline (s .start) (s .rest) (s .small .1)
@@ -127,7 +127,7 @@ module _ (text : List ℕ) {fields : List ℕ} (y : fields ≡ drop 2 text) wher
         pub signal-few : k + m + 4 ≤ 14
         signal-few = omega (arith, number-read .size, length-decimal n (number-read .small), start-read .size, length-decimal s (start-read .small))
 
-        pub signal-well : _≡_ {A = First} (record { line = Signal n s; size = k + m + 4 }) (firstLine text)
+        pub signal-well : readLine (Signal n s) (k + m + 4) ≡ firstLine text
         unfolding lineText fieldsOf join
         signal-well =
             first (Signal n s) (drop (m + 1) last) (number-read .small, start-read .small)
@@ -135,28 +135,28 @@ module _ (text : List ℕ) {fields : List ℕ} (y : fields ≡ drop 2 text) wher
             (simp length-append (omega (arith, number-read .size, start-read .size)))
 
   module _ (kind : OfKind 82 text) {f : Front} (e : f ≡ numberBefore decimal 9 fields) where
-    pub from-bus-ill : f ≡ Nothing → illFormed ≡ firstLine text
+    pub from-bus-ill : f ≡ Nothing → illFormed text ≡ firstLine text
     from-bus-ill g = refuse text (route-or text fields y kind) (λ s. no-decimal 9 low-tab (s .a) _ (s .small .0 .0) (s .same) (sym g ∙ e))
 
     module _ {a k : ℕ} (g : f ≡ Found a k) {ids : List ℕ} (z : ids ≡ drop (k + 1) fields) {f′ : Front} (e′ : f′ ≡ numberBefore identifier 9 ids) where
       at-id : (s : RouteAt fields) → ids ≡ identifierText (s .i) ++ 9 ∷ (decimalText (s .b) ++ 9 ∷ (identifierText (s .j) ++ 10 ∷ s .rest))
       at-id s = past-decimal 9 low-tab (s .a) _ g z (s .small .0 .0) (s .same) e
 
-      pub from-id-ill : f′ ≡ Nothing → illFormed ≡ firstLine text
+      pub from-id-ill : f′ ≡ Nothing → illFormed text ≡ firstLine text
       from-id-ill g′ = refuse text (route-or text fields y kind) (λ s. no-identifier 9 low-tab (s .i) _ (s .small .0 .1) (at-id s) (sym g′ ∙ e′))
 
       module _ {i p : ℕ} (g′ : f′ ≡ Found i p) {to : List ℕ} (z′ : to ≡ drop (p + 1) ids) {f″ : Front} (e″ : f″ ≡ numberBefore decimal 9 to) where
         at-bus : (s : RouteAt fields) → to ≡ decimalText (s .b) ++ 9 ∷ (identifierText (s .j) ++ 10 ∷ s .rest)
         at-bus s = past-identifier 9 low-tab (s .i) _ g′ z′ (s .small .0 .1) (at-id s) e′
 
-        pub to-bus-ill : f″ ≡ Nothing → illFormed ≡ firstLine text
+        pub to-bus-ill : f″ ≡ Nothing → illFormed text ≡ firstLine text
         to-bus-ill g″ = refuse text (route-or text fields y kind) (λ s. no-decimal 9 low-tab (s .b) _ (s .small .1 .0) (at-bus s) (sym g″ ∙ e″))
 
         module _ {b m : ℕ} (g″ : f″ ≡ Found b m) {last : List ℕ} (z″ : last ≡ drop (m + 1) to) {f‴ : Front} (e‴ : f‴ ≡ numberBefore identifier 10 last) where
           at-last : (s : RouteAt fields) → last ≡ identifierText (s .j) ++ 10 ∷ s .rest
           at-last s = past-decimal 9 low-tab (s .b) _ g″ z″ (s .small .1 .0) (at-bus s) e″
 
-          pub to-id-ill : f‴ ≡ Nothing → illFormed ≡ firstLine text
+          pub to-id-ill : f‴ ≡ Nothing → illFormed text ≡ firstLine text
           to-id-ill g‴ = refuse text (route-or text fields y kind) (λ s. no-identifier 10 low-newline (s .j) _ (s .small .1 .1) (at-last s) (sym g‴ ∙ e‴))
 
           module _ {j q : ℕ} (g‴ : f‴ ≡ Found j q) where
@@ -180,7 +180,7 @@ module _ (text : List ℕ) {fields : List ℕ} (y : fields ≡ drop 2 text) wher
             tail : fields ≡ decimalText a ++ 9 ∷ (identifierText i ++ 9 ∷ (decimalText b ++ 9 ∷ (identifierText j ++ 10 ∷ drop (q + 1) last)))
             tail = bus-read .same ∙ ap (λ (l : List ℕ). decimalText a ++ 9 ∷ l) (id-read .same ∙ ap (λ (l : List ℕ). identifierText i ++ 9 ∷ l) (to-read .same ∙ ap (λ (l : List ℕ). decimalText b ++ 9 ∷ l) (last-read .same)))
 
-            pub route-well : _≡_ {A = First} (record { line = Route a i b j; size = k + p + m + q + 6 }) (firstLine text)
+            pub route-well : readLine (Route a i b j) (k + p + m + q + 6) ≡ firstLine text
             unfolding lineText fieldsOf join
             route-well =
                 first (Route a i b j) (drop (q + 1) last) ((bus-read .small, id-read .small), (to-read .small, last-read .small))

@@ -16,7 +16,9 @@ use Rattle.line.specs.declared.Line.{Line}
 use Rattle.line.specs.declared.Line.the-variants.{IllFormed}
 use Rattle.line.specs.Meaning.{lineMeaning}
 use Rattle.line.specs.Written.{lineText, Writable}
-use Rattle.line.specs.First.{illFormed, sized, firstLine}
+use Rattle.line.specs.declared.ReadLine.{ReadLine}
+use Rattle.line.specs.LineAt.{readLine, firstLine}
+use Rattle.line.specs.First.{illFormed}
 use Rattle.line.proofs.ReadBack.{read-back, text-free}
 use Rattle.line.proofs.Canonical.{Canonical, canonical}
 
@@ -24,7 +26,7 @@ pub record Starts (text : List ℕ) (l : Line) (rest : List ℕ) : Type 0 where
   pub writable : Writable l
   pub same : text ≡ lineText l ++ 10 ∷ rest
 
-pub starts-first : (text : List ℕ) (l : Line) (rest : List ℕ) → Starts text l rest → firstLine text ≡ sized l (length (lineText l) + 1)
+pub starts-first : (text : List ℕ) (l : Line) (rest : List ℕ) → Starts text l rest → firstLine text ≡ readLine l (length (lineText l) + 1)
 unfolding firstLine
 starts-first text l rest s =
     let h : length (lineText l) < length (lineText l ++ 10 ∷ rest) = simp length-append (omega arith) in
@@ -36,12 +38,12 @@ pub record Started (text : List ℕ) : Type 0 where
   pub rest : List ℕ
   pub starts : Starts text line rest
 
-pub first-starts : (text : List ℕ) → (illFormed ≡ firstLine text) ⊎ Started text
+pub first-starts : (text : List ℕ) → (illFormed text ≡ firstLine text) ⊎ Started text
 unfolding firstLine
 first-starts text = by (ltb (indexOf 10 text) (length text)) refl
   where
     of-line : (p : List ℕ) → text ≡ p ++ 10 ∷ drop (suc (indexOf 10 text)) text → (lineMeaning p ≡ IllFormed) ⊎ Canonical p (lineMeaning p)
-        → (illFormed ≡ sized (lineMeaning p) (indexOf 10 text + 1)) ⊎ Started text
+        → (_≡_ {A = ReadLine} (readLine IllFormed (indexOf 10 text + 1)) (readLine (lineMeaning p) (indexOf 10 text + 1))) ⊎ Started text
     of-line p e (inl i) = inl (rw i)
     of-line p e (inr c) =
         inr
@@ -51,8 +53,10 @@ first-starts text = by (ltb (indexOf 10 text) (length text)) refl
           starts = record { writable = c .writable; same = e ∙ ap (λ (l : List ℕ). l ++ 10 ∷ drop (suc (indexOf 10 text)) text) (c .text) };
         })
 
-    by : (q : Bool) → ltb (indexOf 10 text) (length text) ≡ q
-        → (illFormed ≡ cond q (sized (lineMeaning (take (indexOf 10 text) text)) (indexOf 10 text + 1)) illFormed) ⊎ Started text
+    first : Bool → ReadLine
+    first q = cond q (readLine (lineMeaning (take (indexOf 10 text) text)) (indexOf 10 text + 1)) (readLine IllFormed (length text))
+
+    by : (q : Bool) → ltb (indexOf 10 text) (length text) ≡ q → (readLine IllFormed (first q .next) ≡ first q) ⊎ Started text
     by true q =
         let h : indexOf 10 text < length text = ltb-true _ _ q in
         of-line (take (indexOf 10 text) text) (split-at text (indexOf 10 text) 0 h ∙ rw (index-at 10 text h)) (canonical (take (indexOf 10 text) text))

@@ -4,5 +4,11 @@ pub mod Prints
 pub mod Fits
 pub mod Running
 pub mod Sizes
+pub mod WholeLines
+pub mod Parted
+pub mod Together
+pub mod Carried
+pub mod Longest
+pub mod GoesOn
 pub mod AsRead
 pub mod OneOutcome

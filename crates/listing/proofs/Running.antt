@@ -21,7 +21,7 @@ use Rattle.listing.specs.declared.Fitted.the-variants.{Next, NoRoom}
 use Rattle.listing.specs.declared.Listed.{Listed}
 use Rattle.listing.specs.declared.Listed.the-variants.{Lines}
 use Rattle.listing.specs.Printout.{printout}
-use Rattle.listing.specs.Listing.{Run, nothing, lineThen, run, ofRun}
+use Rattle.listing.specs.Listing.{ListedLines, noLines, lineThen, linesThatFit, listedAnswer}
 use Rattle.listing.specs.Working.{fitted}
 
 -- ---- what a call that may not fit says
@@ -60,11 +60,11 @@ module _ (out : List ℕ) (at : ℕ) (text : List ℕ) {new : List ℕ} {f : Fit
 
 -- ---- the loop
 
-abbrev pub whole : List Message → List ℕ → List ℕ → Run
-whole ms text old = run ms (length old) (lines text)
+abbrev pub whole : List Message → List ℕ → List ℕ → ListedLines
+whole ms text old = linesThatFit ms (length old) (lines text)
 
-abbrev pub left : List Message → List ℕ → List ℕ → ℕ → ℕ → Run
-left ms text old used wrote = run ms (length old - wrote) (lines (drop used text))
+abbrev pub left : List Message → List ℕ → List ℕ → ℕ → ℕ → ListedLines
+left ms text old used wrote = linesThatFit ms (length old - wrote) (lines (drop used text))
 
 pub record Ran (ms : List Message) (text old out : List ℕ) (used wrote : ℕ) : Type 0 where
   pub bytes : used + left ms text old used wrote .used ≡ whole ms text old .used
@@ -76,11 +76,11 @@ pub record Ran (ms : List Message) (text old out : List ℕ) (used wrote : ℕ) 
 
 pub none-ran : (ms : List Message) (text old : List ℕ) → Ran ms text old old 0 0
 none-ran ms text old =
-    let e : left ms text old 0 0 ≡ whole ms text old = ap (λ (n : ℕ). run ms n (lines text)) (omega arith) in
+    let e : left ms text old 0 0 ≡ whole ms text old = ap (λ (n : ℕ). linesThatFit ms n (lines text)) (omega arith) in
     record {
-      bytes = omega (arith, ap (λ (r : Run). r .used) e);
-      there = ap (λ (r : Run). sets old 0 (r .text)) e;
-      end = omega (arith, ap (λ (r : Run). length (r .text)) e);
+      bytes = omega (arith, ap (λ (r : ListedLines). r .used) e);
+      there = ap (λ (r : ListedLines). sets old 0 (r .text)) e;
+      end = omega (arith, ap (λ (r : ListedLines). length (r .text)) e);
       size = refl;
       inside = omega arith;
       within = omega arith;
@@ -88,27 +88,27 @@ none-ran ms text old =
 
 module _ {ms : List Message} {text old out : List ℕ} {used wrote : ℕ} (r : Ran ms text old out used wrote) where
   -- nothing more is listed
-  finished : left ms text old used wrote ≡ nothing → _≡_ {A = Listed × List ℕ} (Lines used wrote, out) (ofRun (whole ms text old) old)
+  finished : left ms text old used wrote ≡ noLines → _≡_ {A = Listed × List ℕ} (Lines used wrote, out) (listedAnswer (whole ms text old) old)
   finished e =
-      let bytes : used ≡ whole ms text old .used = omega (arith, ap (λ (x : Run). x .used) e, r .bytes) in
-      let end : wrote ≡ length (whole ms text old .text) = omega (arith, ap (λ (x : Run). length (x .text)) e, r .end) in
-      let there : out ≡ sets old 0 (whole ms text old .text) = ap (λ (x : Run). sets out wrote (x .text)) (sym e) ∙ r .there in
+      let bytes : used ≡ whole ms text old .used = omega (arith, ap (λ (x : ListedLines). x .used) e, r .bytes) in
+      let end : wrote ≡ length (whole ms text old .text) = omega (arith, ap (λ (x : ListedLines). length (x .text)) e, r .end) in
+      let there : out ≡ sets old 0 (whole ms text old .text) = ap (λ (x : ListedLines). sets out wrote (x .text)) (sym e) ∙ r .there in
       let stands : out ≡ written (whole ms text old .text) old =
       there ∙ sets-eq (whole ms text old .text) old 0 (omega (arith, r .inside)) ∙ ap (λ (n : ℕ). whole ms text old .text ++ drop n old) (zero-add (length (whole ms text old .text))) in
       ap (λ (n : ℕ). (Lines n wrote, out)) bytes
       ∙ ap (λ (n : ℕ). (Lines (whole ms text old .used) n, out)) end
       ∙ ap (λ (l : List ℕ). (Lines (whole ms text old .used) (length (whole ms text old .text)), l)) stands
 
-  pub all-ran : length text ≤ used → _≡_ {A = Listed × List ℕ} (Lines used wrote, out) (ofRun (whole ms text old) old)
-  unfolding run
-  all-ran h = finished (ap (run ms (length old - wrote)) (lines-none text used h))
+  pub all-ran : length text ≤ used → _≡_ {A = Listed × List ℕ} (Lines used wrote, out) (listedAnswer (whole ms text old) old)
+  unfolding linesThatFit
+  all-ran h = finished (ap (linesThatFit ms (length old - wrote)) (lines-none text used h))
 
   module _ (h : used < length text) {rest : List ℕ} (x : rest ≡ drop used text) {k : ℕ} (e : k ≡ indexOf 10 rest) where
-    pub no-end : length rest ≤ k → _≡_ {A = Listed × List ℕ} (Lines used wrote, out) (ofRun (whole ms text old) old)
-    unfolding run
+    pub no-end : length rest ≤ k → _≡_ {A = Listed × List ℕ} (Lines used wrote, out) (listedAnswer (whole ms text old) old)
+    unfolding linesThatFit
     no-end t =
         finished
-        (ap (run ms (length old - wrote))
+        (ap (linesThatFit ms (length old - wrote))
         (ap lines (sym x) ∙ lines-last rest e t (omega (arith, ap length x, length-drop used text))))
 
     module _ (t : k < length rest) {line : List ℕ} (y : line ≡ take k rest) where
@@ -120,11 +120,11 @@ module _ {ms : List Message} {text old out : List ℕ} {used wrote : ℕ} (r : R
           ∙ ap (λ (l : List ℕ). ended line ∷ lines l) (drop-drop (k + 1) used text)
 
       -- the line does not fit
-      pub no-room : {new : List ℕ} → Stayed out wrote (printout ms line) new → _≡_ {A = Listed × List ℕ} (Lines used wrote, new) (ofRun (whole ms text old) old)
-      unfolding run
+      pub no-room : {new : List ℕ} → Stayed out wrote (printout ms line) new → _≡_ {A = Listed × List ℕ} (Lines used wrote, new) (listedAnswer (whole ms text old) old)
+      unfolding linesThatFit
       no-room {new} s =
           ap (λ (l : List ℕ). (Lines used wrote, l)) (s .same)
-          ∙ finished (ap (run ms (length old - wrote)) next-line ∙ rw (lt-leb (length (printout ms line)) (length old - wrote) (omega (arith, s .longer, r .size))))
+          ∙ finished (ap (linesThatFit ms (length old - wrote)) next-line ∙ rw (lt-leb (length (printout ms line)) (length old - wrote) (omega (arith, s .longer, r .size))))
 
       -- the line fits, and is listed
       module _ {new : List ℕ} {next : ℕ} (w : Went out wrote (printout ms line) new next) where
@@ -132,25 +132,25 @@ module _ {ms : List Message} {text old out : List ℕ} {used wrote : ℕ} (r : R
         room = omega (arith, w .put .now-at)
 
         onward : left ms text old used wrote ≡ lineThen line (printout ms line) (left ms text old (used + (k + 1)) next)
-        unfolding run
+        unfolding linesThatFit
         onward =
-            ap (run ms (length old - wrote)) next-line
+            ap (linesThatFit ms (length old - wrote)) next-line
             ∙ rw (le-leb (length (printout ms line)) (length old - wrote) (omega (arith, w .fits, r .size))) refl
-            ∙ ap (λ (n : ℕ). lineThen line (printout ms line) (run ms n (lines (drop (used + (k + 1)) text)))) room
+            ∙ ap (λ (n : ℕ). lineThen line (printout ms line) (linesThatFit ms n (lines (drop (used + (k + 1)) text)))) room
 
         pub line-ran : Ran ms text old new (used + (k + 1)) next
         line-ran =
             let after = left ms text old (used + (k + 1)) next in
             let long : length line ≡ k = ap length y ∙ length-take-le k rest (omega arith) in
             record {
-              bytes = omega (arith, ap (λ (q : Run). q .used) onward, r .bytes);
+              bytes = omega (arith, ap (λ (q : ListedLines). q .used) onward, r .bytes);
               there =
                   ap (λ (l : List ℕ). sets l next (after .text)) (w .put .now-there)
                   ∙ ap (λ (n : ℕ). sets (sets out wrote (printout ms line)) n (after .text)) (w .put .now-at)
                   ∙ sets-append out wrote (printout ms line) (after .text)
-                  ∙ ap (λ (q : Run). sets out wrote (q .text)) (sym onward)
+                  ∙ ap (λ (q : ListedLines). sets out wrote (q .text)) (sym onward)
                   ∙ r .there;
-              end = omega (arith, w .put .now-at, ap (λ (q : Run). length (q .text)) onward, length-append (printout ms line) (after .text), r .end);
+              end = omega (arith, w .put .now-at, ap (λ (q : ListedLines). length (q .text)) onward, length-append (printout ms line) (after .text), r .end);
               size = put-length (w .put) ∙ r .size;
               inside = omega (arith, w .put .now-at, w .fits, r .size, r .inside);
               within = omega (arith, ap length x, length-drop used text);

@@ -7,9 +7,9 @@ use Prim.Native.Nat.{ℕ}
 use Rattle.books.specs.Book.{Message}
 use Rattle.framing.specs.declared.Reading.{Reading}
 use Rattle.framing.specs.declared.Reading.the-variants.{Read, NotABook, NotEightBytes, UnknownIdentifier, WrongChecksum, TooLittleRoom}
-use Rattle.framing.specs.Messages.{messageOf}
+use Rattle.framing.specs.Messages.{messageWith}
 use Rattle.framing.specs.Reading.{Slices, readings, readByMessages}
-use Rattle.listing.specs.Printout.{signalLines, frameListing}
+use Rattle.listing.specs.Printout.{readingLines, frameListing}
 
 -- the refusals of a frame; room is not asked in a listing
 abbrev pub Refuses : Reading → Type 0
@@ -23,6 +23,6 @@ Refuses TooLittleRoom = ⊥
 -- a frame that reading gives readings of
 pub record ListedAsRead (ms : List Message) (identifier : ℕ) (bytes : List ℕ) (lent : Slices) : Type 0 where
   pub message : Message
-  pub found : messageOf identifier ms ≡ some message
-  pub printed : frameListing ms identifier bytes ≡ signalLines identifier bytes (message .placements)
+  pub found : messageWith identifier ms ≡ some message
+  pub printed : frameListing ms identifier bytes ≡ readingLines identifier bytes (message .placements)
   pub read : readByMessages ms identifier bytes lent .1 ≡ readings bytes (message .placements) lent

@@ -18,32 +18,35 @@ abbrev pub listedNumber : Listed → ℕ
 listedNumber (Lines used wrote) = 0
 listedNumber NotABook = 12
 
--- how many bytes of a buffer are listed, and what they print
-pub record Run : Type 0 where
+-- how many bytes of a text are listed, and what they print
+pub record ListedLines : Type 0 where
   pub used : ℕ
   pub text : List ℕ
 
-abbrev pub nothing : Run
-nothing = record { used = 0; text = [] }
+abbrev pub noLines : ListedLines
+noLines = record { used = 0; text = [] }
 
 -- a whole line, which its newline ends, and the lines after it
-abbrev pub lineThen : List ℕ → List ℕ → Run → Run
+abbrev pub lineThen : List ℕ → List ℕ → ListedLines → ListedLines
 lineThen line text rest = record { used = suc (length line) + rest .used; text = text ++ rest .text }
 
 -- the lines from the front that fit the room
-unfoldable pub run : List Message → ℕ → List TextLine → Run
-run ms room [] = nothing
-run ms room (unended l ∷ ls) = nothing
-run ms room (ended l ∷ ls) =
+unfoldable pub linesThatFit : List Message → ℕ → List TextLine → ListedLines
+linesThatFit ms room [] = noLines
+linesThatFit ms room (unended l ∷ ls) = noLines
+linesThatFit ms room (ended l ∷ ls) =
     cond (leb (length (printout ms l)) room)
-    (lineThen l (printout ms l) (run ms (room - length (printout ms l)) ls))
-    nothing
+    (lineThen l (printout ms l) (linesThatFit ms (room - length (printout ms l)) ls))
+    noLines
 
 -- the answer, and what stands in the lent room
-abbrev pub ofRun : Run → List ℕ → Listed × List ℕ
-ofRun r lent = (Lines (r .used) (length (r .text)), written (r .text) lent)
+abbrev pub listedAnswer : ListedLines → List ℕ → Listed × List ℕ
+listedAnswer listed lent = (Lines (listed .used) (length (listed .text)), written (listed .text) lent)
 
--- a buffer of frame lines listed by the words of a book into lent room
+-- a buffer of frame lines listed by messages into lent room
+abbrev pub listingBy : List Message → List ℕ → List ℕ → Listed × List ℕ
+listingBy ms text lent = listedAnswer (linesThatFit ms (length lent) (lines text)) lent
+
+-- and by the words of a book
 unfoldable pub listing : List ℕ → List ℕ → List ℕ → Listed × List ℕ
-listing words text lent =
-    cond (messagesTaken words) (ofRun (run (messagesOf words) (length lent) (lines text)) lent) (NotABook, lent)
+listing words text lent = cond (messagesTaken words) (listingBy (messagesOf words) text lent) (NotABook, lent)

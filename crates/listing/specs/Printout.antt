@@ -8,38 +8,38 @@ use lib.ListN.{length}
 use Rattle.bits.specs.Frame.{frameBytes}
 use Rattle.books.specs.Book.{Placement, Message}
 use Rattle.frame_lines.specs.declared.FrameLine.the-variants.{NotEightBytes}
-use Rattle.frame_lines.specs.Meaning.{Said, frame, illFormed, frameLineSays, refusal}
+use Rattle.frame_lines.specs.Meaning.{FrameMeaning, frame, illFormed, frameLineSays, frameLineNumber}
 use Rattle.framing.specs.declared.Reading.the-variants.{UnknownIdentifier, WrongChecksum}
-use Rattle.framing.specs.Messages.{messageOf, classIn}
+use Rattle.framing.specs.Messages.{messageWith, placedClass}
 use Rattle.framing.specs.Reading.{readingNumber, checksumHolds}
-use Rattle.signal_lines.specs.Printed.{signalLine, refusedLine, illFormedLine}
+use Rattle.signal_lines.specs.Printed.{readingLine, refusedFrameLine, illFormedLine}
 
 -- a line for each signal, in the order of the S lines
-unfoldable pub signalLines : ℕ → List ℕ → List Placement → List ℕ
-signalLines identifier bytes [] = []
-signalLines identifier bytes (p ∷ ps) =
-    signalLine identifier (p .number) (classIn bytes p) ++ signalLines identifier bytes ps
+unfoldable pub readingLines : ℕ → List ℕ → List Placement → List ℕ
+readingLines identifier bytes [] = []
+readingLines identifier bytes (p ∷ ps) =
+    readingLine identifier (p .number) (placedClass bytes p) ++ readingLines identifier bytes ps
 
 -- a frame of 8 bytes, by its message: refusals 22 and 23 as in reading
-unfoldable pub messageLines : ℕ → List ℕ → Option Message → List ℕ
-messageLines identifier bytes none = refusedLine identifier (readingNumber UnknownIdentifier)
-messageLines identifier bytes (some m) =
+unfoldable pub messageListing : ℕ → List ℕ → Option Message → List ℕ
+messageListing identifier bytes none = refusedFrameLine identifier (readingNumber UnknownIdentifier)
+messageListing identifier bytes (some m) =
     cond (checksumHolds m bytes)
-    (signalLines identifier bytes (m .placements))
-    (refusedLine identifier (readingNumber WrongChecksum))
+    (readingLines identifier bytes (m .placements))
+    (refusedFrameLine identifier (readingNumber WrongChecksum))
 
 -- a frame of any length: the line's own refusal, 21, comes first
 unfoldable pub frameListing : List Message → ℕ → List ℕ → List ℕ
 frameListing ms identifier bytes =
     cond (eqb (length bytes) frameBytes)
-    (messageLines identifier bytes (messageOf identifier ms))
-    (refusedLine identifier (refusal (NotEightBytes identifier)))
+    (messageListing identifier bytes (messageWith identifier ms))
+    (refusedFrameLine identifier (frameLineNumber (NotEightBytes identifier)))
 
 -- what a line says is printed
-abbrev pub printed : List Message → Said → List ℕ
-printed ms (frame identifier bytes) = frameListing ms identifier bytes
-printed ms illFormed = illFormedLine
+abbrev pub printoutOf : List Message → FrameMeaning → List ℕ
+printoutOf ms (frame identifier bytes) = frameListing ms identifier bytes
+printoutOf ms illFormed = illFormedLine
 
 -- what a frame line, without its newline, prints
 unfoldable pub printout : List Message → List ℕ → List ℕ
-printout ms line = printed ms (frameLineSays line)
+printout ms line = printoutOf ms (frameLineSays line)

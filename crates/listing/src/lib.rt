@@ -9,10 +9,8 @@ ghost use mathlib.Core.Path.{_≡_};
 ghost use mathlib.Core.Bool.{true};
 ghost use mathlib.Core.List.{List};
 ghost use Prim.Native.Nat.{ℕ};
-ghost use lib.ListN.{length};
 ghost use Rattle.books.specs.Words.{messagesOf, messagesTaken};
-ghost use Rattle.parts.specs.Parts.{lines};
-ghost use Rattle.listing.specs.Listing.{run, ofRun, listing};
+ghost use Rattle.listing.specs.Listing.{listingBy, listing};
 use line::list_line;
 use parts::NEWLINE;
 use parts::find;
@@ -38,7 +36,7 @@ pub enum Fitted {
 // The whole lines from the front that fit, by a taken book.
 fn list_lines(book: &[u32; BOOK_WORDS], text: &[u8], out: &mut [u8]) -> Listed
     requires { ⌜ messagesTaken (now book) ≡ true ⌝ }
-    ensures { λ r. ⌜ _≡_ {A = Listed × List ℕ} (r, now (out .exit)) (ofRun (run (messagesOf (now (book .entry))) (length (now (out .entry))) (lines (now (text .entry)))) (now (out .entry))) ⌝ }
+    ensures { λ r. ⌜ _≡_ {A = Listed × List ℕ} (r, now (out .exit)) (listingBy (messagesOf (now (book .entry))) (now (text .entry)) (now (out .entry))) ⌝ }
 {
     let mut used: usize = 0;
     let mut written: usize = 0;

@@ -1,15 +1,11 @@
 // One frame line, printed where its printout fits what is left of the room.
 ghost use mathlib.Core.Path.{_≡_};
 ghost use mathlib.Core.Bool.{true};
-ghost use mathlib.Core.List.{List};
-ghost use Prim.Native.Nat.{ℕ, _≤_};
+ghost use Prim.Native.Nat.{_≤_};
 ghost use lib.ListN.{length};
-ghost use Rattle.bits.specs.Word.{bytesOf};
 ghost use Rattle.books.specs.Words.{messagesOf, messagesTaken};
-ghost use Rattle.framing.specs.Messages.{messageOf};
-ghost use Rattle.listing.specs.declared.Fitted.{Fitted};
-ghost use Rattle.listing.specs.Printout.{messageLines, printout};
-ghost use Rattle.listing.specs.Working.{fitted};
+ghost use Rattle.listing.specs.Printout.{printout};
+ghost use Rattle.listing.specs.Working.{wordListing, PutIfFits};
 use crate::Fitted;
 use crate::message::list_message;
 use crate::room::list_ill_formed;
@@ -34,8 +30,7 @@ fn list_frame(
     at: usize,
 ) -> Fitted
     requires { ⌜ (messagesTaken (now book) ≡ true) × (at ≤ length (now out)) ⌝ }
-    ensures { λ r. ⌜ _≡_ {A = Fitted × List ℕ} (r, now (out .exit))
-        (fitted (now (out .entry)) at (messageLines identifier (bytesOf word) (messageOf identifier (messagesOf (now (book .entry)))))) ⌝ }
+    ensures { λ r. ⌜ PutIfFits (now (out .entry)) at (wordListing (now (book .entry)) identifier word) (now (out .exit)) r ⌝ }
 {
     match find_message(book, identifier) {
         Found::Signals(from, to) => {
@@ -50,8 +45,7 @@ fn list_frame(
 // What a frame line, without its newline, prints.
 pub fn list_line(book: &[u32; BOOK_WORDS], line: &[u8], out: &mut [u8], at: usize) -> Fitted
     requires { ⌜ (messagesTaken (now book) ≡ true) × (at ≤ length (now out)) ⌝ }
-    ensures { λ r. ⌜ _≡_ {A = Fitted × List ℕ} (r, now (out .exit))
-        (fitted (now (out .entry)) at (printout (messagesOf (now (book .entry))) (now (line .entry)))) ⌝ }
+    ensures { λ r. ⌜ PutIfFits (now (out .entry)) at (printout (messagesOf (now (book .entry))) (now (line .entry))) (now (out .exit)) r ⌝ }
 {
     match read_frame_line(line) {
         FrameLine::Frame(identifier, word) => list_frame(book, identifier, word, &mut *out, at),

@@ -1,20 +1,13 @@
 // A frame by its message, whose signals' numbers and starts stand in two slices, side by side.
-ghost use mathlib.Core.Path.{_≡_};
-ghost use mathlib.Core.List.{List};
-ghost use Prim.Native.Nat.{ℕ, _*_};
-ghost use lib.ListN.{length};
 ghost use Rattle.books.specs.Words.{sideBySide};
-ghost use Rattle.printing.specs.Put.{PutWithin};
-ghost use Rattle.signal_lines.specs.Printed.{lineRoom};
-ghost use Rattle.listing.specs.declared.Fitted.{Fitted};
-ghost use Rattle.listing.specs.Working.{wordLines, messageText, fitted, Roomy, Listable};
+ghost use Rattle.listing.specs.Working.{wordLines, messageText, Roomy, Listable, SignalsPut, PutIfFits};
 use crate::Fitted;
 use crate::room::fit;
 use crate::room::list_refused;
 use catalogue::Raw;
 use messages::checked;
-use signal_lines::LINE_ROOM;
-use signal_lines::put_signal;
+use signal_lines::LISTED_LINE_ROOM;
+use signal_lines::put_reading;
 
 const WRONG_CHECKSUM: u32 = 23;
 
@@ -31,8 +24,7 @@ fn put_signals(
     starts: &[u32],
 ) -> usize
     requires { ⌜ Roomy (now out) at (now numbers) (now starts) ⌝ }
-    ensures { λ r. ⌜ PutWithin (now (out .entry)) at (lineRoom * length (now (numbers .entry)))
-        (wordLines identifier word (sideBySide (now (numbers .entry)) (now (starts .entry)))) (now (out .exit)) r ⌝ }
+    ensures { λ r. ⌜ SignalsPut (now (out .entry)) at identifier word (now (numbers .entry)) (now (starts .entry)) (now (out .exit)) r ⌝ }
 {
     let mut next: usize = at;
     let mut i: usize = 0;
@@ -41,7 +33,7 @@ fn put_signals(
         let shape = catalogue::shape_of(number);
         let raw = bits::take(word, starts[i], catalogue::bits_shaped(shape));
         let class = catalogue::class_shaped(shape, Raw(raw));
-        next = put_signal(&mut *out, next, identifier, number, class);
+        next = put_reading(&mut *out, next, identifier, number, class);
         i += 1;
     }
     next
@@ -57,10 +49,9 @@ fn list_signals(
     starts: &[u32],
 ) -> Fitted
     requires { ⌜ Listable (now out) at (now numbers) (now starts) ⌝ }
-    ensures { λ r. ⌜ _≡_ {A = Fitted × List ℕ} (r, now (out .exit))
-        (fitted (now (out .entry)) at (wordLines identifier word (sideBySide (now (numbers .entry)) (now (starts .entry))))) ⌝ }
+    ensures { λ r. ⌜ PutIfFits (now (out .entry)) at (wordLines identifier word (sideBySide (now (numbers .entry)) (now (starts .entry)))) (now (out .exit)) r ⌝ }
 {
-    if LINE_ROOM * numbers.len() <= out.len() - at {
+    if LISTED_LINE_ROOM * numbers.len() <= out.len() - at {
         return Fitted::Next(put_signals(&mut *out, at, identifier, word, numbers, starts));
     }
     let mut aside = [0u8; LONGEST];
@@ -78,8 +69,7 @@ pub fn list_message(
     starts: &[u32],
 ) -> Fitted
     requires { ⌜ Listable (now out) at (now numbers) (now starts) ⌝ }
-    ensures { λ r. ⌜ _≡_ {A = Fitted × List ℕ} (r, now (out .exit))
-        (fitted (now (out .entry)) at (messageText identifier word (now (numbers .entry)) (now (starts .entry)))) ⌝ }
+    ensures { λ r. ⌜ PutIfFits (now (out .entry)) at (messageText identifier word (now (numbers .entry)) (now (starts .entry))) (now (out .exit)) r ⌝ }
 {
     if checked(identifier, word, numbers) {
         return list_signals(&mut *out, at, identifier, word, numbers, starts);

@@ -1,3 +1,4 @@
 pub mod Bits
 pub mod Told
+pub mod Made
 pub mod OneOutcome

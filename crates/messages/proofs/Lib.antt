@@ -1,3 +1,4 @@
 pub mod Steps
 pub mod Readings
 pub mod Packs
+pub mod OneOutcome

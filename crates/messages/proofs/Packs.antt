@@ -19,11 +19,11 @@ use Rattle.catalogue.specs.Class.{classOf}
 use Rattle.framing.specs.declared.Packing.{Packing}
 use Rattle.framing.specs.declared.Packing.the-variants as Answer
 use Rattle.framing.specs.Messages.{checksumNumber, checksumStart, checksumBits}
-use Rattle.framing.specs.Packing.{packable, judged}
-use Rattle.framing.specs.Putting.{allOnes, put, summed, putFrame}
+use Rattle.framing.specs.Packing.{packable, judgedValues}
+use Rattle.framing.specs.Putting.{allOnes, put, withChecksum, putFrame}
 use Rattle.messages.specs.Signals.{summedWord, messageFrom}
-use Rattle.messages.specs.declared.packing.Put.{Put}
-use Rattle.messages.specs.declared.packing.Put.the-variants.{Word, TooWide, ReservedOrOutside}
+use Rattle.messages.specs.declared.packing.PutWord.{PutWord}
+use Rattle.messages.specs.declared.packing.PutWord.the-variants.{Word, TooWide, ReservedOrOutside}
 use Rattle.messages.specs.Put.{putOne, putAll, Packable, packInto}
 use Rattle.messages.proofs.Steps.{from, placementAt, rest, rest-more, rest-none}
 
@@ -50,7 +50,7 @@ module _ (w : ℕ) (p : Placement) (v : ℕ) where
   put-wide n e = rw (ne-eqb (p .number) checksumNumber n, e) refl
 
   -- past the first two tests
-  passes : (skip wide fine barred : Put) → (p .number ≡ checksumNumber → ⊥) → leb (2 ^ bitsOf (p .number)) v ≡ false
+  passes : (skip wide fine barred : PutWord) → (p .number ≡ checksumNumber → ⊥) → leb (2 ^ bitsOf (p .number)) v ≡ false
       → cond (eqb (p .number) checksumNumber) skip (cond (leb (2 ^ bitsOf (p .number)) v) wide (cond (packable (classOf (p .number) (record { 0 = v }))) fine barred))
       ≡ cond (packable (classOf (p .number) (record { 0 = v }))) fine barred
   passes skip wide fine barred n e = rw (ne-eqb (p .number) checksumNumber n, e) refl
@@ -91,7 +91,7 @@ module _ (ns ss vs : List ℕ) (word i : ℕ) where
 
 -- ---- and what it comes to
 
-abbrev judgement : Put → Packing
+abbrev judgement : PutWord → Packing
 judgement (Word w) = Answer.Packed
 judgement TooWide = Answer.TooWide
 judgement ReservedOrOutside = Answer.ReservedOrOutside
@@ -104,18 +104,18 @@ judged-step false true c w w' ps vs later h = ap judgement (wide-stays ps vs)
 judged-step false false true w w' ps vs later h = h w'
 judged-step false false false w w' ps vs later h = ap judgement (barred-stays ps vs)
 
-judged-all : (ps : List Placement) (vs : List ℕ) (w : ℕ) → judgement (putAll (Word w) ps vs) ≡ judged ps vs
-unfolding putAll putOne judged
+judged-all : (ps : List Placement) (vs : List ℕ) (w : ℕ) → judgement (putAll (Word w) ps vs) ≡ judgedValues ps vs
+unfolding putAll putOne judgedValues
 judged-all [] vs w = refl
 judged-all (p ∷ ps) [] w = refl
 judged-all (p ∷ ps) (v ∷ vs) w =
     judged-step (eqb (p .number) checksumNumber) (leb (2 ^ bitsOf (p .number)) v) (packable (classOf (p .number) (record { 0 = v }))) w
-    (Bits.placed w (p .start) (bitsOf (p .number)) v) ps vs (judged ps vs) (judged-all ps vs)
+    (Bits.placed w (p .start) (bitsOf (p .number)) v) ps vs (judgedValues ps vs) (judged-all ps vs)
 
-never-word : {A : Type 0} (r : Put) (W : ℕ) → r ≡ TooWide → r ≡ Word W → A
+never-word : {A : Type 0} (r : PutWord) (W : ℕ) → r ≡ TooWide → r ≡ Word W → A
 never-word r W e f = let z : _≡_ {A = ℕ} 0 1 = cc in absurd (omega arith)
 
-never-word' : {A : Type 0} (r : Put) (W : ℕ) → r ≡ ReservedOrOutside → r ≡ Word W → A
+never-word' : {A : Type 0} (r : PutWord) (W : ℕ) → r ≡ ReservedOrOutside → r ≡ Word W → A
 never-word' r W e f = let z : _≡_ {A = ℕ} 0 1 = cc in absurd (omega arith)
 
 word-step : (a b c : Bool) (w w' W : ℕ) (ps : List Placement) (vs : List ℕ) → ((x : ℕ) → putAll (Word x) ps vs ≡ Word W → W ≡ put x ps vs)
@@ -140,16 +140,16 @@ module _ (identifier : ℕ) (ns ss vs lent : List ℕ) where
   M = messageFrom identifier ns ss
 
   pub refused-wide : putAll (Word allOnes) (sideBySide ns ss) vs ≡ TooWide → _≡_ {A = Packing × List ℕ} (Answer.TooWide, lent) (packInto M vs lent)
-  refused-wide e = let h : judged (sideBySide ns ss) vs ≡ Answer.TooWide = sym (judged-all (sideBySide ns ss) vs allOnes) ∙ ap judgement e in rw h refl
+  refused-wide e = let h : judgedValues (sideBySide ns ss) vs ≡ Answer.TooWide = sym (judged-all (sideBySide ns ss) vs allOnes) ∙ ap judgement e in rw h refl
 
   pub refused-barred : putAll (Word allOnes) (sideBySide ns ss) vs ≡ ReservedOrOutside → _≡_ {A = Packing × List ℕ} (Answer.ReservedOrOutside, lent) (packInto M vs lent)
-  refused-barred e = let h : judged (sideBySide ns ss) vs ≡ Answer.ReservedOrOutside = sym (judged-all (sideBySide ns ss) vs allOnes) ∙ ap judgement e in rw h refl
+  refused-barred e = let h : judgedValues (sideBySide ns ss) vs ≡ Answer.ReservedOrOutside = sym (judged-all (sideBySide ns ss) vs allOnes) ∙ ap judgement e in rw h refl
 
   pub was-packed : length ss ≡ length ns → (word : ℕ) → putAll (Word allOnes) (sideBySide ns ss) vs ≡ Word word → (frame : List ℕ) → frame ≡ bytesOf (summedWord identifier word ns)
       → _≡_ {A = Packing × List ℕ} (Answer.Packed, frame) (packInto M vs lent)
-  unfolding putFrame summed summedWord
+  unfolding putFrame withChecksum summedWord
   was-packed same word e frame f =
-      let h : judged (sideBySide ns ss) vs ≡ Answer.Packed = sym (judged-all (sideBySide ns ss) vs allOnes) ∙ ap judgement e in
+      let h : judgedValues (sideBySide ns ss) vs ≡ Answer.Packed = sym (judged-all (sideBySide ns ss) vs allOnes) ∙ ap judgement e in
       let w : word ≡ put allOnes (sideBySide ns ss) vs = word-all (sideBySide ns ss) vs word allOnes e in
       rw h
       (ap (λ (x : List ℕ). (Answer.Packed, x))

@@ -21,7 +21,7 @@ use Rattle.catalogue.specs.Find.{bitsOf}
 use Rattle.catalogue.specs.Class.{classOf}
 use Rattle.framing.specs.declared.Reading.{Reading}
 use Rattle.framing.specs.declared.Reading.the-variants.{Read, WrongChecksum, TooLittleRoom}
-use Rattle.framing.specs.Messages.{checksumNumber, checksumStart, checksumBits, countOf, classIn, written}
+use Rattle.framing.specs.Messages.{checksumNumber, checksumStart, checksumBits, countOf, placedClass, written}
 use Rattle.framing.specs.Reading.{Slices, classCode, thousandthsOf, checksumHolds, room, readings, readByMessage}
 use Rattle.messages.specs.Signals.{AllFit, rawIn, classFrom, codeIn, readingIn, checkHolds, messageFrom, Readable}
 
@@ -37,7 +37,7 @@ sets-written lent vs h = sets-eq vs lent 0 (omega arith) ∙ ap (λ (n : ℕ). v
 count-same : (word : ℕ) → word < 2 ^ 64 → (p : Placement) → Fits (p .start) (bitsOf (p .number)) → rawIn word p ≡ countOf (bytesOf word) p
 count-same word h p f = sym (read-bytes word (p .start) (bitsOf (p .number)) h (f .inside))
 
-pub class-same : (word : ℕ) → word < 2 ^ 64 → (p : Placement) → Fits (p .start) (bitsOf (p .number)) → classFrom word p ≡ classIn (bytesOf word) p
+pub class-same : (word : ℕ) → word < 2 ^ 64 → (p : Placement) → Fits (p .start) (bitsOf (p .number)) → classFrom word p ≡ placedClass (bytesOf word) p
 class-same word h p f = ap (λ (x : ℕ). classOf (p .number) (record { 0 = x })) (count-same word h p f)
 
 module _ (identifier word : ℕ) (ns ss : List ℕ) (hw : word < 2 ^ 64) (r : Readable ns ss) where
@@ -74,7 +74,7 @@ module _ (identifier word : ℕ) (ns ss : List ℕ) (hw : word < 2 ^ 64) (r : Re
     unfolding readByMessage
     was-read e h out a b c =
         let raws = a ∙ wrote (rawIn word) (countOf (bytesOf word)) (lent .raws) (count-same word hw) (omega arith) in
-        let classes = b ∙ wrote (codeIn word) (λ (p : Placement). classCode (classIn (bytesOf word) p)) (lent .classes) (λ p f. ap classCode (class-same word hw p f)) (omega arith) in
-        let thousandths = c ∙ wrote (readingIn word) (λ (p : Placement). thousandthsOf (classIn (bytesOf word) p)) (lent .thousandths) (λ p f. ap thousandthsOf (class-same word hw p f)) (omega arith) in
+        let classes = b ∙ wrote (codeIn word) (λ (p : Placement). classCode (placedClass (bytesOf word) p)) (lent .classes) (λ p f. ap classCode (class-same word hw p f)) (omega arith) in
+        let thousandths = c ∙ wrote (readingIn word) (λ (p : Placement). thousandthsOf (placedClass (bytesOf word) p)) (lent .thousandths) (λ p f. ap thousandthsOf (class-same word hw p f)) (omega arith) in
         let done : out ≡ readings (bytesOf word) (sideBySide ns ss) lent = λ i. record { raws = raws i; classes = classes i; thousandths = thousandths i } in
         rw (sym check-same ∙ e, side-length ns ss (r .same), le-leb (length ns) (room lent) h) (ap (λ (x : Slices). (Read (length ns), x)) done)

@@ -13,14 +13,14 @@ use Rattle.catalogue.specs.Find.{bitsOf}
 use Rattle.catalogue.specs.Class.{classOf}
 use Rattle.framing.specs.declared.Packing.{Packing}
 use Rattle.framing.specs.Messages.{checksumNumber}
-use Rattle.framing.specs.Packing.{packable, judged, packedOr}
+use Rattle.framing.specs.Packing.{packable, judgedValues, packedOr}
 use Rattle.framing.specs.Putting.{putFrame}
 use Rattle.messages.specs.Signals.{AllFit}
-use Rattle.messages.specs.declared.packing.Put.{Put}
-use Rattle.messages.specs.declared.packing.Put.the-variants.{Word, TooWide, ReservedOrOutside}
+use Rattle.messages.specs.declared.packing.PutWord.{PutWord}
+use Rattle.messages.specs.declared.packing.PutWord.the-variants.{Word, TooWide, ReservedOrOutside}
 
 -- one value: 503 is skipped, 26 comes before 27
-unfoldable pub putOne : ℕ → Placement → ℕ → Put
+unfoldable pub putOne : ℕ → Placement → ℕ → PutWord
 putOne w p v =
     cond (eqb (p .number) checksumNumber) (Word w)
     (cond (leb (2 ^ bitsOf (p .number)) v) TooWide
@@ -28,7 +28,7 @@ putOne w p v =
     ReservedOrOutside))
 
 -- one value after another, until one is refused
-unfoldable pub putAll : Put → List Placement → List ℕ → Put
+unfoldable pub putAll : PutWord → List Placement → List ℕ → PutWord
 putAll put [] vs = put
 putAll put (p ∷ ps) [] = put
 putAll (Word w) (p ∷ ps) (v ∷ vs) = putAll (putOne w p v) ps vs
@@ -43,4 +43,4 @@ pub record Packable (ns ss vs : List ℕ) : Type 0 where
 
 -- values put into a frame of 8 bytes, as many as the message has placements, which need not lie apart
 abbrev pub packInto : Message → List ℕ → List ℕ → Packing × List ℕ
-packInto m vs lent = (judged (m .placements) vs, packedOr (judged (m .placements) vs) (putFrame m vs) lent)
+packInto m vs lent = (judgedValues (m .placements) vs, packedOr (judgedValues (m .placements) vs) (putFrame m vs) lent)

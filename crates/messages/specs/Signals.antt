@@ -1,11 +1,13 @@
 -- What the code works with: a message's numbers and starts side by side, and a frame as its word. Assumes nothing: these are definitions.
 use mathlib.Core.Path.{_≡_}
 use mathlib.Core.Bool.{Bool, cond, _||_, not}
-use mathlib.Core.List.{List, [], _∷_}
+use mathlib.Core.List.{List, [], _∷_, map}
 use Prim.Native.Nat.{ℕ, _≤_}
+use denote.Ref.{now}
 use lib.Dec.{eqb}
 use lib.IntN.{ℤ}
 use lib.ListN.{length}
+use lib.Seq.{sets}
 use Rattle.bits.specs.Word.{Fits, bytesOf, fieldOf}
 use Rattle.bits.specs.Word as Word
 use Rattle.bits.specs.Checksum.{checksumOf}
@@ -15,6 +17,7 @@ use Rattle.books.specs.Words.{sideBySide}
 use Rattle.catalogue.specs.Find.{bitsOf}
 use Rattle.catalogue.specs.Class.{classOf}
 use Rattle.catalogue.specs.declared.Class.{Class}
+use Rattle.framing.specs.Lending.{Lent}
 use Rattle.framing.specs.Messages.{checksumNumber, checksumStart, checksumBits}
 use Rattle.framing.specs.Reading.{classCode, thousandthsOf}
 
@@ -43,6 +46,13 @@ codeIn word p = classCode (classFrom word p)
 
 abbrev pub readingIn : ℕ → Placement → ℤ
 readingIn word p = thousandthsOf (classFrom word p)
+
+-- the readings of these placements stand at the front of the three slices; entries beyond them stay as lent
+abbrev pub SignalsRead : ℕ → List Placement → Lent ℕ → Lent ℕ → Lent ℤ → Type 0
+SignalsRead word ps raws classes thousandths =
+    (now (raws .exit) ≡ sets (now (raws .entry)) 0 (map (rawIn word) ps)) ×
+    (now (classes .exit) ≡ sets (now (classes .entry)) 0 (map (codeIn word) ps)) ×
+    (now (thousandths .exit) ≡ sets (now (thousandths .entry)) 0 (map (readingIn word) ps))
 
 -- the frame has the checksum where the message places it
 unfoldable pub checkHolds : ℕ → ℕ → List ℕ → Bool

@@ -1,15 +1,13 @@
 // A frame read by its message, whose signals' numbers and starts stand in two slices, side by side.
 ghost use mathlib.Core.Path.{_≡_};
-ghost use mathlib.Core.List.{map};
 ghost use mathlib.Core.Option.{some};
 ghost use Prim.Native.Nat.{min};
 ghost use lib.ListN.{length};
-ghost use lib.Seq.{sets};
 ghost use Rattle.bits.specs.Word.{bytesOf};
 ghost use Rattle.books.specs.Words.{sideBySide};
-ghost use Rattle.framing.specs.declared.Reading.{Reading};
-ghost use Rattle.framing.specs.Reading.{Slices, readByMessage};
-ghost use Rattle.messages.specs.Signals.{InStep, rawIn, codeIn, readingIn, messageFrom, Readable};
+ghost use Rattle.framing.specs.Lending.{ReadsInto};
+ghost use Rattle.framing.specs.Reading.{readByMessage};
+ghost use Rattle.messages.specs.Signals.{InStep, SignalsRead, messageFrom, Readable};
 use crate::checksum::checked;
 use crate::classes::code_of;
 use crate::classes::thousandths_of;
@@ -26,9 +24,7 @@ pub fn read_signals(
     thousandths: &mut [i64],
 )
     requires { ⌜ InStep (now numbers) (now starts) (length (now raws)) (length (now classes)) (length (now thousandths)) ⌝ }
-    ensures { λ _. ⌜ (now (raws .exit) ≡ sets (now (raws .entry)) 0 (map (rawIn word) (sideBySide (now (numbers .entry)) (now (starts .entry))))) ×
-        (now (classes .exit) ≡ sets (now (classes .entry)) 0 (map (codeIn word) (sideBySide (now (numbers .entry)) (now (starts .entry))))) ×
-        (now (thousandths .exit) ≡ sets (now (thousandths .entry)) 0 (map (readingIn word) (sideBySide (now (numbers .entry)) (now (starts .entry))))) ⌝ }
+    ensures { λ _. ⌜ SignalsRead word (sideBySide (now (numbers .entry)) (now (starts .entry))) raws classes thousandths ⌝ }
 {
     let mut i: usize = 0;
     while i < numbers.len() {
@@ -59,9 +55,7 @@ pub fn read_message(
     thousandths: &mut [i64],
 ) -> Reading
     requires { ⌜ Readable (now numbers) (now starts) ⌝ }
-    ensures { λ r. ⌜ _≡_ {A = Reading × Slices} (r, record { raws = now (raws .exit); classes = now (classes .exit); thousandths = now (thousandths .exit) })
-        (readByMessage (some (messageFrom identifier (now (numbers .entry)) (now (starts .entry)))) (bytesOf word)
-        (record { raws = now (raws .entry); classes = now (classes .entry); thousandths = now (thousandths .entry) })) ⌝ }
+    ensures { λ r. ⌜ ReadsInto (readByMessage (some (messageFrom identifier (now (numbers .entry)) (now (starts .entry)))) (bytesOf word)) r raws classes thousandths ⌝ }
 {
     if !checked(identifier, word, numbers) {
         return Reading::WrongChecksum;

@@ -16,11 +16,11 @@ textOfLines [] = []
 textOfLines (l ∷ ls) = l ++ newline ∷ textOfLines ls
 
 -- no byte of the list is s
-pub data Free (s : ℕ) : List ℕ → Type 0 where
-  none : Free s []
-  more : {b : ℕ} {t : List ℕ} → (b ≡ s → ⊥) → Free s t → Free s (b ∷ t)
+pub data Lacks (s : ℕ) : List ℕ → Type 0 where
+  none : Lacks s []
+  more : {b : ℕ} {t : List ℕ} → (b ≡ s → ⊥) → Lacks s t → Lacks s (b ∷ t)
 
 -- no byte of any of the parts is s
-pub data Frees (s : ℕ) : List (List ℕ) → Type 0 where
-  no-part : Frees s []
-  part : {p : List ℕ} {ps : List (List ℕ)} → Free s p → Frees s ps → Frees s (p ∷ ps)
+pub data AllLack (s : ℕ) : List (List ℕ) → Type 0 where
+  no-part : AllLack s []
+  part : {p : List ℕ} {ps : List (List ℕ)} → Lacks s p → AllLack s ps → AllLack s (p ∷ ps)

@@ -9,14 +9,16 @@ use lib.Dec.{eqb}
 use Rattle.catalogue.specs.Find.{bitsOf}
 use Rattle.books.specs.Book.{Placement, numbers}
 use Rattle.books.specs.Lines.{meetsEarlier}
+use Rattle.books.specs.Belonging.{inRun, bitBelongs, covers, none}
 use Rattle.books.proofs.Ends.{map-append}
+use Rattle.books.proofs.Meeting.{have-more}
 use Rattle.masks.specs.Bit.{width, bit, meeting}
 use Rattle.masks.proofs.Bits.{bit-zero, bit-or, bit-with}
 use Rattle.masks.proofs.Told.{same-bits}
 use Rattle.placing.specs.declared.Filled.{Filled}
-use Rattle.placing.specs.Placing.{inRun, Room}
-use Rattle.placing.specs.Filling.{has, covers, none, marked, Fills, FilledMore}
-use Rattle.placing.proofs.Covering.{covers-none, covers-more, wide-more, same-meeting}
+use Rattle.placing.specs.Placing.{FrameRoom}
+use Rattle.placing.specs.Filling.{marked, Fills, FilledMore}
+use Rattle.placing.proofs.Covering.{covers-none, covers-more, same-meeting}
 use Rattle.placing.proofs.Runs.{run-bits}
 use Rattle.placing.proofs.Marks.{marked-none, marked-more}
 
@@ -35,7 +37,7 @@ fills-once ps f g h k =
     λ i. record { bits = bits i; marks = marks i }
 
 -- there is a mask with the bits of a run more, and one with a mark more
-pub more-there : (f : Filled) (number start bits : ℕ) → Room start bits → (g : Filled) × FilledMore f number start bits g
+pub more-there : (f : Filled) (number start bits : ℕ) → FrameRoom start bits → (g : Filled) × FilledMore f number start bits g
 more-there f number start bits r = (
   record { bits = bitOr (f .bits) ((1 * 2 ^ bits % 2 ^ 64 - 1) * 2 ^ start % 2 ^ 64); marks = bitOr (f .marks) (1 * 2 ^ (number % width) % 2 ^ 64) },
   record {
@@ -46,7 +48,7 @@ more-there f number start bits r = (
 
 -- one signal more, which has b bits
 module _ (ps : List Placement) (p : Placement) (f : Filled) (h : Fills ps f) (some : 0 < bitsOf (p .number)) (b : ℕ) (e : b ≡ bitsOf (p .number)) where
-  own-bits : (k : ℕ) → inRun (p .start) b k ≡ has p k
+  own-bits : (k : ℕ) → inRun (p .start) b k ≡ bitBelongs p k
   own-bits k = ap (λ (n : ℕ). inRun (p .start) n k) e
 
   pub meets-same : (run : ℕ) → ((k : ℕ) → bit run k ≡ inRun (p .start) b k) → meeting (f .bits) run ≡ meetsEarlier ps p
@@ -54,7 +56,7 @@ module _ (ps : List Placement) (p : Placement) (f : Filled) (h : Fills ps f) (so
 
   pub fills-more : (g : Filled) → FilledMore f (p .number) (p .start) b g → Fills (ps ++ (p ∷ [])) g
   fills-more g m = record {
-    each-wide = wide-more p (h .each-wide) some;
+    each-wide = have-more p (h .each-wide) some;
     bits = λ k. m .bits-more k ∙ ap (λ (t : Bool). t || inRun (p .start) b k) (h .bits k) ∙
         ap (λ (t : Bool). covers ps k || t) (own-bits k) ∙ sym (covers-more ps p k);
     marks = λ j. m .marks-more j ∙ ap (λ (t : Bool). t || eqb j (p .number % width)) (h .marks j) ∙ sym (marked-more (numbers ps) (p .number) j) ∙

@@ -1,18 +1,19 @@
 -- One signal against its frame. Assumes nothing.
-use mathlib.Core.Path.{_≡_}
-use mathlib.Core.Bool.{true, false, _||_, not, or-true, or-false}
+use mathlib.Core.Path.{_≡_, refl, sym, ap, _∙_}
+use mathlib.Core.Bool.{Bool, true, false, _||_, not, or-true, or-false, Bool·not-not}
 use Prim.Native.Nat.{ℕ, _+_, _≤_, _<_}
 use native.Mathlib.Nat.{pos-of-ne-zero}
 use native.Mathlib.Omega.{arith}
 use lib.Dec.{eqb, leb, ltb}
 use borrow.Author.Tests.{ne-eqb, eqb-false, lt-ltb, le-ltb, le-leb, lt-leb, leb-false, ltb-false}
-use Rattle.catalogue.specs.Find.{bitsOf}
+use Rattle.rows.specs.Rows.{rows}
+use Rattle.catalogue.specs.Find.{bitsOf, rowOf}
 use Rattle.catalogue.proofs.Found.{few-bits}
 use Rattle.books.specs.Book.{Placement, placement}
 use Rattle.books.specs.Fixed.{checksumNumber, checksumStart, counterNumber, counterStart}
 use Rattle.books.specs.Lines.{unknownOrOver, misplaced, frameBits, startLimit}
 use Rattle.books.proofs.Tests.{neither, both-false}
-use Rattle.placing.specs.Placing.{standsAlone, Room}
+use Rattle.placing.specs.Placing.{standsAlone, FrameRoom}
 
 -- ---- by itself: past the frame's end, and the two that have a start of their own
 module _ (n s b : ℕ) (e : b ≡ bitsOf n) where
@@ -52,7 +53,7 @@ module _ (n s : ℕ) where
   known e g = rw (ne-eqb _ _ e, lt-leb _ _ g)
 
 -- a frame has room for a signal that stands alone
-pub alone-room : (n s b : ℕ) → b ≡ bitsOf n → standsAlone (placement n s) ≡ true → Room s b
+pub alone-room : (n s b : ℕ) → b ≡ bitsOf n → standsAlone (placement n s) ≡ true → FrameRoom s b
 unfolding unknownOrOver
 alone-room n s b e h =
     let p = placement n s in
@@ -66,3 +67,40 @@ unfolding unknownOrOver
 has-bits p h =
     let n = neither (eqb (bitsOf (p .number)) 0 || leb frameBits (p .start)) (misplaced p) h in
     pos-of-ne-zero (eqb-false _ _ (both-false (eqb (bitsOf (p .number)) 0) (leb frameBits (p .start)) (n .0) .0))
+
+-- ---- a signal that has bits, by where they end and by the start of its own
+checksum-bits : bitsOf checksumNumber ≡ 4
+unfolding bitsOf rowOf rows
+checksum-bits = refl
+
+counter-bits : bitsOf counterNumber ≡ 4
+unfolding bitsOf rowOf rows
+counter-bits = refl
+
+module _ (n s b : ℕ) (known-bits : (0 < b) × (b ≡ bitsOf n)) (end : ℕ) (ends : end ≡ s + b) where
+  pub alone-past : frameBits < end → false ≡ standsAlone (placement n s)
+  alone-past h =
+      sym (ap (λ (t : Bool). not (unknownOrOver (placement n s) || t)) (past-end n s b (known-bits .1) (omega (arith, ends, h)))
+      ∙ ap not (or-true (unknownOrOver (placement n s))))
+
+  module _ (h : end ≤ frameBits) where
+    inside : s + b ≤ frameBits
+    inside = omega (arith, ends, h)
+
+    only-misplaced : standsAlone (placement n s) ≡ not (misplaced (placement n s))
+    only-misplaced =
+        let k = known-bits .0 in
+        let g : s < startLimit = omega (arith, inside, k) in
+        ap (λ (t : Bool). not (t || misplaced (placement n s))) (known n s (λ z. let e = known-bits .1 in omega (arith, k, e, z)) g)
+
+    pub alone-sum : n ≡ checksumNumber → eqb s checksumStart ≡ standsAlone (placement n s)
+    alone-sum f = sym (only-misplaced ∙ ap not (sum-placed n s b (known-bits .1) inside f) ∙ Bool·not-not (eqb s checksumStart))
+
+    pub alone-counter : n ≡ counterNumber → eqb s counterStart ≡ standsAlone (placement n s)
+    alone-counter f = sym (only-misplaced ∙ ap not (counter-placed n s b (known-bits .1) inside f) ∙ Bool·not-not (eqb s counterStart))
+
+    pub alone-free : (n ≡ checksumNumber → ⊥) → (n ≡ counterNumber → ⊥) → true ≡ standsAlone (placement n s)
+    alone-free f g = sym (only-misplaced ∙ ap not (well-placed n s b (known-bits .1) inside f g))
+
+    pub alone-other : (b ≡ 4 → ⊥) → true ≡ standsAlone (placement n s)
+    alone-other f = alone-free (λ z. f (known-bits .1 ∙ ap bitsOf z ∙ checksum-bits)) (λ z. f (known-bits .1 ∙ ap bitsOf z ∙ counter-bits))

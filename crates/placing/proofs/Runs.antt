@@ -11,7 +11,7 @@ use borrow.Author.Tests.{lt-ltb, le-ltb, le-leb, lt-leb, ltb-true, ltb-false}
 use Rattle.rows.specs.Rule.{mostBits}
 use Rattle.masks.specs.Bit.{width, bit}
 use Rattle.masks.proofs.Bits.{bit-zero, bit-suc}
-use Rattle.placing.specs.Placing.{inRun}
+use Rattle.books.specs.Belonging.{inRun}
 
 -- 2 ^ (b + 1) - 1 is odd, and half of it is 2 ^ b - 1
 half : (b : ℕ) → (2 ^ suc b - 1) / 2 ≡ 2 ^ b - 1

@@ -1,25 +1,32 @@
 -- The signals of a message, passed one after the other. Assumes nothing.
 use mathlib.Core.Path.{_≡_, refl, sym, ap, _∙_, subst}
-use mathlib.Core.Bool.{Bool, true, false, _&&_, _||_, not}
+use mathlib.Core.Bool.{Bool, true, false, cond, _&&_, _||_, not}
 use mathlib.Core.List.{List, [], _∷_, _++_}
 use Prim.Native.Nat.{ℕ, suc, _+_, _≤_, _<_}
 use native.Mathlib.Omega.{arith}
 use native.Mathlib.Numerals.{add-one}
-use lib.ListN.{length, take, drop, getD, drop-of-length-le}
+use lib.Dec.{eqb}
+use lib.ListN.{length, take, drop, getD, set, drop-of-length-le}
 use lib.Seq.{drop-cons, take-suc, length-take-le}
+use borrow.Author.Tests.{eq-eqb, ne-eqb}
 use Rattle.catalogue.specs.Find.{bitsOf}
+use Rattle.catalogue.specs.Places.{placeOf, noPlace}
+use Rattle.catalogue.proofs.Placed.{no-bits}
 use Rattle.books.specs.Book.{Placement, numbers, placement}
 use Rattle.books.specs.Lines.{isIn, unknownOrOver, misplaced, meetsEarlier}
-use Rattle.books.specs.Good.{goodAfter}
+use Rattle.books.specs.Good.{fitsAfter, goodAfter}
+use Rattle.books.specs.Belonging.{inRun, bitBelongs, covers, HaveBits, none}
 use Rattle.books.specs.Words.{sideBySide}
 use Rattle.books.proofs.Tests.{neither}
 use Rattle.books.proofs.Sides.{side-numbers}
+use Rattle.books.proofs.Meeting.{have-more}
 use Rattle.masks.specs.Bit.{bit, meeting}
-use Rattle.placing.specs.declared.Filled.{Filled}
-use Rattle.placing.specs.Placing.{standsAlone, inRun}
-use Rattle.placing.specs.Filling.{Marks, Fills, FilledMore}
-use Rattle.placing.proofs.Placing.{has-bits}
-use Rattle.placing.proofs.Filling.{fills-none, meets-same, fills-more}
+use Rattle.masks.proofs.Bits.{bit-zero}
+use Rattle.placing.specs.Placing.{standsAlone}
+use Rattle.placing.specs.Stamps.{Stamped, Below, stampedAfter, stampedTest}
+use Rattle.placing.proofs.Placing.{has-bits, unknown}
+use Rattle.placing.proofs.Covering.{covers-none, covers-more, same-meeting}
+use Rattle.placing.proofs.Stamped.{stamped-none, stamped-more, below-next, below-more}
 
 -- the signals before `at`, and those from it on
 abbrev pub earlier : List ℕ → List ℕ → ℕ → List Placement
@@ -39,9 +46,6 @@ side-more (x ∷ ns) [] n s e = let z : 0 ≡ suc (length ns) = e in absurd (ome
 side-more (x ∷ ns) (y ∷ ss) n s e = ap (_∷_ (placement x y)) (side-more ns ss n s (omega (arith, e)))
 
 -- ---- what a signal has to pass
-
-abbrev fits : List Placement → Placement → Bool
-fits others p = not (unknownOrOver p || (isIn (p .number) (numbers others) || (misplaced p || meetsEarlier others p)))
 
 alone-fails : (u i m e : Bool) → not (u || m) ≡ false → not (u || (i || (m || e))) ≡ false
 alone-fails true i m e h = refl
@@ -63,32 +67,52 @@ all-pass : (u i m e : Bool) → not (u || m) ≡ true → i ≡ false → e ≡ 
 all-pass u i m e h f g = let n = neither u m h in rw (n .0, n .1, f, g)
 
 module _ (others : List Placement) (p : Placement) where
-  not-alone : standsAlone p ≡ false → fits others p ≡ false
+  not-alone : standsAlone p ≡ false → fitsAfter others p ≡ false
   not-alone = alone-fails (unknownOrOver p) (isIn (p .number) (numbers others)) (misplaced p) (meetsEarlier others p)
 
-  not-apart : meetsEarlier others p ≡ true → fits others p ≡ false
+  not-apart : meetsEarlier others p ≡ true → fitsAfter others p ≡ false
   not-apart = meet-fails (unknownOrOver p) (isIn (p .number) (numbers others)) (misplaced p) (meetsEarlier others p)
 
-  not-new : isIn (p .number) (numbers others) ≡ true → fits others p ≡ false
+  not-new : isIn (p .number) (numbers others) ≡ true → fitsAfter others p ≡ false
   not-new = again-fails (unknownOrOver p) (isIn (p .number) (numbers others)) (misplaced p) (meetsEarlier others p)
 
-  well : standsAlone p ≡ true → isIn (p .number) (numbers others) ≡ false → meetsEarlier others p ≡ false → fits others p ≡ true
+  well : standsAlone p ≡ true → isIn (p .number) (numbers others) ≡ false → meetsEarlier others p ≡ false → fitsAfter others p ≡ true
   well = all-pass (unknownOrOver p) (isIn (p .number) (numbers others)) (misplaced p) (meetsEarlier others p)
 
 -- ---- the loop
 
-pub record Passed (ns ss : List ℕ) (filled : Filled) (at : ℕ) : Type 0 where
+pub record Passed (ns ss lent : List ℕ) (filled : ℕ) (stamps : List ℕ) (stamp at : ℕ) : Type 0 where
   pub same : goodAfter (sideBySide (take at ns) (take at ss)) (sideBySide (drop at ns) (drop at ss)) ≡ goodAfter [] (sideBySide ns ss)
-  pub fills : Fills (sideBySide (take at ns) (take at ss)) filled
+  pub each-wide : HaveBits (sideBySide (take at ns) (take at ss))
+  pub bits : (k : ℕ) → bit filled k ≡ covers (sideBySide (take at ns) (take at ss)) k
+  pub left : stampedAfter (sideBySide (take at ns) (take at ss)) (sideBySide (drop at ns) (drop at ss)) stamp stamps ≡ stampedAfter [] (sideBySide ns ss) stamp lent
+  pub stamped : Stamped stamps stamp (take at ns)
+  pub below : Below stamps (stamp + 1)
 
-pub begin : (ns ss : List ℕ) (f : Filled) → f .bits ≡ 0 → f .marks ≡ 0 → Passed ns ss f 0
+pub begin : (ns ss stamps : List ℕ) (stamp : ℕ) → Below stamps stamp → Passed ns ss stamps 0 stamps stamp 0
 unfolding sideBySide
-begin ns ss f b m = record { same = refl; fills = fills-none f b m }
+begin ns ss stamps stamp b = record {
+  same = refl;
+  each-wide = none;
+  bits = λ k. bit-zero k ∙ sym (covers-none k);
+  left = refl;
+  stamped = stamped-none stamps stamp b;
+  below = below-next stamps stamp b;
+}
 
-module _ (ns ss : List ℕ) (filled : Filled) (at : ℕ) (e : length ss ≡ length ns) (w : Passed ns ss filled at) where
-  pub end : length ns ≤ at → true ≡ goodAfter [] (sideBySide ns ss)
-  unfolding goodAfter sideBySide
-  end h = sym (ap (λ (l : List ℕ). goodAfter (earlier ns ss at) (sideBySide l (drop at ss))) (drop-of-length-le ns h)) ∙ w .same
+module _ (ns ss lent : List ℕ) (filled : ℕ) (stamps : List ℕ) (stamp at : ℕ) (e : length ss ≡ length ns) (w : Passed ns ss lent filled stamps stamp at) where
+  -- the answer, with the stamps as they are, is what the test of all gives
+  abbrev Answers : Bool → Type 0
+  Answers b = _≡_ {A = Bool × List ℕ} (b, stamps) (stampedTest (sideBySide ns ss) stamp lent)
+
+  both : (b : Bool) → b ≡ goodAfter [] (sideBySide ns ss) → stamps ≡ stampedAfter [] (sideBySide ns ss) stamp lent → Answers b
+  both b p q i = (p i, q i)
+
+  pub end : length ns ≤ at → Answers true
+  unfolding goodAfter stampedAfter sideBySide
+  end h =
+      both true (sym (ap (λ (l : List ℕ). goodAfter (earlier ns ss at) (sideBySide l (drop at ss))) (drop-of-length-le ns h)) ∙ w .same)
+      (sym (ap (λ (l : List ℕ). stampedAfter (earlier ns ss at) (sideBySide l (drop at ss)) stamp stamps) (drop-of-length-le ns h)) ∙ w .left)
 
   module _ (h : at < length ns) where
     one : later ns ss at ≡ nth ns ss at ∷ later ns ss (at + 1)
@@ -98,12 +122,19 @@ module _ (ns ss : List ℕ) (filled : Filled) (at : ℕ) (e : length ss ≡ leng
     rest : Bool
     rest = goodAfter (earlier ns ss at ++ (nth ns ss at ∷ [])) (later ns ss (at + 1))
 
-    step : fits (earlier ns ss at) (nth ns ss at) && rest ≡ goodAfter [] (sideBySide ns ss)
+    step : fitsAfter (earlier ns ss at) (nth ns ss at) && rest ≡ goodAfter [] (sideBySide ns ss)
     unfolding goodAfter rest
     step = sym (ap (goodAfter (earlier ns ss at)) one) ∙ w .same
 
-    fail : fits (earlier ns ss at) (nth ns ss at) ≡ false → false ≡ goodAfter [] (sideBySide ns ss)
-    fail f = ap (λ (t : Bool). t && rest) (sym f) ∙ step
+    further : List ℕ
+    further = stampedAfter (earlier ns ss at ++ (nth ns ss at ∷ [])) (later ns ss (at + 1)) stamp (set stamps (placeOf (getD ns at 0)) stamp)
+
+    left-step : cond (fitsAfter (earlier ns ss at) (nth ns ss at)) further stamps ≡ stampedAfter [] (sideBySide ns ss) stamp lent
+    unfolding stampedAfter further
+    left-step = sym (ap (λ (l : List Placement). stampedAfter (earlier ns ss at) l stamp stamps) one) ∙ w .left
+
+    fail : fitsAfter (earlier ns ss at) (nth ns ss at) ≡ false → Answers false
+    fail f = both false (ap (λ (t : Bool). t && rest) (sym f) ∙ step) (ap (λ (t : Bool). cond t further stamps) (sym f) ∙ left-step)
 
     long : length (take at ss) ≡ length (take at ns)
     long = length-take-le at ss (omega arith) ∙ sym (length-take-le at ns (omega arith))
@@ -114,33 +145,48 @@ module _ (ns ss : List ℕ) (filled : Filled) (at : ℕ) (e : length ss ≡ leng
     among : isIn (getD ns at 0) (numbers (earlier ns ss at)) ≡ isIn (getD ns at 0) (take at ns)
     among = ap (isIn (getD ns at 0)) listed
 
-    pub marks-before : Marks (take at ns) (filled .marks)
-    marks-before = subst (λ (l : List ℕ). Marks l (filled .marks)) listed (w .fills .marks)
-
-    pub refuse-alone : standsAlone (nth ns ss at) ≡ false → false ≡ goodAfter [] (sideBySide ns ss)
+    pub refuse-alone : standsAlone (nth ns ss at) ≡ false → Answers false
     refuse-alone f = fail (not-alone (earlier ns ss at) (nth ns ss at) f)
 
-    module _ (alone : standsAlone (nth ns ss at) ≡ true) (b run : ℕ) (eb : b ≡ bitsOf (getD ns at 0)) (inside : (k : ℕ) → bit run k ≡ inRun (getD ss at 0) b k) where
-      same-bits : meeting (filled .bits) run ≡ meetsEarlier (earlier ns ss at) (nth ns ss at)
-      same-bits = meets-same (earlier ns ss at) (nth ns ss at) filled (w .fills) (has-bits (nth ns ss at) alone) b eb run inside
+    -- the catalogue has no such signal
+    pub refuse-unknown : placeOf (getD ns at 0) ≡ noPlace → Answers false
+    refuse-unknown f = refuse-alone (ap (λ (t : Bool). not (t || misplaced (nth ns ss at))) (unknown (getD ns at 0) (getD ss at 0) (no-bits (getD ns at 0) f)))
 
-      pub refuse-meeting : meeting (filled .bits) run ≡ true → false ≡ goodAfter [] (sideBySide ns ss)
-      refuse-meeting f = fail (not-apart (earlier ns ss at) (nth ns ss at) (sym same-bits ∙ f))
+    module _ (p : ℕ) (place : (p ≡ placeOf (getD ns at 0)) × (p < noPlace)) where
+      known : eqb (getD stamps p 0) stamp ≡ isIn (getD ns at 0) (take at ns)
+      known = rw (place .0) (w .stamped (getD ns at 0) (subst (λ (q : ℕ). q < noPlace) (place .0) (place .1)))
 
-      pub refuse-again : isIn (getD ns at 0) (take at ns) ≡ true → false ≡ goodAfter [] (sideBySide ns ss)
-      refuse-again f = fail (not-new (earlier ns ss at) (nth ns ss at) (among ∙ f))
+      pub refuse-again : getD stamps p 0 ≡ stamp → Answers false
+      refuse-again f = fail (not-new (earlier ns ss at) (nth ns ss at) (among ∙ sym known ∙ eq-eqb _ _ f))
 
-      pub next : meeting (filled .bits) run ≡ false → isIn (getD ns at 0) (take at ns) ≡ false → (f : Filled)
-          → FilledMore filled (getD ns at 0) (getD ss at 0) b f → Passed ns ss f (at + 1)
-      unfolding rest
-      next m i f more =
-          let passes = well (earlier ns ss at) (nth ns ss at) alone (among ∙ i) (sym same-bits ∙ m) in
-          let gs : at < length ss = omega arith in
-          let longer : earlier ns ss (at + 1) ≡ earlier ns ss at ++ (nth ns ss at ∷ []) =
-          rw (add-one at, take-suc ns at 0 h, take-suc ss at 0 gs) (side-more (take at ns) (take at ss) (getD ns at 0) (getD ss at 0) long)
-          in
-          record {
-            same = ap (λ (l : List Placement). goodAfter l (later ns ss (at + 1))) longer ∙ sym (ap (λ (t : Bool). t && rest) passes) ∙ step;
-            fills = subst (λ (l : List Placement). Fills l f) (sym longer)
-                (fills-more (earlier ns ss at) (nth ns ss at) filled (w .fills) (has-bits (nth ns ss at) alone) b eb f more);
-          }
+      module _ (alone : standsAlone (nth ns ss at) ≡ true) (b run : ℕ) (eb : b ≡ bitsOf (getD ns at 0)) (inside : (k : ℕ) → bit run k ≡ inRun (getD ss at 0) b k) where
+        own : (k : ℕ) → bit run k ≡ bitBelongs (nth ns ss at) k
+        own k = inside k ∙ ap (λ (n : ℕ). inRun (getD ss at 0) n k) eb
+
+        same-bits : meeting filled run ≡ meetsEarlier (earlier ns ss at) (nth ns ss at)
+        same-bits = same-meeting (earlier ns ss at) (nth ns ss at) filled run (w .bits) own (w .each-wide) (has-bits (nth ns ss at) alone)
+
+        pub refuse-meeting : meeting filled run ≡ true → Answers false
+        refuse-meeting f = fail (not-apart (earlier ns ss at) (nth ns ss at) (sym same-bits ∙ f))
+
+        pub next : meeting filled run ≡ false → (getD stamps p 0 ≡ stamp → ⊥) → (more : ℕ) → ((k : ℕ) → bit more k ≡ bit filled k || bit run k)
+            → Passed ns ss lent more (set stamps p stamp) stamp (at + 1)
+        unfolding rest further
+        next m i more wider =
+            let passes = well (earlier ns ss at) (nth ns ss at) alone (among ∙ sym known ∙ ne-eqb _ _ i) (sym same-bits ∙ m) in
+            let gs : at < length ss = omega arith in
+            let longer : earlier ns ss (at + 1) ≡ earlier ns ss at ++ (nth ns ss at ∷ []) =
+            rw (add-one at, take-suc ns at 0 h, take-suc ss at 0 gs) (side-more (take at ns) (take at ss) (getD ns at 0) (getD ss at 0) long)
+            in
+            let there : placeOf (getD ns at 0) < noPlace = subst (λ (q : ℕ). q < noPlace) (place .0) (place .1) in
+            record {
+              same = ap (λ (l : List Placement). goodAfter l (later ns ss (at + 1))) longer ∙ sym (ap (λ (t : Bool). t && rest) passes) ∙ step;
+              each-wide = subst HaveBits (sym longer) (have-more (nth ns ss at) (w .each-wide) (has-bits (nth ns ss at) alone));
+              bits = λ k. wider k ∙ ap (λ (t : Bool). t || bit run k) (w .bits k) ∙ ap (λ (t : Bool). covers (earlier ns ss at) k || t) (own k) ∙
+                  sym (covers-more (earlier ns ss at) (nth ns ss at) k) ∙ ap (λ (l : List Placement). covers l k) (sym longer);
+              left = ap (λ (l : List Placement). stampedAfter l (later ns ss (at + 1)) stamp (set stamps p stamp)) longer ∙
+                  ap (λ (q : ℕ). stampedAfter (earlier ns ss at ++ (nth ns ss at ∷ [])) (later ns ss (at + 1)) stamp (set stamps q stamp)) (place .0) ∙
+                  sym (ap (λ (t : Bool). cond t further stamps) passes) ∙ left-step;
+              stamped = rw (place .0, add-one at, take-suc ns at 0 h) (stamped-more stamps stamp (take at ns) (getD ns at 0) (w .below .each) there (w .stamped));
+              below = below-more stamps stamp p (w .below);
+            }

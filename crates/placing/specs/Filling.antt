@@ -2,27 +2,12 @@
 use mathlib.Core.Path.{_≡_}
 use mathlib.Core.Bool.{Bool, false, _||_}
 use mathlib.Core.List.{List, [], _∷_}
-use Prim.Native.Nat.{ℕ, _%_, _<_}
+use Prim.Native.Nat.{ℕ, _%_}
 use lib.Dec.{eqb}
-use Rattle.catalogue.specs.Find.{bitsOf}
 use Rattle.books.specs.Book.{Placement, numbers}
 use Rattle.masks.specs.Bit.{width, bit}
-use Rattle.placing.specs.Placing.{inRun}
+use Rattle.books.specs.Belonging.{inRun, covers, HaveBits}
 use Rattle.placing.specs.declared.Filled.{Filled}
-
--- frame bit k is one of the signal's
-abbrev pub has : Placement → ℕ → Bool
-has p k = inRun (p .start) (bitsOf (p .number)) k
-
--- or of one of several
-unfoldable pub covers : List Placement → ℕ → Bool
-covers [] k = false
-covers (q ∷ qs) k = has q k || covers qs k
-
--- each of the signals has bits
-pub data Wide : List Placement → Type 0 where
-  none : Wide []
-  more : {q : Placement} {qs : List Placement} → 0 < bitsOf (q .number) → Wide qs → Wide (q ∷ qs)
 
 -- mark j is that of one of the numbers
 unfoldable pub marked : List ℕ → ℕ → Bool
@@ -35,7 +20,7 @@ Marks ns m = (j : ℕ) → bit m j ≡ marked ns j
 
 -- the signals, each of which has bits, fill this
 pub record Fills (ps : List Placement) (f : Filled) : Type 0 where
-  pub each-wide : Wide ps
+  pub each-wide : HaveBits ps
   pub bits : (k : ℕ) → bit (f .bits) k ≡ covers ps k
   pub marks : Marks (numbers ps) (f .marks)
 

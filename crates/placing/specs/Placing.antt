@@ -1,7 +1,6 @@
--- A signal by itself, and its frame bits. Assumes nothing: these are definitions.
-use mathlib.Core.Bool.{Bool, _&&_, _||_, not}
+-- A signal by itself, and the room that it needs. Assumes nothing: these are definitions.
+use mathlib.Core.Bool.{Bool, _||_, not}
 use Prim.Native.Nat.{ℕ, _+_, _≤_, _<_}
-use lib.Dec.{leb, ltb}
 use Rattle.rows.specs.Rule.{mostBits}
 use Rattle.books.specs.Book.{Placement}
 use Rattle.books.specs.Lines.{unknownOrOver, misplaced, frameBits}
@@ -11,11 +10,7 @@ abbrev pub standsAlone : Placement → Bool
 standsAlone p = not (unknownOrOver p || misplaced p)
 
 -- a frame has room for so many bits from start on
-pub record Room (start bits : ℕ) : Type 0 where
+pub record FrameRoom (start bits : ℕ) : Type 0 where
   pub from : start < frameBits
   pub few : bits ≤ mostBits
   pub to : start + bits ≤ frameBits
-
--- frame bit k is one of them
-unfoldable pub inRun : ℕ → ℕ → ℕ → Bool
-inRun start bits k = leb start k && ltb k (start + bits)

@@ -1,25 +1,32 @@
 // The signals of one message: whether one stands where it may, and whether all of them do.
 ghost use mathlib.Core.Path.{_≡_};
-ghost use mathlib.Core.List.{[]};
+ghost use mathlib.Core.Bool.{Bool};
+ghost use mathlib.Core.List.{List};
 ghost use Prim.Native.Nat.{ℕ, _+_, _≤_, _<_};
 ghost use lib.ListN.{length};
 ghost use Rattle.rows.specs.Rule.{mostBits};
 ghost use Rattle.catalogue.specs.Find.{bitsOf};
+ghost use Rattle.books.specs.Belonging.{inRun};
 ghost use Rattle.books.specs.Book.{placement};
 ghost use Rattle.books.specs.Lines.{isIn, misplaced};
-ghost use Rattle.books.specs.Good.{goodAfter};
 ghost use Rattle.books.specs.Words.{sideBySide};
 ghost use Rattle.masks.specs.Bit.{bit};
-ghost use Rattle.placing.specs.Placing.{standsAlone, Room, inRun};
+ghost use Rattle.placing.specs.Placing.{standsAlone, FrameRoom};
 ghost use Rattle.placing.specs.Filling.{Marks, FilledMore};
+ghost use Rattle.placing.specs.Stamps.{Columns, Below, stampedTest};
 ghost use Rattle.record.specs.Limits.{startLimit};
+use catalogue::Place;
 use record::CHECKSUM;
 use record::CHECKSUM_START;
 use record::COUNTER;
 use record::COUNTER_START;
-use record::START_LIMIT;
 
 const FRAME_BITS: u32 = 64;
+
+const FRAME_END: u64 = 64;
+
+// The bits of the two signals that have a start of their own.
+const FIXED_BITS: u32 = 4;
 
 // How many marks there are, by which numbers are told apart quickly: as many as a mask has.
 const MARKS: u32 = masks::WIDTH as u32;
@@ -41,23 +48,41 @@ pub fn is_misplaced(number: u32, start: u32, bits: u32) -> bool
     false
 }
 
-// Whether a number with a start is a signal that stands where it may, by itself.
+// Where so many bits end, whatever the start is.
+fn end_of(start: u32, bits: u32) -> u64
+    ensures { λ r. ⌜ r ≡ start + bits ⌝ }
+{
+    start as u64 + bits as u64
+}
+
+fn wide(bits: u8) -> u32
+    ensures { λ r. ⌜ r ≡ bits ⌝ }
+{
+    bits as u32
+}
+
+// Whether a signal with so many bits stands where it may with a start, by itself. Only signals of four bits have a start of their own.
 fn stands_alone(number: u32, start: u32, bits: u32) -> bool
-    requires { ⌜ bits ≡ bitsOf number ⌝ }
+    requires { ⌜ (0 < bits) × (bits ≡ bitsOf number) ⌝ }
     ensures { λ r. ⌜ r ≡ standsAlone (placement number start) ⌝ }
 {
-    if bits == 0 {
+    if end_of(start, bits) > FRAME_END {
         return false;
     }
-    if start >= START_LIMIT {
-        return false;
+    if bits == FIXED_BITS {
+        if number == CHECKSUM {
+            return start == CHECKSUM_START;
+        }
+        if number == COUNTER {
+            return start == COUNTER_START;
+        }
     }
-    !is_misplaced(number, start, bits)
+    true
 }
 
 // A mask of the frame bits of a signal.
 pub fn run(start: u32, bits: u32) -> u64
-    requires { ⌜ Room start bits ⌝ }
+    requires { ⌜ FrameRoom start bits ⌝ }
     ensures { λ r. ⌜ ((k : ℕ) → bit r k ≡ inRun start bits k) ⌝ }
 {
     ((1u64 << bits) - 1) << start
@@ -78,7 +103,7 @@ pub fn nothing() -> Filled
 
 // What they fill with one signal more.
 pub fn filled_with(filled: Filled, number: u32, start: u32, bits: u32) -> Filled
-    requires { ⌜ Room start bits ⌝ }
+    requires { ⌜ FrameRoom start bits ⌝ }
     ensures { λ r. ⌜ FilledMore filled number start bits r ⌝ }
 {
     let bits_here = run(start, bits);
@@ -100,26 +125,41 @@ pub fn is_repeated(numbers: &[u32], filled: Filled, number: u32) -> bool
 }
 
 // Whether all signals of a message stand where they may: each by itself, none twice, and no bits that meet.
-pub fn well_placed(numbers: &[u32], starts: &[u32]) -> bool
-    requires { ⌜ length (now starts) ≡ length (now numbers) ⌝ }
-    ensures { λ r. ⌜ r ≡ goodAfter [] (sideBySide (now (numbers .entry)) (now (starts .entry))) ⌝ }
+// The columns of the catalogue are lent, and a stamp for each of its places: that of this message, which is above all that stand
+// there, is put on the place of each signal passed.
+pub fn well_placed(
+    numbers: &[u32],
+    starts: &[u32],
+    above: &[usize],
+    ends: &[u8],
+    widths: &[u8],
+    stamps: &mut [u8],
+    stamp: u8,
+) -> bool
+    requires { ⌜ (length (now starts) ≡ length (now numbers)) × Columns (now above) (now ends) (now widths) × Below (now stamps) stamp ⌝ }
+    ensures { λ r. ⌜ _≡_ {A = Bool × List ℕ} (r, now (stamps .exit)) (stampedTest (sideBySide (now (numbers .entry)) (now (starts .entry))) stamp (now (stamps .entry))) ⌝ }
 {
-    let mut filled = nothing();
+    let mut filled: u64 = 0;
     let mut at: usize = 0;
     while at < numbers.len() {
         let number = numbers[at];
         let start = starts[at];
-        let bits = catalogue::bits_of(number);
+        let Place::At(place) = catalogue::place_of(number, above, ends) else {
+            return false;
+        };
+        let bits = wide(widths[place]);
         if !stands_alone(number, start, bits) {
             return false;
         }
-        if masks::meet(filled.bits, run(start, bits)) {
+        let here = run(start, bits);
+        if masks::meet(filled, here) {
             return false;
         }
-        if is_repeated(&numbers[..at], filled, number) {
+        if stamps[place] == stamp {
             return false;
         }
-        filled = filled_with(filled, number, start, bits);
+        stamps[place] = stamp;
+        filled = masks::either(filled, here);
         at += 1;
     }
     true

@@ -5,24 +5,24 @@ use lib.Dec.{eqb}
 use Rattle.power.specs.declared.Observation.{Observation}
 use Rattle.power.specs.declared.State.{State}
 use Rattle.power.specs.Rules.{nextState}
-use Rattle.power.specs.Refusals.{refusal, relaysFit, commandsFit, readingsFit, judged, stepOf}
+use Rattle.power.specs.Refusals.{powerRefusal, relaysFit, commandsFit, readingsFit, steppedIfFit, stepOf}
 
 module _ (s : State) (seen : Observation) where
-  pub refused : refusal (stepOf s seen .answer) ≡ cond (relaysFit seen) (cond (commandsFit seen) (cond (readingsFit seen) 0 43) 42) 41
+  pub refused : powerRefusal (stepOf s seen .answer) ≡ cond (relaysFit seen) (cond (commandsFit seen) (cond (readingsFit seen) 0 43) 42) 41
   unfolding stepOf
   refused = go (relaysFit seen) (commandsFit seen) (readingsFit seen)
     where
-      go : (a b c : Bool) → refusal (judged a b c s (nextState s seen) .answer) ≡ cond a (cond b (cond c 0 43) 42) 41
+      go : (a b c : Bool) → powerRefusal (steppedIfFit a b c s (nextState s seen) .answer) ≡ cond a (cond b (cond c 0 43) 42) 41
       go true true true = refl
       go true true false = refl
       go true false c = refl
       go false b c = refl
 
-  pub kept-or-next : stepOf s seen .state ≡ cond (eqb (refusal (stepOf s seen .answer)) 0) (nextState s seen) s
+  pub kept-or-next : stepOf s seen .state ≡ cond (eqb (powerRefusal (stepOf s seen .answer)) 0) (nextState s seen) s
   unfolding stepOf
   kept-or-next = go (relaysFit seen) (commandsFit seen) (readingsFit seen)
     where
-      go : (a b c : Bool) → judged a b c s (nextState s seen) .state ≡ cond (eqb (refusal (judged a b c s (nextState s seen) .answer)) 0) (nextState s seen) s
+      go : (a b c : Bool) → steppedIfFit a b c s (nextState s seen) .state ≡ cond (eqb (powerRefusal (steppedIfFit a b c s (nextState s seen) .answer)) 0) (nextState s seen) s
       go true true true = refl
       go true true false = refl
       go true false c = refl

@@ -8,11 +8,12 @@ use borrow.Author.Tests.{leb-true, leb-false, ltb-true, ltb-false, lt-ltb, le-lt
 use lib.Dec.{leb, ltb}
 use lib.IntN.{pos, negsuc, negℤ}
 use lib.Signed.{ltZ}
+use Rattle.catalogue.specs.declared.Raw.{Raw}
 use Rattle.catalogue.specs.declared.Class.{Class}
 use Rattle.catalogue.specs.declared.Class.the-variants.{Value, Invalid, Absent, Error, Reserved, Outside, NotInCatalogue, TooWide}
 use Rattle.catalogue.specs.Class.{classOf}
 use Rattle.power.specs.Observed.{under10A}
-use Rattle.power.proofs.Readings.{count, current-203}
+use Rattle.power.proofs.Readings.{current-203}
 
 -- the class is a value, of more than -10 A and less than 10 A
 abbrev pub valueUnder10A : Class → Bool
@@ -25,19 +26,23 @@ valueUnder10A (Outside raw) = false
 valueUnder10A NotInCatalogue = false
 valueUnder10A TooWide = false
 
-pub either-way : (raw : ℕ) → under10A raw ≡ valueUnder10A (classOf 203 (count raw))
-either-way raw = rw (current-203 raw) (go (ltb raw 65535) (ltb (raw * 100) 2000000) (leb 65536 raw) (leb 19901 raw) (leb raw 20099) refl refl refl refl)
-  where
-    go : (value negative wide low high : Bool) → ltb raw 65535 ≡ value → ltb (raw * 100) 2000000 ≡ negative → leb 19901 raw ≡ low → leb raw 20099 ≡ high
-        → low && high ≡ valueUnder10A (cond value (Value (record { 0 = cond negative (negsuc (2000000 - suc (raw * 100))) (pos (raw * 100 - 2000000)) })) (cond wide TooWide (Invalid (count raw))))
-    go true true w true true v n l h = simp (lt-ltb (2000000 - suc (raw * 100)) 9999 (omega (arith, ltb-true (raw * 100) 2000000 n, leb-true 19901 raw l)))
-    go true true w false true v n l h = simp (le-ltb (2000000 - suc (raw * 100)) 9999 (omega (arith, ltb-true (raw * 100) 2000000 n, leb-false 19901 raw l)))
-    go true true w l false v n e h = absurd (omega (arith, ltb-true (raw * 100) 2000000 n, leb-false raw 20099 h))
-    go true false w true true v n l h = simp (lt-ltb (raw * 100 - 2000000) 10000 (omega (arith, ltb-false (raw * 100) 2000000 n, leb-true raw 20099 h)))
-    go true false w true false v n l h = simp (le-ltb (raw * 100 - 2000000) 10000 (omega (arith, ltb-false (raw * 100) 2000000 n, leb-false raw 20099 h)))
-    go true false w false h v n l e = absurd (omega (arith, ltb-false (raw * 100) 2000000 n, leb-false 19901 raw l))
-    go false n w l true v e f h = absurd (omega (arith, ltb-false raw 65535 v, leb-true raw 20099 h))
-    go false n true true false v e f h = refl
-    go false n true false false v e f h = refl
-    go false n false true false v e f h = refl
-    go false n false false false v e f h = refl
+module _ (raw : Raw) where
+  abbrev count : ℕ
+  count = raw .0
+
+  pub either-way : under10A raw ≡ valueUnder10A (classOf 203 raw)
+  either-way = rw (current-203 raw) (go (ltb count 65535) (ltb (count * 100) 2000000) (leb 65536 count) (leb 19901 count) (leb count 20099) refl refl refl refl)
+    where
+      go : (value negative wide low high : Bool) → ltb count 65535 ≡ value → ltb (count * 100) 2000000 ≡ negative → leb 19901 count ≡ low → leb count 20099 ≡ high
+          → low && high ≡ valueUnder10A (cond value (Value (record { 0 = cond negative (negsuc (2000000 - suc (count * 100))) (pos (count * 100 - 2000000)) })) (cond wide TooWide (Invalid raw)))
+      go true true w true true v n l h = simp (lt-ltb (2000000 - suc (count * 100)) 9999 (omega (arith, ltb-true (count * 100) 2000000 n, leb-true 19901 count l)))
+      go true true w false true v n l h = simp (le-ltb (2000000 - suc (count * 100)) 9999 (omega (arith, ltb-true (count * 100) 2000000 n, leb-false 19901 count l)))
+      go true true w l false v n e h = absurd (omega (arith, ltb-true (count * 100) 2000000 n, leb-false count 20099 h))
+      go true false w true true v n l h = simp (lt-ltb (count * 100 - 2000000) 10000 (omega (arith, ltb-false (count * 100) 2000000 n, leb-true count 20099 h)))
+      go true false w true false v n l h = simp (le-ltb (count * 100 - 2000000) 10000 (omega (arith, ltb-false (count * 100) 2000000 n, leb-false count 20099 h)))
+      go true false w false h v n l e = absurd (omega (arith, ltb-false (count * 100) 2000000 n, leb-false 19901 count l))
+      go false n w l true v e f h = absurd (omega (arith, ltb-false count 65535 v, leb-true count 20099 h))
+      go false n true true false v e f h = refl
+      go false n true false false v e f h = refl
+      go false n false true false v e f h = refl
+      go false n false false false v e f h = refl

@@ -11,15 +11,15 @@ use Rattle.power.specs.declared.State.{State}
 use Rattle.power.specs.declared.State.the-variants.{Off, Rising, Precharge, Both, On, Falling, Fault}
 use Rattle.power.specs.Observed.{allOpen, commanded, urgent}
 use Rattle.power.specs.Pictures.{picture}
-use Rattle.power.specs.States.{number, same}
-use Rattle.power.specs.Rules.{Step, rule3, rule4, steps, firstStep, byRules, nextState}
-use Rattle.power.specs.Refusals.{refusal, stepOf}
+use Rattle.power.specs.States.{stateNumber, sameState}
+use Rattle.power.specs.Rules.{PowerStep, rule3, rule4, steps, firstStep, byRules, nextState}
+use Rattle.power.specs.Refusals.{powerRefusal, stepOf}
 use Rattle.power.proofs.Numbers.{number-tells}
 use Rattle.power.proofs.Answers.{kept-or-next}
 
 -- a step of the list leads from the state to the next, its picture shows and its condition holds
-pub record ByStep (list : List Step) (state : State) (seen : Observation) (next : State) : Type 0 where
-  pub step : Step
+pub record ByStep (list : List PowerStep) (state : State) (seen : Observation) (next : State) : Type 0 where
+  pub step : PowerStep
   pub listed : List·Memᴰ step list
   pub from : step .from ≡ state
   pub to : step .to ≡ next
@@ -29,16 +29,16 @@ pub record ByStep (list : List Step) (state : State) (seen : Observation) (next 
 abbrev pub Leads : State → Observation → State → Type 0
 Leads state seen next = (next ≡ state) ⊎ ((next ≡ Off) ⊎ ((next ≡ Fault) ⊎ ByStep steps state seen next))
 
-first-step : (list : List Step) (state : State) (seen : Observation) → (firstStep list state seen ≡ Fault) ⊎ ByStep list state seen (firstStep list state seen)
+first-step : (list : List PowerStep) (state : State) (seen : Observation) → (firstStep list state seen ≡ Fault) ⊎ ByStep list state seen (firstStep list state seen)
 unfolding firstStep
 first-step [] state seen = inl refl
-first-step (t ∷ more) state seen = go (same (t .from) state) (picture (t .to) seen) (t .when seen) refl refl refl (firstStep more state seen) (first-step more state seen)
+first-step (t ∷ more) state seen = go (sameState (t .from) state) (picture (t .to) seen) (t .when seen) refl refl refl (firstStep more state seen) (first-step more state seen)
   where
     later : (next : State) → (next ≡ Fault) ⊎ ByStep more state seen next → (next ≡ Fault) ⊎ ByStep (t ∷ more) state seen next
     later next =
         ⊎-elim (λ e. inl e) (λ b. inr (record { step = b .step; listed = List·Memᴰ·tail (b .listed); from = b .from; to = b .to; shown = b .shown; allowed = b .allowed }))
 
-    go : (f p w : Bool) → same (t .from) state ≡ f → picture (t .to) seen ≡ p → t .when seen ≡ w → (next : State) → (next ≡ Fault) ⊎ ByStep more state seen next
+    go : (f p w : Bool) → sameState (t .from) state ≡ f → picture (t .to) seen ≡ p → t .when seen ≡ w → (next : State) → (next ≡ Fault) ⊎ ByStep more state seen next
         → (cond (f && (p && w)) (t .to) next ≡ Fault) ⊎ ByStep (t ∷ more) state seen (cond (f && (p && w)) (t .to) next)
     go true true true a b c next rest =
         inr (record { step = t; listed = List·Memᴰ·head refl; from = number-tells (t .from) state (eqb-true _ _ a); to = refl; shown = b; allowed = c })
@@ -70,32 +70,32 @@ next-state Fault seen = go (allOpen seen && (commanded 0 seen || commanded 2 see
 
 -- the next state is the old one, off, fault, or where a step of the list leads; refused steps included
 pub step-leads : (state : State) (seen : Observation) → Leads state seen (stepOf state seen .state)
-step-leads state seen = rw kept-or-next (go (eqb (refusal (stepOf state seen .answer)) 0))
+step-leads state seen = rw kept-or-next (go (eqb (powerRefusal (stepOf state seen .answer)) 0))
   where
     go : (taken : Bool) → Leads state seen (cond taken (nextState state seen) state)
     go true = next-state state seen
     go false = inl refl
 
 -- what a test of each step of a list says of one of them
-everyStep : (Step → Bool) → List Step → Bool
+everyStep : (PowerStep → Bool) → List PowerStep → Bool
 everyStep test [] = true
 everyStep test (t ∷ more) = test t && everyStep test more
 
-of-each : (test : Step → Bool) {t : Step} {list : List Step} → List·Memᴰ t list → T (everyStep test list) → T (test t)
+of-each : (test : PowerStep → Bool) {t : PowerStep} {list : List PowerStep} → List·Memᴰ t list → T (everyStep test list) → T (test t)
 unfolding everyStep
 of-each test {t} (List·Memᴰ·head {x} {xs} e) h = rw e (and-yes (test x) (everyStep test xs) h .0)
 of-each test (List·Memᴰ·tail {x} {xs} m) h = of-each test m (and-yes (test x) (everyStep test xs) h .1)
 
-abbrev toOnFromBoth : Step → Bool
-toOnFromBoth t = not (same (t .to) On) || same (t .from) Both
+abbrev toOnFromBoth : PowerStep → Bool
+toOnFromBoth t = not (sameState (t .to) On) || sameState (t .from) Both
 
-only-both : (t : Step) → List·Memᴰ t steps → t .to ≡ On → t .from ≡ Both
+only-both : (t : PowerStep) → List·Memᴰ t steps → t .to ≡ On → t .from ≡ Both
 unfolding everyStep rule3 rule4
 only-both t listed e =
-    number-tells (t .from) Both (eqb→eq (number (t .from)) 3 (subst (λ (s : State). T (not (same s On) || same (t .from) Both)) e (of-each toOnFromBoth listed tt)))
+    number-tells (t .from) Both (eqb→eq (stateNumber (t .from)) 3 (subst (λ (s : State). T (not (sameState s On) || sameState (t .from) Both)) e (of-each toOnFromBoth listed tt)))
 
-not-on : (a next : State) → next ≡ a → next ≡ On → T (not (same a On)) → ⊥
-not-on a next e f h = subst (λ (s : State). T (not (same s On))) (sym e ∙ f) h
+not-on : (a next : State) → next ≡ a → next ≡ On → T (not (sameState a On)) → ⊥
+not-on a next e f h = subst (λ (s : State). T (not (sameState s On))) (sym e ∙ f) h
 
 -- on is entered only from both
 pub on-only-from-both : (state : State) (seen : Observation) → stepOf state seen .state ≡ On → (state ≡ Both) ⊎ (state ≡ On)

@@ -3,6 +3,7 @@ pub mod Numbers
 pub mod Answers
 pub mod Leading
 pub mod Urgent
+pub mod AnyOrder
 pub mod Readings
 pub mod Currents
 pub mod Worked

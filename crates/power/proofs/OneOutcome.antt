@@ -11,15 +11,16 @@ use ghost.Atoms.{Atoms}
 use contract.Monad.{Fun}
 use denote.Triple.Clauses.{AtExit}
 use Rattle.only.specs.Only.{Only, only-this}
+use Rattle.catalogue.specs.declared.Raw.{Raw}
 use Rattle.power.specs.declared.State.{State}
 use Rattle.power.specs.declared.Observation.{Observation}
 use Rattle.power.specs.Observed.{prechargeComplete}
-use Rattle.power.specs.States.{number, numbered}
+use Rattle.power.specs.States.{stateNumber, stateNumbered}
 use Rattle.power.specs.Rules.{startsAs}
 use Rattle.power.specs.Refusals.{stepOf}
 use Rattle.power.proofs.State as State-row
 use Rattle.power.proofs.Stepped as Stepped
-use Rattle.power.proofs.Numbered as Numbered
+use Rattle.power.proofs.StateOrNone as StateOrNone
 use Rattle.power.proofs.State.start as start
 use Rattle.power.proofs.State.number as number-fn
 use Rattle.power.proofs.State.numbered as numbered-fn
@@ -31,12 +32,12 @@ module _ {M : Type 1} (𝓤 : URA M) (H : Heap 𝓤) (A : Atoms 𝓤) (mem : Mem
   one-start e = only-this 𝓤 _ (State-row.the-row .coded) startsAs (λ r. refl)
 
   pub one-number : (state : State) (e : AtExit number-fn.ended tt) → Only 𝓤 (λ r. number-fn.clauses 𝓤 H A mem run tt (state, tt) .ensures tt r e)
-  one-number state e = only-this 𝓤 _ codedℕ (number state) (λ r. refl)
+  one-number state e = only-this 𝓤 _ codedℕ (stateNumber state) (λ r. refl)
 
   pub one-numbered : (n : ℕ) (e : AtExit numbered-fn.ended tt) → Only 𝓤 (λ r. numbered-fn.clauses 𝓤 H A mem run tt (n, tt) .ensures tt r e)
-  one-numbered n e = only-this 𝓤 _ (Numbered.the-row .coded) (numbered n) (λ r. refl)
+  one-numbered n e = only-this 𝓤 _ (StateOrNone.the-row .coded) (stateNumbered n) (λ r. refl)
 
-  pub one-precharge-complete : (inside outside : ℕ) (e : AtExit precharge-complete.ended tt) → Only 𝓤 (λ r. precharge-complete.clauses 𝓤 H A mem run tt (inside, (outside, tt)) .ensures tt r e)
+  pub one-precharge-complete : (inside outside : Raw) (e : AtExit precharge-complete.ended tt) → Only 𝓤 (λ r. precharge-complete.clauses 𝓤 H A mem run tt (inside, (outside, tt)) .ensures tt r e)
   one-precharge-complete inside outside e = only-this 𝓤 _ codedBool (prechargeComplete inside outside) (λ r. refl)
 
   pub one-step : (state : State) (seen : Observation) (e : AtExit step.ended tt) → Only 𝓤 (λ r. step.clauses 𝓤 H A mem run tt (state, (seen, tt)) .ensures tt r e)

@@ -17,16 +17,13 @@ use Rattle.catalogue.specs.Find.{rowOf}
 use Rattle.catalogue.specs.Class.{classOf, classFor, between}
 use Rattle.power.specs.Observed.{highestReading, invalidVoltage, valid}
 
-abbrev pub count : ℕ → Raw
-count raw = record { 0 = raw }
-
 -- the rows of the three but for number and offset: 16 bits of 0.1 V or 0.1 A each, and 65,535 the mark invalid
 abbrev measured : ℕ → ℤ → Row
 measured n offset = row n 16 100 offset 0 highestReading (invalid invalidVoltage invalidVoltage) unmarked unmarked
 
 -- what a count of such a signal stands for
-abbrev pub measuredClass : ℤ → ℕ → Class
-measuredClass offset raw = cond (valid raw) (Value (record { 0 = pos (raw * 100) +ℤ offset })) (cond (leb 65536 raw) TooWide (Invalid (count raw)))
+abbrev pub measuredClass : ℤ → Raw → Class
+measuredClass offset raw = cond (valid raw) (Value (record { 0 = pos (raw .0 * 100) +ℤ offset })) (cond (leb 65536 (raw .0)) TooWide (Invalid raw))
 
 no-mark : (raw : ℕ) → leb 1 raw && leb raw 0 ≡ false
 no-mark raw = go (leb 1 raw) refl
@@ -35,25 +32,28 @@ no-mark raw = go (leb 1 raw) refl
     go true e = lt-leb raw 0 (omega (arith, leb-true 1 raw e))
     go false e = refl
 
-class-of : (n : ℕ) (offset : ℤ) (raw : ℕ) → classFor (some (measured n offset)) (count raw) ≡ measuredClass offset raw
+class-of : (n : ℕ) (offset : ℤ) (raw : Raw) → classFor (some (measured n offset)) raw ≡ measuredClass offset raw
 unfolding between
-class-of n offset raw = go (ltb raw 65535) (leb 65536 raw) refl refl
+class-of n offset raw = go (ltb count 65535) (leb 65536 count) refl refl
   where
-    go : (v w : Bool) → ltb raw 65535 ≡ v → leb 65536 raw ≡ w → classFor (some (measured n offset)) (count raw) ≡ cond v (Value (record { 0 = pos (raw * 100) +ℤ offset })) (cond w TooWide (Invalid (count raw)))
+    count : ℕ
+    count = raw .0
+
+    go : (v w : Bool) → ltb count 65535 ≡ v → leb 65536 count ≡ w → classFor (some (measured n offset)) raw ≡ cond v (Value (record { 0 = pos (count * 100) +ℤ offset })) (cond w TooWide (Invalid raw))
     go true w e f =
-        simp (lt-leb 65536 raw (omega (arith, ltb-true raw 65535 e)), lt-leb 65535 raw (omega (arith, ltb-true raw 65535 e)), no-mark raw, le-leb 0 raw (omega arith), le-leb raw 65535 (omega (arith, ltb-true raw 65535 e)))
+        simp (lt-leb 65536 count (omega (arith, ltb-true count 65535 e)), lt-leb 65535 count (omega (arith, ltb-true count 65535 e)), no-mark count, le-leb 0 count (omega arith), le-leb count 65535 (omega (arith, ltb-true count 65535 e)))
     go false true e f = simp f
     go false false e f =
-        simp (f, le-leb 65535 raw (ltb-false raw 65535 e), le-leb raw 65535 (omega (arith, leb-false 65536 raw f)))
+        simp (f, le-leb 65535 count (ltb-false count 65535 e), le-leb count 65535 (omega (arith, leb-false 65536 count f)))
 
-pub inside-201 : (raw : ℕ) → classOf 201 (count raw) ≡ measuredClass (plus 0) raw
+pub inside-201 : (raw : Raw) → classOf 201 raw ≡ measuredClass (plus 0) raw
 unfolding classOf rowOf rows
 inside-201 raw = class-of 201 (plus 0) raw
 
-pub outside-202 : (raw : ℕ) → classOf 202 (count raw) ≡ measuredClass (plus 0) raw
+pub outside-202 : (raw : Raw) → classOf 202 raw ≡ measuredClass (plus 0) raw
 unfolding classOf rowOf rows
 outside-202 raw = class-of 202 (plus 0) raw
 
-pub current-203 : (raw : ℕ) → classOf 203 (count raw) ≡ measuredClass (minus 2000000) raw
+pub current-203 : (raw : Raw) → classOf 203 raw ≡ measuredClass (minus 2000000) raw
 unfolding classOf rowOf rows
 current-203 raw = class-of 203 (minus 2000000) raw

@@ -6,10 +6,10 @@ use borrow.Author.Tests.{eqb-true}
 use Rattle.power.specs.declared.Observation.{Observation}
 use Rattle.power.specs.declared.State.{State}
 use Rattle.power.specs.declared.State.the-variants.{Off, Rising, Precharge, Both, On, Falling, Fault}
-use Rattle.power.specs.Observed.{c, shows, allOpen, commanded, urgent}
+use Rattle.power.specs.Observed.{closedRelay, shows, allOpen, commanded, urgent}
 use Rattle.power.specs.Pictures.{picture}
 use Rattle.power.specs.Rules.{nextState}
-use Rattle.power.specs.Refusals.{refusal, stepOf}
+use Rattle.power.specs.Refusals.{powerRefusal, stepOf}
 use Rattle.power.proofs.Answers.{kept-or-next}
 
 first : (x y z : Bool) → x && y && z ≡ true → x ≡ true
@@ -17,8 +17,8 @@ first true y z e = refl
 first false y z e = e
 
 module _ (seen : Observation) (apart : allOpen seen ≡ true) where
-  not-closed : (between positive : ℕ) → shows c between positive seen ≡ false
-  not-closed between positive = simp (eqb-true (seen .«main_negative») 1 (first _ _ _ apart))
+  not-closed : (between positive : ℕ) → shows closedRelay between positive seen ≡ false
+  not-closed between positive = simp (eqb-true (seen .«main_negative» .0) 1 (first _ _ _ apart))
 
   next-is-off : urgent seen ≡ true → (state : State) → (state ≡ Fault → ⊥) → nextState state seen ≡ Off
   unfolding nextState picture
@@ -35,5 +35,5 @@ module _ (seen : Observation) (apart : allOpen seen ≡ true) where
   unfolding nextState
   fault-is-left = simp apart
 
-  pub urgent-and-open : urgent seen ≡ true → (state : State) → refusal (stepOf state seen .answer) ≡ 0 → (state ≡ Fault → ⊥) → stepOf state seen .state ≡ Off
+  pub urgent-and-open : urgent seen ≡ true → (state : State) → powerRefusal (stepOf state seen .answer) ≡ 0 → (state ≡ Fault → ⊥) → stepOf state seen .state ≡ Off
   urgent-and-open now state taken h = kept-or-next state seen ∙ simp (taken, next-is-off now state h)

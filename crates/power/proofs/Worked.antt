@@ -3,15 +3,19 @@ use mathlib.Core.Path.{_≡_, refl}
 use mathlib.Core.Bool.{Bool, true, false}
 use mathlib.Core.List.{List, [], _∷_, map}
 use Prim.Native.Nat.{ℕ}
+use Rattle.catalogue.specs.declared.Raw.{Raw}
 use Rattle.power.specs.Observed.{prechargeComplete, under10A}
 
+abbrev raw : ℕ → Raw
+raw count = record { 0 = count }
+
 pub record Precharging : Type 0 where
-  pub inside : ℕ
-  pub outside : ℕ
+  pub inside : Raw
+  pub outside : Raw
   pub complete : Bool
 
 abbrev volts : ℕ → ℕ → Bool → Precharging
-volts i o c = record { inside = i; outside = o; complete = c }
+volts inside outside complete = record { inside = raw inside; outside = raw outside; complete = complete }
 
 pub precharges : List Precharging
 precharges =
@@ -29,5 +33,5 @@ unfolding precharges prechargeComplete
 all-precharges = refl
 
 -- -30 A, -10 A, -9.9 A, 0 A, 9.9 A, 10 A, 30 A
-pub currents : map under10A (19700 ∷ 19900 ∷ 19901 ∷ 20000 ∷ 20099 ∷ 20100 ∷ 20300 ∷ []) ≡ false ∷ false ∷ true ∷ true ∷ true ∷ false ∷ false ∷ []
+pub currents : map (λ (count : ℕ). under10A (raw count)) (19700 ∷ 19900 ∷ 19901 ∷ 20000 ∷ 20099 ∷ 20100 ∷ 20300 ∷ []) ≡ false ∷ false ∷ true ∷ true ∷ true ∷ false ∷ false ∷ []
 currents = refl

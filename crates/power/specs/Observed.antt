@@ -2,30 +2,31 @@
 use Prim.Native.Nat.{ℕ, _*_}
 use mathlib.Core.Bool.{Bool, _&&_, _||_}
 use lib.Dec.{eqb, leb, ltb}
+use Rattle.catalogue.specs.declared.Raw.{Raw}
 use Rattle.power.specs.declared.Observation.{Observation}
 
 -- "relay counts .. (1 open, 2 closed)"
-abbrev pub o : ℕ
-o = 1
+abbrev pub openRelay : ℕ
+openRelay = 1
 
-abbrev pub c : ℕ
-c = 2
+abbrev pub closedRelay : ℕ
+closedRelay = 2
 
--- the three relays have these counts, in the order "main negative, precharge, main positive"
+-- the three relays have these raw counts, in the order "main negative, precharge, main positive"
 abbrev pub shows : ℕ → ℕ → ℕ → Observation → Bool
-shows negative precharge positive seen = eqb (seen .«main_negative») negative && eqb (seen .precharge) precharge && eqb (seen .«main_positive») positive
+shows negative precharge positive seen = eqb (seen .«main_negative» .0) negative && eqb (seen .precharge .0) precharge && eqb (seen .«main_positive» .0) positive
 
 -- "ooo"
 abbrev pub allOpen : Observation → Bool
-allOpen = shows o o o
+allOpen = shows openRelay openRelay openRelay
 
 -- "1601 as command"
 abbrev pub commanded : ℕ → Observation → Bool
-commanded n seen = eqb (seen .command) n
+commanded n seen = eqb (seen .command .0) n
 
 -- "Urgent: command 3 or 1604 = 1"
 abbrev pub urgent : Observation → Bool
-urgent seen = commanded 3 seen || eqb (seen .«emergency_off») 1
+urgent seen = commanded 3 seen || eqb (seen .«emergency_off» .0) 1
 
 -- 42 is for a "command or 1604 over 3"
 abbrev pub highestCommand : ℕ
@@ -39,17 +40,17 @@ highestReading = 65535
 abbrev pub invalidVoltage : ℕ
 invalidVoltage = highestReading
 
-abbrev pub valid : ℕ → Bool
-valid voltage = ltb voltage invalidVoltage
+abbrev pub valid : Raw → Bool
+valid voltage = ltb (voltage .0) invalidVoltage
 
 -- how many hundredths of the inside: a "house figure"
 abbrev pub share : ℕ
 share = 95
 
 -- "Precharge complete: both voltages valid, inside above 0, and 100 x outside >= 95 x inside"
-unfoldable pub prechargeComplete : ℕ → ℕ → Bool
-prechargeComplete inside outside = valid inside && valid outside && ltb 0 inside && leb (share * inside) (100 * outside)
+unfoldable pub prechargeComplete : Raw → Raw → Bool
+prechargeComplete inside outside = valid inside && valid outside && ltb 0 (inside .0) && leb (share * inside .0) (100 * outside .0)
 
 -- "current raw 19,901 to 20,099 (under 10 A either way)"
-abbrev pub under10A : ℕ → Bool
-under10A current = leb 19901 current && leb current 20099
+abbrev pub under10A : Raw → Bool
+under10A current = leb 19901 (current .0) && leb (current .0) 20099

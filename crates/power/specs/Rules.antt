@@ -6,50 +6,50 @@ use Rattle.power.specs.declared.State.{State}
 use Rattle.power.specs.declared.State.the-variants.{Off, Rising, Precharge, Both, On, Falling, Fault}
 use Rattle.power.specs.Observed.{allOpen, commanded, urgent, prechargeComplete, under10A}
 use Rattle.power.specs.Pictures.{picture}
-use Rattle.power.specs.States.{same}
+use Rattle.power.specs.States.{sameState}
 
 -- "A monitor starts off"
 abbrev pub startsAs : State
 startsAs = Off
 
 -- a step from one state to another, and the observations that allow it
-pub record Step : Type 0 where
+pub record PowerStep : Type 0 where
   pub from : State
   pub to : State
   pub when : Observation → Bool
 
-abbrev pub step : State → State → (Observation → Bool) → Step
-step from to when = record { from = from; to = to; when = when }
+abbrev pub fromTo : State → State → (Observation → Bool) → PowerStep
+fromTo from to when = record { from = from; to = to; when = when }
 
 -- a step without a condition
 abbrev always : Observation → Bool
 always seen = true
 
 -- 3. "off to rising, rising to precharge: command 1; precharge to both: command 1 and precharge complete; both to on; falling to off"
-unfoldable pub rule3 : List Step
+unfoldable pub rule3 : List PowerStep
 rule3 =
-    step Off Rising (commanded 1)
-    ∷ step Rising Precharge (commanded 1)
-    ∷ step Precharge Both (λ seen. commanded 1 seen && prechargeComplete (seen .inside) (seen .outside))
-    ∷ step Both On always
-    ∷ step Falling Off always
+    fromTo Off Rising (commanded 1)
+    ∷ fromTo Rising Precharge (commanded 1)
+    ∷ fromTo Precharge Both (λ seen. commanded 1 seen && prechargeComplete (seen .inside) (seen .outside))
+    ∷ fromTo Both On always
+    ∷ fromTo Falling Off always
     ∷ []
 
 -- 4. "rising to off: command 2; precharge to falling: command 2 or urgent; on to falling: urgent, or command 2 with current raw 19,901 to 20,099"
-unfoldable pub rule4 : List Step
+unfoldable pub rule4 : List PowerStep
 rule4 =
-    step Rising Off (commanded 2)
-    ∷ step Precharge Falling (λ seen. commanded 2 seen || urgent seen)
-    ∷ step On Falling (λ seen. urgent seen || (commanded 2 seen && under10A (seen .current)))
+    fromTo Rising Off (commanded 2)
+    ∷ fromTo Precharge Falling (λ seen. commanded 2 seen || urgent seen)
+    ∷ fromTo On Falling (λ seen. urgent seen || (commanded 2 seen && under10A (seen .current)))
     ∷ []
 
-abbrev pub steps : List Step
+abbrev pub steps : List PowerStep
 steps = rule3 ++ rule4
 
 -- "the first that applies, where a step in 3 or 4 needs its new state's picture"; 5. "else fault"
-unfoldable pub firstStep : List Step → State → Observation → State
+unfoldable pub firstStep : List PowerStep → State → Observation → State
 firstStep [] state seen = Fault
-firstStep (s ∷ more) state seen = cond (same (s .from) state && (picture (s .to) seen && s .when seen)) (s .to) (firstStep more state seen)
+firstStep (s ∷ more) state seen = cond (sameState (s .from) state && (picture (s .to) seen && s .when seen)) (s .to) (firstStep more state seen)
 
 -- 1. "the state's own picture: stays"; 2. "urgent and ooo: off"; else 3 to 5
 abbrev pub byRules : State → Observation → State

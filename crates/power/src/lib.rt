@@ -6,10 +6,11 @@
 mod observed;
 mod rules;
 
+use catalogue::Raw;
 pub use observed::precharge_complete;
 use rules::next_state;
 ghost use mathlib.Core.Path.{_≡_};
-ghost use Rattle.power.specs.States.{number, numbered};
+ghost use Rattle.power.specs.States.{stateNumber, stateNumbered};
 ghost use Rattle.power.specs.Rules.{startsAs};
 ghost use Rattle.power.specs.Refusals.{openOrClosed, relaysFit, commandsFit, readingsFit, stepOf};
 
@@ -24,7 +25,7 @@ pub enum State {
 }
 
 // What a number stands for: a state, or none.
-pub enum Numbered {
+pub enum StateOrNone {
     State(State),
     NoState,
 }
@@ -32,21 +33,21 @@ pub enum Numbered {
 // Raw counts, as read from frames.
 pub struct Observation {
     // Relays: 1 open, 2 closed.
-    pub main_negative: u32,
-    pub precharge: u32,
-    pub main_positive: u32,
+    pub main_negative: Raw,
+    pub precharge: Raw,
+    pub main_positive: Raw,
     // 1601.
-    pub command: u32,
+    pub command: Raw,
     // 1604.
-    pub emergency_off: u32,
+    pub emergency_off: Raw,
     // 203.
-    pub current: u32,
+    pub current: Raw,
     // 201 and 202: the voltages on either side of the main positive relay.
-    pub inside: u32,
-    pub outside: u32,
+    pub inside: Raw,
+    pub outside: Raw,
 }
 
-pub enum Answer {
+pub enum PowerAnswer {
     Taken,
     // A relay count is neither 1 nor 2.
     NeitherOpenNorClosed,
@@ -59,7 +60,7 @@ pub enum Answer {
 // The state after a step, and what the step answered.
 pub struct Stepped {
     pub state: State,
-    pub answer: Answer,
+    pub answer: PowerAnswer,
 }
 
 // A relay count: open, closed.
@@ -83,7 +84,7 @@ impl State {
 
     // 0 off, 1 rising, 2 precharge, 3 both, 4 on, 5 falling, 6 fault.
     pub fn number(self) -> u32
-        ensures { λ r. ⌜ r ≡ number self ⌝ }
+        ensures { λ r. ⌜ r ≡ stateNumber self ⌝ }
     {
         match self {
             State::Off => 0,
@@ -97,26 +98,26 @@ impl State {
     }
 
     // The state of a number, where there is one.
-    pub fn numbered(n: u32) -> Numbered
-        ensures { λ r. ⌜ r ≡ numbered n ⌝ }
+    pub fn numbered(n: u32) -> StateOrNone
+        ensures { λ r. ⌜ r ≡ stateNumbered n ⌝ }
     {
         match n {
-            0 => Numbered::State(State::Off),
-            1 => Numbered::State(State::Rising),
-            2 => Numbered::State(State::Precharge),
-            3 => Numbered::State(State::Both),
-            4 => Numbered::State(State::On),
-            5 => Numbered::State(State::Falling),
-            6 => Numbered::State(State::Fault),
-            _ => Numbered::NoState,
+            0 => StateOrNone::State(State::Off),
+            1 => StateOrNone::State(State::Rising),
+            2 => StateOrNone::State(State::Precharge),
+            3 => StateOrNone::State(State::Both),
+            4 => StateOrNone::State(State::On),
+            5 => StateOrNone::State(State::Falling),
+            6 => StateOrNone::State(State::Fault),
+            _ => StateOrNone::NoState,
         }
     }
 }
 
-fn is_open_or_closed(relay: u32) -> bool
+fn is_open_or_closed(relay: Raw) -> bool
     ensures { λ r. ⌜ r ≡ openOrClosed relay ⌝ }
 {
-    (relay == OPEN) | (relay == CLOSED)
+    (relay.0 == OPEN) | (relay.0 == CLOSED)
 }
 
 fn relays_fit(seen: Observation) -> bool
@@ -131,15 +132,15 @@ fn relays_fit(seen: Observation) -> bool
 fn commands_fit(seen: Observation) -> bool
     ensures { λ r. ⌜ r ≡ commandsFit seen ⌝ }
 {
-    (seen.command <= HIGHEST_COMMAND) & (seen.emergency_off <= HIGHEST_COMMAND)
+    (seen.command.0 <= HIGHEST_COMMAND) & (seen.emergency_off.0 <= HIGHEST_COMMAND)
 }
 
 fn readings_fit(seen: Observation) -> bool
     ensures { λ r. ⌜ r ≡ readingsFit seen ⌝ }
 {
-    (seen.current <= HIGHEST_READING)
-        & (seen.inside <= HIGHEST_READING)
-        & (seen.outside <= HIGHEST_READING)
+    (seen.current.0 <= HIGHEST_READING)
+        & (seen.inside.0 <= HIGHEST_READING)
+        & (seen.outside.0 <= HIGHEST_READING)
 }
 
 // One step: the state that follows, or a refusal and the state kept.
@@ -149,24 +150,24 @@ pub fn step(state: State, seen: Observation) -> Stepped
     if !relays_fit(seen) {
         return Stepped {
             state,
-            answer: Answer::NeitherOpenNorClosed,
+            answer: PowerAnswer::NeitherOpenNorClosed,
         };
     }
     if !commands_fit(seen) {
         return Stepped {
             state,
-            answer: Answer::CommandTooHigh,
+            answer: PowerAnswer::CommandTooHigh,
         };
     }
     if !readings_fit(seen) {
         return Stepped {
             state,
-            answer: Answer::ReadingTooHigh,
+            answer: PowerAnswer::ReadingTooHigh,
         };
     }
     let next = next_state(state, seen);
     Stepped {
         state: next,
-        answer: Answer::Taken,
+        answer: PowerAnswer::Taken,
     }
 }

@@ -4,6 +4,7 @@ use crate::HIGHEST_READING;
 use crate::OPEN;
 use crate::Observation;
 use crate::State;
+use catalogue::Raw;
 ghost use mathlib.Core.Path.{_≡_};
 ghost use Rattle.power.specs.Observed.{shows, allOpen, urgent, prechargeComplete, under10A};
 ghost use Rattle.power.specs.Pictures.{picture};
@@ -21,32 +22,32 @@ fn wide(x: u32) -> u64
 }
 
 // Whether precharge is complete, of the raw counts of 201 and 202.
-pub fn precharge_complete(inside: u32, outside: u32) -> bool
+pub fn precharge_complete(inside: Raw, outside: Raw) -> bool
     ensures { λ r. ⌜ r ≡ prechargeComplete inside outside ⌝ }
 {
-    let needed = SHARE * wide(inside);
-    let there = 100 * wide(outside);
-    (inside < INVALID) & (outside < INVALID) & (0 < inside) & (needed <= there)
+    let needed = SHARE * wide(inside.0);
+    let there = 100 * wide(outside.0);
+    (inside.0 < INVALID) & (outside.0 < INVALID) & (0 < inside.0) & (needed <= there)
 }
 
-pub fn is_under_10_amps(current: u32) -> bool
+pub fn is_under_10_amps(current: Raw) -> bool
     ensures { λ r. ⌜ r ≡ under10A current ⌝ }
 {
-    (19901 <= current) & (current <= 20099)
+    (19901 <= current.0) & (current.0 <= 20099)
 }
 
 pub fn is_urgent(seen: Observation) -> bool
     ensures { λ r. ⌜ r ≡ urgent seen ⌝ }
 {
-    (seen.command == 3) | (seen.emergency_off == 1)
+    (seen.command.0 == 3) | (seen.emergency_off.0 == 1)
 }
 
 fn shows_relays(seen: Observation, negative: u32, precharge: u32, positive: u32) -> bool
     ensures { λ r. ⌜ r ≡ shows negative precharge positive seen ⌝ }
 {
-    (seen.main_negative == negative)
-        & (seen.precharge == precharge)
-        & (seen.main_positive == positive)
+    (seen.main_negative.0 == negative)
+        & (seen.precharge.0 == precharge)
+        & (seen.main_positive.0 == positive)
 }
 
 pub fn all_open(seen: Observation) -> bool

@@ -18,7 +18,7 @@ ghost use Rattle.power.specs.declared.State.the-variants.{Off, Rising, P
 fn from_off(seen: Observation) -> State
     ensures { λ r. ⌜ r ≡ firstStep steps Off seen ⌝ }
 {
-    if shows_picture(State::Rising, seen) & (seen.command == 1) {
+    if shows_picture(State::Rising, seen) & (seen.command.0 == 1) {
         return State::Rising;
     }
     State::Fault
@@ -27,10 +27,10 @@ fn from_off(seen: Observation) -> State
 fn from_rising(seen: Observation) -> State
     ensures { λ r. ⌜ r ≡ firstStep steps Rising seen ⌝ }
 {
-    if shows_picture(State::Precharge, seen) & (seen.command == 1) {
+    if shows_picture(State::Precharge, seen) & (seen.command.0 == 1) {
         return State::Precharge;
     }
-    if shows_picture(State::Off, seen) & (seen.command == 2) {
+    if shows_picture(State::Off, seen) & (seen.command.0 == 2) {
         return State::Off;
     }
     State::Fault
@@ -40,10 +40,10 @@ fn from_precharge(seen: Observation) -> State
     ensures { λ r. ⌜ r ≡ firstStep steps Precharge seen ⌝ }
 {
     let complete = precharge_complete(seen.inside, seen.outside);
-    if shows_picture(State::Both, seen) & ((seen.command == 1) & complete) {
+    if shows_picture(State::Both, seen) & ((seen.command.0 == 1) & complete) {
         return State::Both;
     }
-    let down = (seen.command == 2) | is_urgent(seen);
+    let down = (seen.command.0 == 2) | is_urgent(seen);
     if shows_picture(State::Falling, seen) & down {
         return State::Falling;
     }
@@ -63,7 +63,7 @@ fn from_on(seen: Observation) -> State
     ensures { λ r. ⌜ r ≡ firstStep steps On seen ⌝ }
 {
     let calm = is_under_10_amps(seen.current);
-    let down = is_urgent(seen) | ((seen.command == 2) & calm);
+    let down = is_urgent(seen) | ((seen.command.0 == 2) & calm);
     if shows_picture(State::Falling, seen) & down {
         return State::Falling;
     }
@@ -82,7 +82,7 @@ fn from_falling(seen: Observation) -> State
 fn from_fault(seen: Observation) -> State
     ensures { λ r. ⌜ r ≡ fromFault seen ⌝ }
 {
-    let left = (seen.command == 0) | (seen.command == 2);
+    let left = (seen.command.0 == 0) | (seen.command.0 == 2);
     if all_open(seen) & left {
         return State::Off;
     }

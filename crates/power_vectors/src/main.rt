@@ -1,13 +1,14 @@
 // Runs the power monitor over the observations on standard input. A line is a state's digit, or N for a new monitor, and
 // the eight raw counts in eight hex digits each, in the order of `Observation`. Each gives a line: the next state's digit,
 // or `no` and the refusal.
+use catalogue::Raw;
 use libc::STDIN_FILENO;
 use libc::STDOUT_FILENO;
 use numerals::identifier_or_0;
-use power::Answer;
-use power::Numbered;
 use power::Observation;
+use power::PowerAnswer;
 use power::State;
+use power::StateOrNone;
 
 const MOST_LINES: u32 = 1000000;
 
@@ -19,23 +20,27 @@ fn digit(byte: u8) -> u32 {
 }
 
 // The state that a line begins with.
-fn state_of(byte: u8) -> Numbered {
+fn state_of(byte: u8) -> StateOrNone {
     if byte == b'N' {
-        return Numbered::State(State::start());
+        return StateOrNone::State(State::start());
     }
     State::numbered(digit(byte))
 }
 
+fn raw_of(digits: &[u8]) -> Raw {
+    Raw(identifier_or_0(digits))
+}
+
 fn observed(line: [u8; 66]) -> Observation {
     Observation {
-        main_negative: identifier_or_0(&line[1..9]),
-        precharge: identifier_or_0(&line[9..17]),
-        main_positive: identifier_or_0(&line[17..25]),
-        command: identifier_or_0(&line[25..33]),
-        emergency_off: identifier_or_0(&line[33..41]),
-        current: identifier_or_0(&line[41..49]),
-        inside: identifier_or_0(&line[49..57]),
-        outside: identifier_or_0(&line[57..65]),
+        main_negative: raw_of(&line[1..9]),
+        precharge: raw_of(&line[9..17]),
+        main_positive: raw_of(&line[17..25]),
+        command: raw_of(&line[25..33]),
+        emergency_off: raw_of(&line[33..41]),
+        current: raw_of(&line[41..49]),
+        inside: raw_of(&line[49..57]),
+        outside: raw_of(&line[57..65]),
     }
 }
 
@@ -43,18 +48,18 @@ fn step(state: State, seen: Observation) {
     let after = power::step(state, seen);
     let answer = after.answer;
     match answer {
-        Answer::Taken => {
+        PowerAnswer::Taken => {
             let next = after.state;
             io::print_decimal(STDOUT_FILENO, next.number() as u64);
             io::write_all(STDOUT_FILENO, b"\n");
         }
-        Answer::NeitherOpenNorClosed => {
+        PowerAnswer::NeitherOpenNorClosed => {
             io::write_all(STDOUT_FILENO, b"no\t41\n");
         }
-        Answer::CommandTooHigh => {
+        PowerAnswer::CommandTooHigh => {
             io::write_all(STDOUT_FILENO, b"no\t42\n");
         }
-        Answer::ReadingTooHigh => {
+        PowerAnswer::ReadingTooHigh => {
             io::write_all(STDOUT_FILENO, b"no\t43\n");
         }
     }
@@ -69,8 +74,8 @@ fn main() {
             return;
         }
         match state_of(line[0]) {
-            Numbered::State(state) => step(state, observed(line)),
-            Numbered::NoState => return,
+            StateOrNone::State(state) => step(state, observed(line)),
+            StateOrNone::NoState => return,
         }
     }
 }

@@ -3,3 +3,4 @@ pub mod Counting
 pub mod Signs
 pub mod Spelling
 pub mod ReadBack
+pub mod OneOutcome

@@ -14,7 +14,6 @@ use contract.Lifetimes.{Lfts}
 use contract.Monad.{Fun}
 use denote.Ref.{RefT, now, at-last}
 use Rattle.only.specs.Only.{Only, only-this}
-use Rattle.framing.specs.Reading.{Slices}
 use Rattle.framing.proofs.CodedSlices.{codedSlices}
 use Rattle.punnetcrest.specs.declared.powering.Observed.{Observed}
 use Rattle.punnetcrest.specs.Booking.{BookRead}
@@ -22,9 +21,9 @@ use Rattle.punnetcrest.specs.Classing.{classed}
 use Rattle.punnetcrest.specs.Packing.{packed}
 use Rattle.punnetcrest.specs.Powering.{stepped}
 use Rattle.punnetcrest.specs.Sleeping.{started, watched}
-use Rattle.punnetcrest.specs.Spreading.{Spread}
-use Rattle.punnetcrest.specs.Summing.{summed}
-use Rattle.punnetcrest.specs.Unpacking.{unpacked}
+use Rattle.punnetcrest.specs.Spreading.{SpreadCall}
+use Rattle.punnetcrest.specs.Summing.{faultsSummed}
+use Rattle.punnetcrest.specs.Unpacking.{ReadingRoom, roomLent, unpacked}
 use Rattle.punnetcrest.proofs.BookNumbers.{read-outcome, read-there, read-alone}
 use Rattle.punnetcrest.proofs.SpreadNumbers.{spread-outcome, spread-there, spread-alone}
 use Rattle.punnetcrest.proofs.booking.pc_book_read as book-read
@@ -56,14 +55,14 @@ module _ {M : Type 1} (𝓤 : URA M) (H : Heap 𝓤) (A : Atoms 𝓤) (mem : Mem
 
   pub one-fault-sum : (κs : Lfts 2) (counts sum : RefT (List ℕ))
       → Only 𝓤 (λ (x : ℕ × List ℕ). fault-sum.clauses 𝓤 H A mem run κs (counts, (sum, tt)) .ensures tt (x .0) (counts, (at-last sum (x .1), tt)))
-  one-fault-sum κs counts sum = only-this 𝓤 _ (coded× codedℕ (codedList codedℕ)) (summed (now counts) (now sum)) (λ x. refl)
+  one-fault-sum κs counts sum = only-this 𝓤 _ (coded× codedℕ (codedList codedℕ)) (faultsSummed (now counts) (now sum)) (λ x. refl)
 
   pub one-frame-read : (κs : Lfts 6) (book : RefT (List ℕ)) (identifier : ℕ) (frame raws classes : RefT (List ℕ)) (thousandths : RefT (List ℤ)) (count : RefT ℕ)
-      → Only 𝓤 (λ (x : ℕ × (Slices × ℕ)). frame-read.clauses 𝓤 H A mem run κs (book, (identifier, (frame, (raws, (classes, (thousandths, (count, tt))))))) .ensures tt (x .0)
+      → Only 𝓤 (λ (x : ℕ × ReadingRoom). frame-read.clauses 𝓤 H A mem run κs (book, (identifier, (frame, (raws, (classes, (thousandths, (count, tt))))))) .ensures tt (x .0)
       (book, (identifier, (frame, (at-last raws (x .1 .0 .raws), (at-last classes (x .1 .0 .classes), (at-last thousandths (x .1 .0 .thousandths), (at-last count (x .1 .1), tt))))))))
   one-frame-read κs book identifier frame raws classes thousandths count =
       only-this 𝓤 _ (coded× codedℕ (coded× codedSlices codedℕ))
-      (unpacked (now book) identifier (now frame) (record { raws = now raws; classes = now classes; thousandths = now thousandths }) (now count)) (λ x. refl)
+      (unpacked (now book) identifier (now frame) (roomLent (now raws) (now classes) (now thousandths) (now count))) (λ x. refl)
 
   pub one-frame-pack : (κs : Lfts 3) (book : RefT (List ℕ)) (identifier : ℕ) (values frame : RefT (List ℕ))
       → Only 𝓤 (λ (x : ℕ × List ℕ). frame-pack.clauses 𝓤 H A mem run κs (book, (identifier, (values, (frame, tt)))) .ensures tt (x .0) (book, (identifier, (values, (at-last frame (x .1), tt)))))
@@ -88,7 +87,7 @@ module _ {M : Type 1} (𝓤 : URA M) (H : Heap 𝓤) (A : Atoms 𝓤) (mem : Mem
       record {
         coded = coded× codedℕ (coded× (codedList codedℕ) codedℕ);
         outcome = spread-outcome (now book) bus identifier (now places) (now count);
-        Says = λ x. Spread (now book) bus identifier (now places) (now count) (x .0) (x .1 .0) (x .1 .1);
+        Says = λ x. SpreadCall (now book) bus identifier (now places) (now count) (x .0) (x .1 .0) (x .1 .1);
         says = λ x. refl;
         there = spread-there (now book) bus identifier (now places) (now count);
         alone = spread-alone (now book) bus identifier (now places) (now count);

@@ -4,8 +4,9 @@ use mathlib.Core.Path.{_≡_, ap}
 use mathlib.Core.List.{List}
 use Rattle.framing.specs.declared.Reading.{Reading}
 use Rattle.framing.specs.Reading.{Slices, reading}
-use Rattle.punnetcrest.specs.Unpacking.{inNumbers, unpacked}
+use Rattle.punnetcrest.specs.Unpacking.{ReadingRoom, unpackedInNumbers, FrameRead}
 
-pub as-unpacked : (words : List ℕ) (identifier : ℕ) (frame : List ℕ) (lent : Slices) (count : ℕ) {answer : Reading} {left : Slices}
-    → _≡_ {A = Reading × Slices} (answer, left) (reading words identifier frame lent) → inNumbers answer left count ≡ unpacked words identifier frame lent count
-as-unpacked words identifier frame lent count e = ap (λ (x : Reading × Slices). inNumbers (x .0) (x .1) count) e
+pub as-unpacked : (words : List ℕ) (identifier : ℕ) (frame : List ℕ) (room : ReadingRoom) {answer : Reading} {left : Slices}
+    → _≡_ {A = Reading × Slices} (answer, left) (reading words identifier frame (room .0))
+    → FrameRead words identifier frame room (unpackedInNumbers answer left (room .1) .0) (unpackedInNumbers answer left (room .1) .1)
+as-unpacked words identifier frame room e = ap (λ (x : Reading × Slices). unpackedInNumbers (x .0) (x .1) (room .1)) e

@@ -4,9 +4,9 @@ use mathlib.Core.List.{List}
 use Rattle.framing.specs.declared.Packing.{Packing}
 use Rattle.framing.specs.Packing.{packingNumber, packing}
 
-abbrev pub inNumbers : Packing × List ℕ → ℕ × List ℕ
-inNumbers out = (packingNumber (out .0), out .1)
+abbrev pub packedInNumbers : Packing × List ℕ → ℕ × List ℕ
+packedInNumbers out = (packingNumber (out .0), out .1)
 
 -- pc_frame_pack
 abbrev pub packed : List ℕ → ℕ → List ℕ → List ℕ → ℕ × List ℕ
-packed words identifier values frame = inNumbers (packing words identifier values frame)
+packed words identifier values frame = packedInNumbers (packing words identifier values frame)

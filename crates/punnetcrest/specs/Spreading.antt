@@ -1,21 +1,17 @@
 -- The spread in numbers: what the call returns, with the room for places and *count as it leaves them. Assumes nothing.
 use Prim.Native.Nat.{ℕ}
 use mathlib.Core.Path.{_≡_}
+use mathlib.Core.Bool.{cond}
 use mathlib.Core.List.{List}
-use Rattle.routes.specs.declared.Sent.{Sent}
-use Rattle.routes.specs.declared.Sent.the-variants as sent
-use Rattle.routes.specs.Answers.{Answer, refusal}
+use lib.Dec.{eqb}
+use Rattle.routes.specs.Answers.{SpreadAnswer}
 
--- *count after the call: how many places were written, or as it was
-abbrev pub countAfter : Sent → ℕ → ℕ
-countAfter (sent.Places n) count = n
-countAfter sent.NotABook count = count
-countAfter sent.NoSuchPlace count = count
-countAfter sent.NoRoom count = count
+-- *count after the call: how many places were written, or as it was where the call refuses
+abbrev pub countLeft : ℕ → ℕ → ℕ → ℕ
+countLeft why written count = cond (eqb why 0) written count
 
 -- pc_spread, with these words, bus, identifier, room and *count, returns r and leaves the room and *count so
-pub record Spread (words : List ℕ) (bus identifier : ℕ) (room : List ℕ) (count r : ℕ) (after : List ℕ) (counted : ℕ) : Type 0 where
-  pub sent : Sent
-  pub answer : Answer words bus identifier room sent after
-  pub number : r ≡ refusal sent
-  pub count-after : counted ≡ countAfter sent count
+pub record SpreadCall (words : List ℕ) (bus identifier : ℕ) (room : List ℕ) (count r : ℕ) (after : List ℕ) (counted : ℕ) : Type 0 where
+  pub written : ℕ
+  pub answer : SpreadAnswer words bus identifier room r written after
+  pub count-after : counted ≡ countLeft r written count

@@ -1,11 +1,11 @@
 // The class and the reading of one raw count.
 ghost use mathlib.Core.Path.{_≡_};
-ghost use Rattle.catalogue.specs.Class.{refusalOf};
+ghost use Rattle.catalogue.specs.Class.{classNumber};
 ghost use Rattle.punnetcrest.specs.Classing.{classed};
 
 // Document 01's number of the refusal, 0 where there is a class.
 fn refusal_of(class: catalogue::Class) -> u32
-    ensures { λ r. ⌜ r ≡ refusalOf class ⌝ }
+    ensures { λ r. ⌜ r ≡ classNumber class ⌝ }
 {
     match class {
         catalogue::Class::Value(_) => 0,

@@ -1,6 +1,7 @@
 // The power monitor, its state as one number.
+use catalogue::Raw;
 ghost use mathlib.Core.Path.{_≡_};
-ghost use Rattle.power.specs.Refusals.{refusal};
+ghost use Rattle.power.specs.Refusals.{powerRefusal};
 ghost use Rattle.punnetcrest.specs.Powering.{seenIn, stepped};
 
 const NOT_A_POWER_STATE: u32 = 91;
@@ -22,26 +23,26 @@ fn observation_of(seen: Observed) -> power::Observation
     ensures { λ r. ⌜ r ≡ seenIn seen ⌝ }
 {
     power::Observation {
-        main_negative: seen.main_negative,
-        precharge: seen.precharge,
-        main_positive: seen.main_positive,
-        command: seen.command,
-        emergency_off: seen.emergency_off,
-        current: seen.current,
-        inside: seen.inside,
-        outside: seen.outside,
+        main_negative: Raw(seen.main_negative),
+        precharge: Raw(seen.precharge),
+        main_positive: Raw(seen.main_positive),
+        command: Raw(seen.command),
+        emergency_off: Raw(seen.emergency_off),
+        current: Raw(seen.current),
+        inside: Raw(seen.inside),
+        outside: Raw(seen.outside),
     }
 }
 
 // Document 01's number of the monitor's answer.
-fn number_of(answer: power::Answer) -> u32
-    ensures { λ r. ⌜ r ≡ refusal answer ⌝ }
+fn number_of(answer: power::PowerAnswer) -> u32
+    ensures { λ r. ⌜ r ≡ powerRefusal answer ⌝ }
 {
     match answer {
-        power::Answer::Taken => 0,
-        power::Answer::NeitherOpenNorClosed => 41,
-        power::Answer::CommandTooHigh => 42,
-        power::Answer::ReadingTooHigh => 43,
+        power::PowerAnswer::Taken => 0,
+        power::PowerAnswer::NeitherOpenNorClosed => 41,
+        power::PowerAnswer::CommandTooHigh => 42,
+        power::PowerAnswer::ReadingTooHigh => 43,
     }
 }
 
@@ -52,13 +53,13 @@ pub extern "C" fn pc_power_step(state: &mut u32, seen: Observed) -> u32
 {
     let held = power::State::numbered(*state);
     match held {
-        power::Numbered::State(from) => {
+        power::StateOrNone::State(from) => {
             let next = power::step(from, observation_of(seen));
             let after = next.state;
             let answer = next.answer;
             *state = after.number();
             number_of(answer)
         }
-        power::Numbered::NoState => NOT_A_POWER_STATE,
+        power::StateOrNone::NoState => NOT_A_POWER_STATE,
     }
 }

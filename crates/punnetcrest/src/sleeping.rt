@@ -1,18 +1,17 @@
 // The sleep watch, its state as two numbers.
-use crate::numbers;
 ghost use mathlib.Core.Path.{_≡_};
-ghost use Rattle.sleep.specs.Watching.{refusal};
+ghost use Rattle.sleep.specs.Watching.{sleepRefusal};
 ghost use Rattle.punnetcrest.specs.Sleeping.{started, watched};
 
 const NOT_A_SLEEP_STATE: u32 = 92;
 
 // Document 01's number of the watch's answer.
-fn number_of(answer: sleep::Answer) -> u32
-    ensures { λ r. ⌜ r ≡ refusal answer ⌝ }
+fn number_of(answer: sleep::SleepAnswer) -> u32
+    ensures { λ r. ⌜ r ≡ sleepRefusal answer ⌝ }
 {
     match answer {
-        sleep::Answer::Taken => 0,
-        sleep::Answer::ClockWentBack => 51,
+        sleep::SleepAnswer::Taken => 0,
+        sleep::SleepAnswer::ClockWentBack => 51,
     }
 }
 
@@ -34,8 +33,18 @@ pub extern "C" fn pc_sleep_watch(last_wake: &mut u32, asleep: &mut u32, time: u3
     if *asleep > 1 {
         return NOT_A_SLEEP_STATE;
     }
-    let mut sleeps = *asleep == 1;
-    let answer = sleep::update_fields(last_wake, &mut sleeps, time, wake != 0);
-    *asleep = numbers::one_if(sleeps);
+    let held = sleep::Watch {
+        last_wake: *last_wake,
+        asleep: *asleep == 1,
+    };
+    let next = held.updated(time, wake != 0);
+    let after = next.watch;
+    let answer = next.answer;
+    *last_wake = after.last_wake;
+    if after.asleep {
+        *asleep = 1;
+        return number_of(answer);
+    }
+    *asleep = 0;
     number_of(answer)
 }

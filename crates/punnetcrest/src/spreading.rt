@@ -1,5 +1,5 @@
 // The spread of a place, by the routes of a lent book.
-ghost use Rattle.punnetcrest.specs.Spreading.{Spread};
+ghost use Rattle.punnetcrest.specs.Spreading.{SpreadCall};
 use record::BOOK_WORDS;
 
 // Writes the places that a frame from this place reaches, and how many.
@@ -11,7 +11,7 @@ pub extern "C" fn pc_spread(
     places: &mut [u32],
     count: &mut usize,
 ) -> u32
-    ensures { λ r. ⌜ Spread (now (book .entry)) bus identifier (now (places .entry)) (now (count .entry)) r (now (places .exit)) (now (count .exit)) ⌝ }
+    ensures { λ r. ⌜ SpreadCall (now (book .entry)) bus identifier (now (places .entry)) (now (count .entry)) r (now (places .exit)) (now (count .exit)) ⌝ }
 {
     let answer = routes::spread(book, bus, identifier, places);
     match answer {

@@ -1,7 +1,7 @@
 // The fault sum, as seven numbers.
 use crate::numbers;
 ghost use mathlib.Core.Path.{_≡_};
-ghost use Rattle.punnetcrest.specs.Summing.{sumWords, summed};
+ghost use Rattle.punnetcrest.specs.Summing.{sumWords, faultsSummed};
 
 const SUM_WORDS: usize = 7;
 
@@ -27,15 +27,15 @@ fn words_of(found: faults::FaultSum) -> [u32; SUM_WORDS]
 // Writes the sum over the raw counts of 1901 to 1927.
 #[no_mangle]
 pub extern "C" fn pc_fault_sum(counts: &[u32], sum: &mut [u32; SUM_WORDS]) -> u32
-    ensures { λ r. ⌜ (r, now (sum .exit)) ≡ summed (now (counts .entry)) (now (sum .entry)) ⌝ }
+    ensures { λ r. ⌜ (r, now (sum .exit)) ≡ faultsSummed (now (counts .entry)) (now (sum .entry)) ⌝ }
 {
     let answer = faults::sum(counts);
     match answer {
-        faults::Answer::Summed(found) => {
+        faults::FaultAnswer::Summed(found) => {
             *sum = words_of(found);
             0
         }
-        faults::Answer::NotTwentySeven => NOT_27_FAULTS,
-        faults::Answer::TooWide => FAULT_TOO_WIDE,
+        faults::FaultAnswer::NotTwentySeven => NOT_27_FAULTS,
+        faults::FaultAnswer::TooWide => FAULT_TOO_WIDE,
     }
 }

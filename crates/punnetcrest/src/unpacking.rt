@@ -1,8 +1,7 @@
 // Reading a frame by a lent book.
 ghost use mathlib.Core.Path.{_≡_};
-ghost use Prim.Native.Nat.{ℕ};
-ghost use Rattle.framing.specs.Reading.{Slices, readingNumber};
-ghost use Rattle.punnetcrest.specs.Unpacking.{countAfter, unpacked};
+ghost use Rattle.framing.specs.Reading.{readingNumber};
+ghost use Rattle.punnetcrest.specs.Unpacking.{readingCountAfter, roomLent, FrameRead};
 use framing::Reading;
 use record::BOOK_WORDS;
 
@@ -22,7 +21,7 @@ fn number_of(answer: Reading) -> u32
 
 // How many readings were written, or the count as it was.
 fn count_after(answer: Reading, count: usize) -> usize
-    ensures { λ r. ⌜ r ≡ countAfter answer count ⌝ }
+    ensures { λ r. ⌜ r ≡ readingCountAfter answer count ⌝ }
 {
     match answer {
         Reading::Read(n) => n,
@@ -45,9 +44,8 @@ pub extern "C" fn pc_frame_read(
     thousandths: &mut [i64],
     count: &mut usize,
 ) -> u32
-    ensures { λ r. ⌜ _≡_ {A = ℕ × (Slices × ℕ)} (r, (record { raws = now (raws .exit); classes = now (classes .exit); thousandths = now (thousandths .exit) }, now (count .exit)))
-        (unpacked (now (book .entry)) identifier (now (frame .entry))
-        (record { raws = now (raws .entry); classes = now (classes .entry); thousandths = now (thousandths .entry) }) (now (count .entry))) ⌝ }
+    ensures { λ r. ⌜ FrameRead (now (book .entry)) identifier (now (frame .entry)) (roomLent (now (raws .entry)) (now (classes .entry)) (now (thousandths .entry)) (now (count .entry))) r
+        (roomLent (now (raws .exit)) (now (classes .exit)) (now (thousandths .exit)) (now (count .exit))) ⌝ }
 {
     let answer = frames::read(book, identifier, frame, raws, classes, thousandths);
     *count = count_after(answer, *count);

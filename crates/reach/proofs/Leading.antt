@@ -16,7 +16,7 @@ use Rattle.masks.proofs.Bits.{bit-zero}
 use Rattle.chains.specs.Chain.{Walk, LeadsOn}
 use Rattle.chains.specs.Tests.{Tells}
 use Rattle.chains.proofs.Bools.{or-cases, or-left, or-right, test-tells}
-use Rattle.reach.specs.Led.{Led, Filled}
+use Rattle.reach.specs.Led.{Led, OnwardFilled}
 use Rattle.reach.specs.Handing.{Real, Settled}
 use Rattle.reach.proofs.Handed.{as-walk}
 
@@ -69,6 +69,6 @@ leading-more starts ends onward₀ onward i inv l il w tells = record {
       (λ x. rw (getD-set-same onward i w 0 il) (tells x));
 }
 
-pub leading-end : (starts ends onward₀ onward : List ℕ) (i : ℕ) → Leading starts ends onward₀ onward i → length starts ≤ i → Filled starts ends onward₀ onward
+pub leading-end : (starts ends onward₀ onward : List ℕ) (i : ℕ) → Leading starts ends onward₀ onward i → length starts ≤ i → OnwardFilled starts ends onward₀ onward
 unfolding Led
 leading-end starts ends onward₀ onward i inv h = record { led = λ j x l. inv .done j (omega arith) x; long = inv .long; rest = inv .rest }

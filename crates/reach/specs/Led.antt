@@ -1,5 +1,5 @@
 -- What the masks of routes say: the working side of the verdict, which no entry point's contract names. `Led` is said over chains
--- (`chains: Chain LeadsOn`); `verdict: Judging loop-by, sound-by, doubling-by` go from there to the verdict. Assumes nothing: these are
+-- (`chains: Chain LeadsOn`); `gateway_checker: Judging loop-by, sound-by, doubling-by` go from there to the verdict. Assumes nothing: these are
 -- definitions.
 use mathlib.Core.Path.{_≡_}
 use mathlib.Core.Bool.{Bool, cond}
@@ -30,7 +30,7 @@ unfoldable pub Led : List ℕ → List ℕ → List ℕ → Type 0
 Led starts ends onward = (i x : ℕ) → i < length starts → Tells (LeadsOn starts ends i x) (bit (getD onward i 0) x)
 
 -- each route has its mask, and the entries past them stay as they were lent
-pub record Filled (starts ends lent onward : List ℕ) : Type 0 where
+pub record OnwardFilled (starts ends lent onward : List ℕ) : Type 0 where
   pub led : Led starts ends onward
   pub long : length onward ≡ length lent
   pub rest : (i : ℕ) → length starts ≤ i → getD onward i 0 ≡ getD lent i 0

@@ -4,7 +4,7 @@ ghost use mathlib.Core.Path.{_≡_};
 ghost use Prim.Native.Nat.{_*_, _<_, _≤_};
 ghost use lib.ListN.{length, getD};
 ghost use Rattle.masks.specs.Bit.{width};
-ghost use Rattle.reach.specs.Led.{Starts, Ends, Numbers, Filled, turn};
+ghost use Rattle.reach.specs.Led.{Starts, Ends, Numbers, OnwardFilled, turn};
 ghost use Rattle.reach.specs.Handing.{Real, Handing, Settled};
 
 // How many numbers there can be: each route has two places.
@@ -87,7 +87,7 @@ fn settle(starts: &[u8], ends: &[u8], masks: &mut [u64])
 // For each route, the numbers it leads on to. What was lent past them stays as it was.
 pub fn fill(starts: &[u8], ends: &[u8], onward: &mut [u64])
     requires { ⌜ Numbers (now starts) (now ends) × (length (now starts) ≤ length (now onward)) ⌝ }
-    ensures { λ _. ⌜ Filled (now (starts .entry)) (now (ends .entry)) (now (onward .entry)) (now (onward .exit)) ⌝ }
+    ensures { λ _. ⌜ OnwardFilled (now (starts .entry)) (now (ends .entry)) (now (onward .entry)) (now (onward .exit)) ⌝ }
 {
     let mut masks = [0u64; NUMBERS];
     settle(starts, ends, &mut masks);

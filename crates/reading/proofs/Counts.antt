@@ -12,7 +12,7 @@ use Rattle.line.specs.declared.Line.{Line}
 use Rattle.line.specs.declared.Line.the-variants as line
 use Rattle.record.specs.Limits.{identifierLimit}
 use Rattle.record.specs.Place.{placeKey, placeLimit, key-fits}
-use Rattle.books.specs.Book.{Book, Message, Placement, Route, noBook, fresh, allPlacements}
+use Rattle.books.specs.Book.{Book, Message, Placement, Route, noBook, fresh, allPlacements, routeBetween}
 use Rattle.books.specs.Lines.{routeRefusal, busLimit, routeLimit}
 use Rattle.books.proofs.Tests.{not-refused, both-false}
 use Rattle.books.proofs.Ends.{count-last, length-more, one-more}
@@ -21,7 +21,6 @@ use Rattle.reading.specs.Reading.{passed, refusalOf, withLine, numberedW
 use Rattle.reading.specs.Written.{Places, no-route, route}
 use Rattle.reading.specs.Taken.{mLines, sLines, rLinesFrom}
 use Rattle.reading.proofs.Passing.{went, same-book, text-kept}
-use Rattle.reading.proofs.Writes.{between}
 
 -- what is counted of a book that lines give after the book b: each count grows by the lines of its kind
 pub record Counted (n : ℕ) (b : Book) (at : List ℕ) (ls : List Line) (c : Book) (to : List ℕ) : Type 0 where
@@ -52,7 +51,7 @@ module _ (n : ℕ) (b : Book) (at : List ℕ) (ls : List Line) {c : Book} {to : 
   after (line.Route x i y j) e k = record {
     messages = k .messages;
     signals = k .signals;
-    routes = omega (arith, k .routes, length-more (b .routes) (between (placeKey x i) (placeKey y j)), add-suc (length (b .routes)) (length (rLinesFrom (suc n) ls)));
+    routes = omega (arith, k .routes, length-more (b .routes) (routeBetween (placeKey x i) (placeKey y j)), add-suc (length (b .routes)) (length (rLinesFrom (suc n) ls)));
     numbers = k .numbers ∙ append-assoc at (n ∷ []) (rLinesFrom (suc n) ls);
   }
   after line.IllFormed e k = let z : _≡_ {A = ℕ} 2 0 = e in absurd (omega arith)
@@ -80,7 +79,7 @@ places-more : {rs : List Route} (r : Route) → Places rs → r .from < placeLim
 places-more r no-route f t = route f t no-route
 places-more r (route g u p) f t = route g u (places-more r p f t)
 
-routed-route : (rs : List Route) (x i y j : ℕ) → Routed rs → routeRefusal rs x i y j ≡ 0 → Routed (rs ++ (between (placeKey x i) (placeKey y j) ∷ []))
+routed-route : (rs : List Route) (x i y j : ℕ) → Routed rs → routeRefusal rs x i y j ≡ 0 → Routed (rs ++ (routeBetween (placeKey x i) (placeKey y j) ∷ []))
 unfolding routeRefusal
 routed-route rs x i y j h e =
     let a = not-refused ((leb busLimit x || leb identifierLimit i) || (leb busLimit y || leb identifierLimit j)) 2 _ e in
@@ -89,8 +88,8 @@ routed-route rs x i y j h e =
     let d = both-false (leb busLimit x) (leb identifierLimit i) (c .0) in
     let f = both-false (leb busLimit y) (leb identifierLimit j) (c .1) in
     record {
-      few = omega (arith, length-more rs (between (placeKey x i) (placeKey y j)), leb-false routeLimit (length rs) (b .0));
-      places = places-more (between (placeKey x i) (placeKey y j)) (h .places)
+      few = omega (arith, length-more rs (routeBetween (placeKey x i) (placeKey y j)), leb-false routeLimit (length rs) (b .0));
+      places = places-more (routeBetween (placeKey x i) (placeKey y j)) (h .places)
           (key-fits x i (leb-false busLimit x (d .0)) (leb-false identifierLimit i (d .1)))
           (key-fits y j (leb-false busLimit y (f .0)) (leb-false identifierLimit j (f .1)));
     }

@@ -10,7 +10,7 @@ use Rattle.numerals.specs.Written.{identifierText, decimalText}
 use Rattle.numerals.proofs.Identifiers.{length-identifier}
 use Rattle.numerals.proofs.Decimals.{length-decimal}
 use Rattle.parts.specs.Parts.{ended, tab, newline}
-use Rattle.parts.specs.Joined.{join, textOfLines, Frees, no-part, part}
+use Rattle.parts.specs.Joined.{join, textOfLines, AllLack, no-part, part}
 use Rattle.parts.proofs.LineEnds.{lines-written}
 use Rattle.line.specs.Meaning.{meaningOf}
 use Rattle.line.specs.Written.{lineText, fieldsOf, Writable}
@@ -40,7 +40,7 @@ all-append : {ls ms : List Line} → AllWritable ls → AllWritable ms → AllWr
 all-append nothing b = b
 all-append (also w a) b = also w (all-append a b)
 
-texts-free : (ls : List Line) → Frees newline (map lineText ls)
+texts-free : (ls : List Line) → AllLack newline (map lineText ls)
 texts-free [] = no-part
 texts-free (l ∷ ls) = part (text-free l) (texts-free ls)
 

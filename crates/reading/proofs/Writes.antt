@@ -9,7 +9,7 @@ use Rattle.line.specs.declared.Line.the-variants as line
 use Rattle.record.specs.Limits.{identifierLimit}
 use Rattle.record.specs.Place.{placeKey, placeLimit, key-place}
 use borrow.Author.Tests.{lt-leb}
-use Rattle.books.specs.Book.{Book, Message, Placement, Route, noBook, fresh, withPlacement, inLast}
+use Rattle.books.specs.Book.{Book, Message, Placement, Route, noBook, fresh, withPlacement, inLast, routeBetween}
 use Rattle.books.specs.Lines.{signalRefusal, routeRefusal, unknownOrOver, routeLimit}
 use Rattle.books.proofs.Tests.{not-refused, no-refusal, nor}
 use Rattle.books.specs.Built.{Built, none, message, signal}
@@ -77,13 +77,10 @@ route-taken before r h f t =
     (nor _ _ (nor _ _ (lt-leb _ _ (a .0)) (lt-leb _ _ (a .1))) (nor _ _ (lt-leb _ _ (b .0)) (lt-leb _ _ (b .1))))
     (no-refusal _ 9 0 (lt-leb _ _ h) refl)
 
-abbrev pub between : ℕ → ℕ → Route
-between f t = record { from = f; to = t }
-
 route-back : (r : Route) → r .from < placeLimit → r .to < placeLimit
-    → between (placeKey (r .from / identifierLimit) (r .from % identifierLimit)) (placeKey (r .to / identifierLimit) (r .to % identifierLimit)) ≡ r
+    → routeBetween (placeKey (r .from / identifierLimit) (r .from % identifierLimit)) (placeKey (r .to / identifierLimit) (r .to % identifierLimit)) ≡ r
 route-back r f t =
-    ap (λ (x : ℕ). between x (placeKey (r .to / identifierLimit) (r .to % identifierLimit))) (key-place (r .from) f .2) ∙ ap (between (r .from)) (key-place (r .to) t .2)
+    ap (λ (x : ℕ). routeBetween x (placeKey (r .to / identifierLimit) (r .to % identifierLimit))) (key-place (r .from) f .2) ∙ ap (routeBetween (r .from)) (key-place (r .to) t .2)
 
 abbrev withRoutes : List Message → List Route → Book
 withRoutes ms rs = record { messages = ms; routes = rs }

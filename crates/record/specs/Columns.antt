@@ -1,8 +1,9 @@
 -- The words of a book: three counts, then six columns, each at its greatest length; and the empty book.
 -- Assumes nothing: these are definitions.
-use Prim.Native.Nat.{ℕ, _+_}
+use mathlib.Core.Path.{_≡_}
+use Prim.Native.Nat.{ℕ, _+_, _<_, _^_}
 use mathlib.Core.List.{List}
-use lib.ListN.{getD, take, drop, replicate}
+use lib.ListN.{length, getD, take, drop, replicate}
 use Rattle.record.specs.Limits.{messageLimit, signalLimit, routeLimit}
 
 -- ---- where the counts of M, S and R lines stand, and where each column begins: where the one before it ends
@@ -87,3 +88,8 @@ routeColumnsOf w = take routeWords (drop fromsAt w)
 -- the empty book has every entry 0
 unfoldable pub emptyBook : List ℕ
 emptyBook = replicate bookWords 0
+
+-- the words of a record, wherever it comes from: as many as a book has, of 32 bits each
+pub record IsRecord (w : List ℕ) : Type 0 where
+  pub long : length w ≡ bookWords
+  pub small : (k : ℕ) → getD w k 0 < 2 ^ 32

@@ -1,48 +1,18 @@
 -- Each call for a spread has one answer and no other, whatever the words, the place and the room. Assumes nothing.
-use mathlib.Core.Path.{_≡_, refl, sym, ap, _∙_}
-use Prim.Native.Nat.{ℕ, _-_, _≤_}
+use mathlib.Core.Path.{_≡_, refl, ap}
+use Prim.Native.Nat.{ℕ, _≤_}
 use native.Mathlib.Omega.{arith}
-use native.Mathlib.Decide.{ℕ-discrete, decLe}
-use mathlib.Core.List.{List, _++_, List-discrete}
-use lib.ListN.{length, drop, replicate}
-use Rattle.record.specs.Limits.{routeLimit, busLimit, identifierLimit}
-use Rattle.record.specs.Place.{placeKey}
-use Rattle.record.specs.Columns.{routeCountOf, fromsOf, tosOf}
-use Rattle.chains.specs.Chain.{IsSound}
-use Rattle.verdict.specs.Verdicts.{Judged}
-use Rattle.verdict.specs.declared.Verdict.{Verdict}
-use Rattle.verdict.specs.declared.Verdict.the-variants as verdict
-use Rattle.verdict.proofs.Once.{judged, loop-unsound, doubling-unsound}
-use Rattle.routes.specs.Answers.{startPlaces, endPlaces, NoMore, RoutesTaken, IsPlace, spreadBy, Answer}
+use native.Mathlib.Decide.{decLe}
+use mathlib.Core.List.{List, _++_}
+use lib.ListN.{length, drop}
+use Rattle.record.specs.Limits.{busLimit, identifierLimit}
+use Rattle.books.specs.Book.{Route}
+use Rattle.books.specs.Words.{routesOf}
+use Rattle.route_tables.specs.Tables.{RoutesTaken}
+use Rattle.route_tables.proofs.Decided.{taken-or-not}
+use Rattle.routes.specs.Answers.{sentNumber, placeCount, IsPlace, spreadAlong, SpreadBy, no-place, no-room, spreads, SpreadAnswer, not-a-book, by-routes}
 use Rattle.routes.specs.declared.Sent.{Sent}
 use Rattle.routes.specs.declared.Sent.the-variants as sent
-
-sound-or-not : (fs ts : List ℕ) → Dec (IsSound fs ts)
-sound-or-not fs ts = go (judged fs ts)
-  where
-    at : (v : Verdict) → Judged fs ts v → Dec (IsSound fs ts)
-    at (verdict.Loop i) j = no (loop-unsound fs ts i j)
-    at (verdict.Doubling i) j = no (doubling-unsound fs ts i j)
-    at verdict.Sound j = yes j
-
-    go : (v : Verdict) × Judged fs ts v → Dec (IsSound fs ts)
-    go (v, j) = at v j
-
-no-more-or-not : (n : ℕ) (column : List ℕ) → Dec (NoMore n column)
-no-more-or-not n column = List-discrete ℕ-discrete (drop n column) (replicate (routeLimit - n) 0)
-
-taken-or-not : (w : List ℕ) → Dec (RoutesTaken w)
-taken-or-not w =
-    go (decLe (routeCountOf w) routeLimit) (no-more-or-not (routeCountOf w) (fromsOf w)) (no-more-or-not (routeCountOf w) (tosOf w))
-    (sound-or-not (startPlaces w) (endPlaces w))
-  where
-    go : Dec (routeCountOf w ≤ routeLimit) → Dec (NoMore (routeCountOf w) (fromsOf w)) → Dec (NoMore (routeCountOf w) (tosOf w))
-        → Dec (IsSound (startPlaces w) (endPlaces w)) → Dec (RoutesTaken w)
-    go (yes a) (yes b) (yes c) (yes d) = yes (record { few = a; no-more-froms = b; no-more-tos = c; sound = d })
-    go (no n) b c d = no (λ r. n (r .few))
-    go (yes a) (no n) c d = no (λ r. n (r .no-more-froms))
-    go (yes a) (yes b) (no n) d = no (λ r. n (r .no-more-tos))
-    go (yes a) (yes b) (yes c) (no n) = no (λ r. n (r .sound))
 
 place-or-not : (bus identifier : ℕ) → Dec (IsPlace bus identifier)
 place-or-not bus identifier = go (decLe busLimit bus) (decLe identifierLimit identifier)
@@ -52,37 +22,71 @@ place-or-not bus identifier = go (decLe busLimit bus) (decLe identifierLimit ide
     go (no a) (yes b) = no (λ p. omega (arith, p .identified))
     go (no a) (no b) = yes (record { on-bus = omega arith; identified = omega arith })
 
-module _ (w : List ℕ) (bus identifier : ℕ) (room : List ℕ) where
-  abbrev s : List ℕ
-  s = spreadBy w (placeKey bus identifier)
+-- an answer is told by its number and its count
+sent-once : (a b : Sent) → sentNumber a ≡ sentNumber b → placeCount a ≡ placeCount b → a ≡ b
+sent-once (sent.Places n) (sent.Places m) e f = ap sent.Places f
+sent-once (sent.Places n) sent.NotABook e f = absurd (omega arith)
+sent-once (sent.Places n) sent.NoSuchPlace e f = absurd (omega arith)
+sent-once (sent.Places n) sent.NoRoom e f = absurd (omega arith)
+sent-once sent.NotABook (sent.Places m) e f = absurd (omega arith)
+sent-once sent.NotABook sent.NotABook e f = refl
+sent-once sent.NotABook sent.NoSuchPlace e f = absurd (omega arith)
+sent-once sent.NotABook sent.NoRoom e f = absurd (omega arith)
+sent-once sent.NoSuchPlace (sent.Places m) e f = absurd (omega arith)
+sent-once sent.NoSuchPlace sent.NotABook e f = absurd (omega arith)
+sent-once sent.NoSuchPlace sent.NoSuchPlace e f = refl
+sent-once sent.NoSuchPlace sent.NoRoom e f = absurd (omega arith)
+sent-once sent.NoRoom (sent.Places m) e f = absurd (omega arith)
+sent-once sent.NoRoom sent.NotABook e f = absurd (omega arith)
+sent-once sent.NoRoom sent.NoSuchPlace e f = absurd (omega arith)
+sent-once sent.NoRoom sent.NoRoom e f = refl
 
-  -- there is an answer
-  pub answered : (x : Sent × List ℕ) × Answer w bus identifier room (x .0) (x .1)
-  answered = go (taken-or-not w) (place-or-not bus identifier) (decLe (length s) (length room))
+-- the answer, its count and the room after it
+abbrev pub SpreadLeft : Type 0
+SpreadLeft = ℕ × (ℕ × List ℕ)
+
+module _ (rs : List Route) (bus identifier : ℕ) (room : List ℕ) where
+  abbrev s : List ℕ
+  s = spreadAlong rs bus identifier
+
+  -- by a table there is an answer
+  pub by-table : (x : Sent × List ℕ) × SpreadBy rs bus identifier room (sentNumber (x .0)) (placeCount (x .0)) (x .1)
+  by-table = go (place-or-not bus identifier) (decLe (length s) (length room))
     where
-      go : Dec (RoutesTaken w) → Dec (IsPlace bus identifier) → Dec (length s ≤ length room) → (x : Sent × List ℕ) × Answer w bus identifier room (x .0) (x .1)
-      go (no n) p r = ((sent.NotABook, room), (n, refl))
-      go (yes t) (no n) r = ((sent.NoSuchPlace, room), (t, n, refl))
-      go (yes t) (yes p) (no n) = ((sent.NoRoom, room), (t, p, omega arith, refl))
-      go (yes t) (yes p) (yes l) = ((sent.Places (length s), s ++ drop (length s) room), (t, p, refl, l, refl))
+      go : Dec (IsPlace bus identifier) → Dec (length s ≤ length room) → (x : Sent × List ℕ) × SpreadBy rs bus identifier room (sentNumber (x .0)) (placeCount (x .0)) (x .1)
+      go (no n) r = ((sent.NoSuchPlace, room), no-place n)
+      go (yes p) (no n) = ((sent.NoRoom, room), no-room p (omega arith))
+      go (yes p) (yes l) = ((sent.Places (length s), s ++ drop (length s) room), spreads p l)
 
   -- and no other
-  pub answer-once : (r r′ : Sent) (a a′ : List ℕ) → Answer w bus identifier room r a → Answer w bus identifier room r′ a′ → (r ≡ r′) × (a ≡ a′)
-  answer-once sent.NotABook sent.NotABook a a′ x y = (refl, x .1 ∙ sym (y .1))
-  answer-once sent.NotABook sent.NoSuchPlace a a′ x y = absurd (x .0 (y .0))
-  answer-once sent.NotABook sent.NoRoom a a′ x y = absurd (x .0 (y .0))
-  answer-once sent.NotABook (sent.Places n) a a′ x y = absurd (x .0 (y .0))
-  answer-once sent.NoSuchPlace sent.NotABook a a′ x y = absurd (y .0 (x .0))
-  answer-once sent.NoSuchPlace sent.NoSuchPlace a a′ x y = (refl, x .2 ∙ sym (y .2))
-  answer-once sent.NoSuchPlace sent.NoRoom a a′ x y = absurd (x .1 (y .1))
-  answer-once sent.NoSuchPlace (sent.Places n) a a′ x y = absurd (x .1 (y .1))
-  answer-once sent.NoRoom sent.NotABook a a′ x y = absurd (y .0 (x .0))
-  answer-once sent.NoRoom sent.NoSuchPlace a a′ x y = absurd (y .1 (x .1))
-  answer-once sent.NoRoom sent.NoRoom a a′ x y = (refl, x .3 ∙ sym (y .3))
-  answer-once sent.NoRoom (sent.Places n) a a′ x y = absurd (omega (arith, x .2, y .2, y .3))
-  answer-once (sent.Places n) sent.NotABook a a′ x y = absurd (y .0 (x .0))
-  answer-once (sent.Places n) sent.NoSuchPlace a a′ x y = absurd (y .1 (x .1))
-  answer-once (sent.Places n) sent.NoRoom a a′ x y = absurd (omega (arith, y .2, x .2, x .3))
-  answer-once (sent.Places n) (sent.Places m) a a′ x y =
-      let e : n ≡ m = x .2 ∙ sym (y .2) in
-      (ap sent.Places e, x .4 ∙ ap (λ (k : ℕ). s ++ drop k room) e ∙ sym (y .4))
+  pub by-table-once : {y n : ℕ} {a : List ℕ} {z m : ℕ} {b : List ℕ} → SpreadBy rs bus identifier room y n a → SpreadBy rs bus identifier room z m b → _≡_ {A = SpreadLeft} (y, (n, a)) (z, (m, b))
+  by-table-once (no-place x) (no-place y) = refl
+  by-table-once (no-place x) (no-room p l) = absurd (x p)
+  by-table-once (no-place x) (spreads p l) = absurd (x p)
+  by-table-once (no-room p l) (no-place y) = absurd (y p)
+  by-table-once (no-room p l) (no-room q m) = refl
+  by-table-once (no-room p l) (spreads q m) = absurd (omega arith)
+  by-table-once (spreads p l) (no-place y) = absurd (y p)
+  by-table-once (spreads p l) (no-room q m) = absurd (omega arith)
+  by-table-once (spreads p l) (spreads q m) = refl
+
+module _ (w : List ℕ) (bus identifier : ℕ) (room : List ℕ) where
+  pub answered : (x : Sent × List ℕ) × SpreadAnswer w bus identifier room (sentNumber (x .0)) (placeCount (x .0)) (x .1)
+  answered = go (taken-or-not w)
+    where
+      go : Dec (RoutesTaken w) → (x : Sent × List ℕ) × SpreadAnswer w bus identifier room (sentNumber (x .0)) (placeCount (x .0)) (x .1)
+      go (no n) = ((sent.NotABook, room), not-a-book n)
+      go (yes t) = let b = by-table (routesOf w) bus identifier room in (b .0, by-routes t (b .1))
+
+  pub answer-once : {y n : ℕ} {a : List ℕ} {z m : ℕ} {b : List ℕ} → SpreadAnswer w bus identifier room y n a → SpreadAnswer w bus identifier room z m b → _≡_ {A = SpreadLeft} (y, (n, a)) (z, (m, b))
+  answer-once (not-a-book x) (not-a-book y) = refl
+  answer-once (not-a-book x) (by-routes t b) = absurd (x t)
+  answer-once (by-routes t a) (not-a-book y) = absurd (y t)
+  answer-once (by-routes t a) (by-routes u b) = by-table-once (routesOf w) bus identifier room a b
+
+-- so the call leaves one outcome
+pub same-sent : {r q : Sent} {a b : List ℕ} → _≡_ {A = SpreadLeft} (sentNumber r, (placeCount r, a)) (sentNumber q, (placeCount q, b)) → _≡_ {A = Sent × List ℕ} (r, a) (q, b)
+same-sent {r} {q} {a} {b} e =
+    let x : r ≡ q = sent-once r q (ap (λ (l : SpreadLeft). l .0) e) (ap (λ (l : SpreadLeft). l .1 .0) e) in
+    let y : a ≡ b = ap (λ (l : SpreadLeft). l .1 .1) e in
+    λ i. (x i, y i)

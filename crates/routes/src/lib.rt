@@ -1,23 +1,22 @@
-// The spread of a place by the routes of a lent book, and the test that those routes are such as a taken book can have.
-// For network tools and gateways: `spread` is the call. It has no `requires`, writes nothing where it refuses, and what it
-// writes is the place's spread (specs/Answers.antt), which specs/Listed.antt says over chains. `routes_taken` is the test
-// behind its refusal 12.
-ghost use mathlib.Core.Path.{_≡_};
+// The spread of a place by the routes of a lent book. For network tools and gateways: `spread` is the call. It has no `requires`,
+// tests the book's route tables first (refusal 12), writes nothing where it refuses, and what it writes is the place's spread
+// (specs/Answers.antt), which specs/Listed.antt says over chains. `spread_by` is the same by a table of routes.
 ghost use mathlib.Core.List.{_++_};
+ghost use mathlib.Core.Path.{_≡_};
 ghost use Prim.Native.Nat.{_≤_};
 ghost use lib.ListN.{length, take, drop};
 ghost use Rattle.record.specs.Limits.{routeLimit};
-ghost use Rattle.record.specs.Columns.{routeCountOf};
-ghost use Rattle.chains.specs.Tests.{Tells};
-ghost use Rattle.routes.specs.Answers.{RoutesTaken, spreadBy, Answer};
-ghost use Rattle.routes.specs.Gathered.{Gathered};
+ghost use Rattle.books.specs.Words.{routesSideBySide};
+ghost use Rattle.chains.specs.Spread.{spreadOf};
+ghost use Rattle.routes.specs.Answers.{sentNumber, placeCount, SpreadAnswer, SpreadBy};
+ghost use Rattle.routes.specs.Gathered.{Gathered, SoundTable};
 use record::BOOK_WORDS;
 use record::BUSES;
 use record::IDENTIFIER_LIMIT;
 use record::ROUTES;
-use record::first;
-use record::wide;
-use zeros::zero_past;
+use route_tables::from_places;
+use route_tables::routes_taken;
+use route_tables::to_places;
 
 // What came of a call for a spread.
 pub enum Sent {
@@ -43,50 +42,19 @@ fn copy(from: &[u32], n: usize, room: &mut [u32])
     }
 }
 
-// How many routes the book says it has.
-fn count(book: &[u32; BOOK_WORDS]) -> usize
-    ensures { λ r. ⌜ r ≡ routeCountOf (now (book .entry)) ⌝ }
+// Writes the spread of a place, by the routes between these places, to the front of `places`.
+fn gather(froms: &[u32], tos: &[u32], place: u32, places: &mut [u32]) -> usize
+    requires { ⌜ SoundTable (now froms) (now tos) × (routeLimit ≤ length (now places)) ⌝ }
+    ensures { λ r. ⌜ Gathered (spreadOf (now (froms .entry)) (now (tos .entry)) place) (now (places .exit)) r ⌝ }
 {
-    wide(record::route_count(book))
+    sending::send(froms, tos, place, places, 0)
 }
 
-// Whether the route columns are those of a taken book.
-fn routes_taken(book: &[u32; BOOK_WORDS]) -> bool
-    ensures { λ r. ⌜ Tells (RoutesTaken (now (book .entry))) r ⌝ }
+// Writes the spread of the place that is `identifier` on `bus`, by the routes between these places, to the front of the room.
+pub fn spread_by(froms: &[u32], tos: &[u32], bus: u32, identifier: u32, room: &mut [u32]) -> Sent
+    requires { ⌜ SoundTable (now froms) (now tos) ⌝ }
+    ensures { λ r. ⌜ SpreadBy (routesSideBySide (now (froms .entry)) (now (tos .entry))) bus identifier (now (room .entry)) (sentNumber r) (placeCount r) (now (room .exit)) ⌝ }
 {
-    let n = count(book);
-    if n > ROUTES {
-        return false;
-    }
-    let froms = record::froms(book);
-    let tos = record::tos(book);
-    if !zero_past(froms, n) {
-        return false;
-    }
-    if !zero_past(tos, n) {
-        return false;
-    }
-    verdict::sound(first(froms, n), first(tos, n))
-}
-
-// Writes the spread of `place` by the routes of the book to the front of `places`.
-fn gather(book: &[u32; BOOK_WORDS], place: u32, places: &mut [u32]) -> usize
-    requires { ⌜ RoutesTaken (now book) × (length (now places) ≡ routeLimit) ⌝ }
-    ensures { λ r. ⌜ Gathered (spreadBy (now (book .entry)) place) (now (places .exit)) r ⌝ }
-{
-    let n = count(book);
-    let froms = record::froms(book);
-    let tos = record::tos(book);
-    sending::send(first(froms, n), first(tos, n), place, places, 0)
-}
-
-// Writes the spread of the place that is `identifier` on `bus` to the front of the room.
-pub fn spread(book: &[u32; BOOK_WORDS], bus: u32, identifier: u32, room: &mut [u32]) -> Sent
-    ensures { λ r. ⌜ Answer (now (book .entry)) bus identifier (now (room .entry)) r (now (room .exit)) ⌝ }
-{
-    if !routes_taken(book) {
-        return Sent::NotABook;
-    }
     if bus >= BUSES {
         return Sent::NoSuchPlace;
     }
@@ -94,10 +62,20 @@ pub fn spread(book: &[u32; BOOK_WORDS], bus: u32, identifier: u32, room: &mut [u
         return Sent::NoSuchPlace;
     }
     let mut places = [0u32; ROUTES];
-    let written = gather(book, record::place(bus, identifier), &mut places);
+    let written = gather(froms, tos, record::place(bus, identifier), &mut places);
     if written > room.len() {
         return Sent::NoRoom;
     }
     copy(&places, written, room);
     Sent::Places(written)
+}
+
+// Writes the spread of the place that is `identifier` on `bus` to the front of the room.
+pub fn spread(book: &[u32; BOOK_WORDS], bus: u32, identifier: u32, room: &mut [u32]) -> Sent
+    ensures { λ r. ⌜ SpreadAnswer (now (book .entry)) bus identifier (now (room .entry)) (sentNumber r) (placeCount r) (now (room .exit)) ⌝ }
+{
+    if !routes_taken(book) {
+        return Sent::NotABook;
+    }
+    spread_by(from_places(book), to_places(book), bus, identifier, room)
 }

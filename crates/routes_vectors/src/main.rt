@@ -69,7 +69,7 @@ fn judge_first(froms: &[u32], tos: &[u32], n: usize) -> Verdict {
     if n > tos.len() {
         return Verdict::Sound;
     }
-    verdict::judge(&froms[..n], &tos[..n])
+    gateway_checker::judge(&froms[..n], &tos[..n])
 }
 
 fn answer(book: &[u32; BOOK_WORDS], n: usize, place: u32) {

@@ -1,3 +1,4 @@
 pub mod Ruled
 pub mod Whole
+pub mod Limits
 pub mod OneOutcome

@@ -1,6 +1,5 @@
 -- The rule, from a test that is computed over a whole table, and a lemma that turns it into the rule at each row.
 -- Assumes nothing.
-use mathlib.Core.Path.{_≡_}
 use mathlib.Core.Logic.{_⊎_, inl, inr}
 use mathlib.Core.Bool.{Bool, true, false, _&&_, _||_}
 use mathlib.Core.List.{List, [], _∷_}
@@ -13,8 +12,8 @@ use lib.IntN.{natAbs}
 use lib.ListN.{length, getD}
 use Rattle.rows.specs.declared.Mark.{Mark}
 use Rattle.rows.specs.declared.Row.{Row}
-use Rattle.rows.specs.Rows.{blank, unmarkedKind, invalidKind, absentKind, errorKind, reservedKind}
-use Rattle.rows.specs.Rule.{Rule, Apart, IsKind, Kinded, a-mark, no-mark, Kept, mostBits, exactDoubles}
+use Rattle.rows.specs.Rows.{blank, unmarkedKind, markKinds}
+use Rattle.rows.specs.Rule.{Rule, Apart, Among, Kinded, a-mark, no-mark, Kept, mostBits, exactDoubles}
 
 -- ---- tests of one row
 
@@ -41,37 +40,27 @@ apart→ m m' t n p q p' q' = go (or (ltb (m .last) (m .first)) _ t)
     go (inl x) = let y = ltb→lt (m .last) (m .first) x in omega arith
     go (inr x) = go2 (or (ltb (m' .last) (m' .first)) (ltb (m .last) (m' .first) || ltb (m' .last) (m .first)) x)
 
--- one of the four kinds
-abbrev isKind : ℕ → Bool
-isKind k = eqb k invalidKind || (eqb k absentKind || (eqb k errorKind || eqb k reservedKind))
+-- one of a list
+abbrev among : List ℕ → ℕ → Bool
+among [] k = false
+among (x ∷ xs) k = eqb k x || among xs k
 
-isKind→ : (k : ℕ) → T (isKind k) → IsKind k
-isKind→ k t = go (or (eqb k invalidKind) (eqb k absentKind || (eqb k errorKind || eqb k reservedKind)) t)
-  where
-    go3 : T (eqb k errorKind) ⊎ T (eqb k reservedKind) → (k ≡ errorKind) ⊎ (k ≡ reservedKind)
-    go3 (inl x) = inl (eqb→eq k errorKind x)
-    go3 (inr x) = inr (eqb→eq k reservedKind x)
-
-    go2 : T (eqb k absentKind) ⊎ T (eqb k errorKind || eqb k reservedKind) → (k ≡ absentKind) ⊎ ((k ≡ errorKind) ⊎ (k ≡ reservedKind))
-    go2 (inl x) = inl (eqb→eq k absentKind x)
-    go2 (inr x) = inr (go3 (or (eqb k errorKind) (eqb k reservedKind) x))
-
-    go : T (eqb k invalidKind) ⊎ T (eqb k absentKind || (eqb k errorKind || eqb k reservedKind)) → IsKind k
-    go (inl x) = inl (eqb→eq k invalidKind x)
-    go (inr x) = inr (go2 (or (eqb k absentKind) (eqb k errorKind || eqb k reservedKind) x))
+among→ : (xs : List ℕ) (k : ℕ) → T (among xs k) → Among xs k
+among→ [] k t = t
+among→ (x ∷ xs) k t = elim (or (eqb k x) (among xs k) t) [ inl e ↦ inl (eqb→eq k x e) | inr l ↦ inr (among→ xs k l) ]
 
 -- a mark, or none
-abbrev kinded : Mark → Bool
-kinded m = (isKind (m .kind) && leb (m .first) (m .last)) || (eqb (m .kind) unmarkedKind && ltb (m .last) (m .first))
+abbrev pub kinded : Mark → Bool
+kinded m = (among markKinds (m .kind) && leb (m .first) (m .last)) || (eqb (m .kind) unmarkedKind && ltb (m .last) (m .first))
 
-kinded→ : (m : Mark) → T (kinded m) → Kinded m
-kinded→ m t = go (or (isKind (m .kind) && leb (m .first) (m .last)) (eqb (m .kind) unmarkedKind && ltb (m .last) (m .first)) t)
+pub kinded→ : (m : Mark) → T (kinded m) → Kinded m
+kinded→ m t = go (or (among markKinds (m .kind) && leb (m .first) (m .last)) (eqb (m .kind) unmarkedKind && ltb (m .last) (m .first)) t)
   where
-    go : T (isKind (m .kind) && leb (m .first) (m .last)) ⊎ T (eqb (m .kind) unmarkedKind && ltb (m .last) (m .first)) → Kinded m
+    go : T (among markKinds (m .kind) && leb (m .first) (m .last)) ⊎ T (eqb (m .kind) unmarkedKind && ltb (m .last) (m .first)) → Kinded m
     go (inl x) =
-        let a = and-l (isKind (m .kind)) (leb (m .first) (m .last)) x in
-        let b = and-r (isKind (m .kind)) (leb (m .first) (m .last)) x in
-        a-mark (isKind→ (m .kind) a) (leb→le (m .first) (m .last) b)
+        let a = and-l (among markKinds (m .kind)) (leb (m .first) (m .last)) x in
+        let b = and-r (among markKinds (m .kind)) (leb (m .first) (m .last)) x in
+        a-mark (among→ markKinds (m .kind) a) (leb→le (m .first) (m .last) b)
     go (inr x) =
         let a = and-l (eqb (m .kind) unmarkedKind) (ltb (m .last) (m .first)) x in
         let b = and-r (eqb (m .kind) unmarkedKind) (ltb (m .last) (m .first)) x in

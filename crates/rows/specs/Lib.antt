@@ -1,2 +1,5 @@
 pub mod Rows
 pub mod Rule
+pub mod Widths
+pub mod PrintedLimits
+pub mod RawLimits

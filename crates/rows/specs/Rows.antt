@@ -31,6 +31,10 @@ errorKind = 3
 abbrev pub reservedKind : ℕ
 reservedKind = 4
 
+-- every kind that a mark may be of
+abbrev pub markKinds : List ℕ
+markKinds = invalidKind ∷ absentKind ∷ errorKind ∷ reservedKind ∷ []
+
 abbrev pub mark : ℕ → ℕ → ℕ → Mark
 mark kind first last = record { kind = kind; first = first; last = last }
 

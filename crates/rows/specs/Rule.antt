@@ -3,13 +3,13 @@
 -- every reading is so small that a double holds it exactly. Assumes nothing.
 use mathlib.Core.Path.{_≡_}
 use mathlib.Core.Logic.{_⊎_}
-use mathlib.Core.List.{List}
+use mathlib.Core.List.{List, [], _∷_}
 use Prim.Native.Nat.{ℕ, _+_, _*_, _^_, _≤_, _<_}
 use lib.ListN.{getD, length}
 use lib.IntN.{natAbs}
 use Rattle.rows.specs.declared.Mark.{Mark}
 use Rattle.rows.specs.declared.Row.{Row}
-use Rattle.rows.specs.Rows.{blank, unmarkedKind, invalidKind, absentKind, errorKind, reservedKind}
+use Rattle.rows.specs.Rows.{blank, unmarkedKind, markKinds}
 
 abbrev pub mostBits : ℕ
 mostBits = 32
@@ -22,9 +22,13 @@ exactDoubles = 2 ^ 53
 abbrev pub Apart : Mark → Mark → Type 0
 Apart m m' = (n : ℕ) → m .first ≤ n → n ≤ m .last → m' .first ≤ n → n ≤ m' .last → ⊥
 
--- invalid, absent, error, reserved
+abbrev pub Among : List ℕ → ℕ → Type 0
+Among [] k = ⊥
+Among (x ∷ xs) k = (k ≡ x) ⊎ Among xs k
+
+-- invalid, absent, error or reserved
 abbrev pub IsKind : ℕ → Type 0
-IsKind k = (k ≡ invalidKind) ⊎ ((k ≡ absentKind) ⊎ ((k ≡ errorKind) ⊎ (k ≡ reservedKind)))
+IsKind k = Among markKinds k
 
 -- a mark is of one of the four kinds and has a code; where there is no mark, there is no code
 pub data Kinded (m : Mark) : Type 0 where

@@ -3,6 +3,7 @@
 mod table;
 
 pub use table::row_at;
+pub use table::widths;
 
 // The kinds of marks.
 pub const UNMARKED: u8 = 0;

@@ -1,11 +1,13 @@
 // The catalogue as one constant table of 199 rows: a column for each of a row's fifteen numbers, each in its own type.
-// It is built anew at every read, so what is asked for each signal of a frame goes by the signal's shape instead.
+// It is built anew at every read. So the test of a book holds its bits (`widths`), and what is asked for each signal of a frame goes
+// by the signal's shape instead.
 use crate::Mark;
 use crate::Row;
 ghost use mathlib.Core.Path.{_≡_};
 ghost use Prim.Native.Nat.{_<_};
 ghost use lib.ListN.{getD};
 ghost use Rattle.rows.specs.Rows.{rows, blank};
+ghost use Rattle.rows.specs.Widths.{widthsOf};
 
 const NUMBERS: [u32; 199] = [
     201,
@@ -209,7 +211,7 @@ const NUMBERS: [u32; 199] = [
     1927,
 ];
 
-const BITS: [u32; 199] = [
+const BITS: [u8; 199] = [
     16,
     16,
     16,
@@ -3037,6 +3039,19 @@ const LASTS_3: [u32; 199] = [
     0,
 ];
 
+fn wide(bits: u8) -> u32
+    ensures { λ r. ⌜ r ≡ bits ⌝ }
+{
+    bits as u32
+}
+
+// The bits of each row: a caller that asks for those of many signals holds them, since a const array is built anew at every read.
+pub fn widths() -> [u8; 199]
+    ensures { λ r. ⌜ r ≡ widthsOf rows ⌝ }
+{
+    BITS
+}
+
 // The row at a place, of 199.
 pub fn row_at(place: usize) -> Row
     requires { ⌜ place < 199 ⌝ }
@@ -3044,7 +3059,7 @@ pub fn row_at(place: usize) -> Row
 {
     Row {
         number: NUMBERS[place],
-        bits: BITS[place],
+        bits: wide(BITS[place]),
         resolution: RESOLUTIONS[place],
         offset: OFFSETS[place],
         lowest: LOWESTS[place],

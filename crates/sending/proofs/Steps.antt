@@ -9,8 +9,10 @@ use lib.ListN.{length, getD, set, length-append}
 use lib.Seq.{sets, length-sets}
 use borrow.Author.Tests.{eq-eqb, ne-eqb}
 use Rattle.chains.specs.Chain.{LoopFree}
-use Rattle.chains.specs.Spread.{spreadOf, sendsAlong}
+use Rattle.chains.specs.Spread.{spreadOf}
+use Rattle.chains.specs.Along.{sendsAlong}
 use Rattle.chains.proofs.Spreads.{spread-rule}
+use Rattle.chains.proofs.Along.{sends-along}
 use Rattle.sending.specs.Writing.{Written, handedOn}
 
 sets-append : (xs ys l : List ℕ) (i : ℕ) → sets l i (xs ++ ys) ≡ sets (sets l i xs) (i + length xs) ys
@@ -32,7 +34,7 @@ pub record Going (fs ts : List ℕ) (p : ℕ) (l : List ℕ) (at i : ℕ) (l′ 
 module _ (fs ts : List ℕ) (p : ℕ) (l : List ℕ) (at : ℕ) where
   pub going-start : LoopFree fs ts → Going fs ts p l at 0 l at
   going-start free =
-      let e : left fs ts p 0 ≡ spreadOf fs ts p = ap (λ (m : ℕ). sendsAlong fs ts (spreadOf fs ts) p 0 m) (sub-zero (length fs)) ∙ sym (spread-rule fs ts free p) in
+      let e : left fs ts p 0 ≡ spreadOf fs ts p = ap (λ (m : ℕ). sendsAlong fs ts (spreadOf fs ts) p 0 m) (sub-zero (length fs)) ∙ sym (spread-rule fs ts free p ∙ sends-along fs ts (spreadOf fs ts) p) in
       record { within = omega arith; long = refl; next = rw e; final = rw e }
 
   module _ (i : ℕ) (l′ : List ℕ) (a : ℕ) (inv : Going fs ts p l at i l′ a) (lt : i < length fs) where

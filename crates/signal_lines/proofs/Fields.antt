@@ -13,11 +13,11 @@ use Rattle.printing.proofs.Puts.{and-then}
 use Rattle.signal_lines.specs.Printed.{printedLine}
 
 -- a field, a tab, and the rest of the line
-field-more : (a b : List ℕ) (fs : List (List ℕ)) → printedLine (a ∷ b ∷ fs) ≡ a ++ ((tab ∷ []) ++ printedLine (b ∷ fs))
+pub field-more : (a b : List ℕ) (fs : List (List ℕ)) → printedLine (a ∷ b ∷ fs) ≡ a ++ ((tab ∷ []) ++ printedLine (b ∷ fs))
 unfolding printedLine join
 field-more a b fs = append-assoc a (tab ∷ join tab (b ∷ fs)) (newline ∷ [])
 
-field-last : (a : List ℕ) → printedLine (a ∷ []) ≡ a ++ (newline ∷ [])
+pub field-last : (a : List ℕ) → printedLine (a ∷ []) ≡ a ++ (newline ∷ [])
 unfolding printedLine join
 field-last a = refl
 

@@ -1,2 +1,4 @@
 pub mod Fields
 pub mod IllFormed
+pub mod Lengths
+pub mod OneOutcome

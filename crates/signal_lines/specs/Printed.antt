@@ -3,7 +3,7 @@ use mathlib.Core.List.{List, [], _∷_, _++_}
 use Prim.Native.Nat.{ℕ}
 use Rattle.catalogue.specs.declared.Class.{Class}
 use Rattle.frame_lines.specs.declared.FrameLine.the-variants.{IllFormed}
-use Rattle.frame_lines.specs.Meaning.{refusal}
+use Rattle.frame_lines.specs.Meaning.{frameLineNumber}
 use Rattle.numerals.specs.Written.{identifierText}
 use Rattle.parts.specs.Parts.{tab, newline}
 use Rattle.parts.specs.Joined.{join}
@@ -14,21 +14,25 @@ unfoldable pub printedLine : List (List ℕ) → List ℕ
 printedLine fields = join tab fields ++ (newline ∷ [])
 
 -- "Each signal gives identifier, number, class word, and the thousandths of a value or the raw count of any other class."
-abbrev pub signalLine : ℕ → ℕ → Class → List ℕ
-signalLine identifier number class =
+abbrev pub readingLine : ℕ → ℕ → Class → List ℕ
+readingLine identifier number class =
     printedLine (identifierText identifier ∷ naturalText number ∷ classWord class ∷ figureOf class ∷ [])
 
+-- the end of that line: the class word and its number
+abbrev pub classEnd : Class → List ℕ
+classEnd class = printedLine (classWord class ∷ figureOf class ∷ [])
+
 -- "A refused frame gives identifier, `no`, number"
-abbrev pub refusedLine : ℕ → ℕ → List ℕ
-refusedLine identifier number = printedLine (identifierText identifier ∷ noWord ∷ naturalText number ∷ [])
+abbrev pub refusedFrameLine : ℕ → ℕ → List ℕ
+refusedFrameLine identifier number = printedLine (identifierText identifier ∷ noWord ∷ naturalText number ∷ [])
 
 -- "an ill-formed line gives" `no`, 20
 abbrev pub illFormedLine : List ℕ
-illFormedLine = printedLine (noWord ∷ naturalText (refusal IllFormed) ∷ [])
+illFormedLine = printedLine (noWord ∷ naturalText (frameLineNumber IllFormed) ∷ [])
 
--- ---- room: no line is longer than lineRoom, no end of one (a word with its number) than endRoom, no word than wordRoom
-abbrev pub lineRoom : ℕ
-lineRoom = 64
+-- ---- room: no line is longer than listedLineRoom, no end of one (a word with its number) than endRoom, no word than wordRoom
+abbrev pub listedLineRoom : ℕ
+listedLineRoom = 64
 
 abbrev pub endRoom : ℕ
 endRoom = 34

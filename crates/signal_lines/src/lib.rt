@@ -1,5 +1,5 @@
 // The lines that the lister prints, for crate `listing` and the lister: one signal's reading, a refused frame, an ill-formed
-// line. The last is a constant; each function asks for LINE_ROOM bytes of a lent slice at a place, writes just its line, and
+// line. The last is a constant; each function asks for LISTED_LINE_ROOM bytes of a lent slice at a place, writes just its line, and
 // answers the place after it.
 use catalogue::Class;
 use catalogue::Thousandths;
@@ -15,14 +15,13 @@ ghost use Prim.Native.Nat.{_+_, _≤_};
 ghost use lib.ListN.{length};
 ghost use Rattle.printing.specs.Put.{PutWithin};
 ghost use Rattle.printing.specs.Decimal.{naturalText};
-ghost use Rattle.signal_lines.specs.Words.{classWord, figureOf};
-ghost use Rattle.signal_lines.specs.Printed.{printedLine, signalLine, refusedLine, lineRoom, endRoom, wordRoom};
+ghost use Rattle.signal_lines.specs.Printed.{printedLine, readingLine, classEnd, refusedFrameLine, listedLineRoom, endRoom, wordRoom};
 
 // An ill-formed line: `no`, 20.
 pub const ILL_FORMED_LINE: [u8; 6] = *b"no\t20\n";
 
 // No line is longer.
-pub const LINE_ROOM: usize = 64;
+pub const LISTED_LINE_ROOM: usize = 64;
 
 // A word and a number, the end of a line.
 fn put_count(out: &mut [u8], at: usize, word: &[u8], count: u32) -> usize
@@ -38,7 +37,7 @@ fn put_count(out: &mut [u8], at: usize, word: &[u8], count: u32) -> usize
 // The word and the thousandths of a value.
 fn put_value(out: &mut [u8], at: usize, reading: Thousandths) -> usize
     requires { ⌜ at + endRoom ≤ length (now out) ⌝ }
-    ensures { λ r. ⌜ PutWithin (now (out .entry)) at endRoom (printedLine (classWord (Class.Value reading) ∷ figureOf (Class.Value reading) ∷ [])) (now (out .exit)) r ⌝ }
+    ensures { λ r. ⌜ PutWithin (now (out .entry)) at endRoom (classEnd (Class.Value reading)) (now (out .exit)) r ⌝ }
 {
     let after_word = put_bytes(&mut *out, at, b"value");
     let number = put_byte(&mut *out, after_word, TAB);
@@ -49,7 +48,7 @@ fn put_value(out: &mut [u8], at: usize, reading: Thousandths) -> usize
 // The word of a class, and its thousandths or count.
 fn put_class(out: &mut [u8], at: usize, class: Class) -> usize
     requires { ⌜ at + endRoom ≤ length (now out) ⌝ }
-    ensures { λ r. ⌜ PutWithin (now (out .entry)) at endRoom (printedLine (classWord class ∷ figureOf class ∷ [])) (now (out .exit)) r ⌝ }
+    ensures { λ r. ⌜ PutWithin (now (out .entry)) at endRoom (classEnd class) (now (out .exit)) r ⌝ }
 {
     match class {
         Class::Value(reading) => put_value(out, at, reading),
@@ -64,9 +63,9 @@ fn put_class(out: &mut [u8], at: usize, class: Class) -> usize
 }
 
 // One signal's reading.
-pub fn put_signal(out: &mut [u8], at: usize, identifier: u32, number: u32, class: Class) -> usize
-    requires { ⌜ at + lineRoom ≤ length (now out) ⌝ }
-    ensures { λ r. ⌜ PutWithin (now (out .entry)) at lineRoom (signalLine identifier number class) (now (out .exit)) r ⌝ }
+pub fn put_reading(out: &mut [u8], at: usize, identifier: u32, number: u32, class: Class) -> usize
+    requires { ⌜ at + listedLineRoom ≤ length (now out) ⌝ }
+    ensures { λ r. ⌜ PutWithin (now (out .entry)) at listedLineRoom (readingLine identifier number class) (now (out .exit)) r ⌝ }
 {
     let after_identifier = put_identifier(&mut *out, at, identifier);
     let second = put_byte(&mut *out, after_identifier, TAB);
@@ -77,8 +76,8 @@ pub fn put_signal(out: &mut [u8], at: usize, identifier: u32, number: u32, class
 
 // A refused frame.
 pub fn put_refused(out: &mut [u8], at: usize, identifier: u32, refusal: u32) -> usize
-    requires { ⌜ at + lineRoom ≤ length (now out) ⌝ }
-    ensures { λ r. ⌜ PutWithin (now (out .entry)) at lineRoom (refusedLine identifier refusal) (now (out .exit)) r ⌝ }
+    requires { ⌜ at + listedLineRoom ≤ length (now out) ⌝ }
+    ensures { λ r. ⌜ PutWithin (now (out .entry)) at listedLineRoom (refusedFrameLine identifier refusal) (now (out .exit)) r ⌝ }
 {
     let after_identifier = put_identifier(&mut *out, at, identifier);
     let second = put_byte(&mut *out, after_identifier, TAB);

@@ -1,4 +1,4 @@
--- Each public function's contract allows one outcome and no other. Assumes nothing.
+-- Each public function's contract allows one watchAndAnswer and no other. Assumes nothing.
 use mathlib.Core.Path.{refl}
 use mathlib.Core.Bool.{Bool}
 use Prim.Native.Nat.{ℕ}
@@ -15,13 +15,12 @@ use denote.Triple.Clauses.{AtExit}
 use Rattle.only.specs.Only.{Only, only-this}
 use Rattle.sleep.specs.declared.Watch.{Watch}
 use Rattle.sleep.specs.declared.Updated.{Updated}
-use Rattle.sleep.specs.Watching.{awakeAt, watchOf, afterCall}
+use Rattle.sleep.specs.Watching.{awakeAt, afterCall}
 use Rattle.sleep.proofs.Watch as T
 use Rattle.sleep.proofs.Updated as D
 use Rattle.sleep.proofs.Watch.new as new
 use Rattle.sleep.proofs.Watch.updated as updated
 use Rattle.sleep.proofs.update as update
-use Rattle.sleep.proofs.update_fields as update-fields
 
 module _ {M : Type 1} (𝓤 : URA M) (H : Heap 𝓤) (A : Atoms 𝓤) (mem : Memory → SProp 𝓤) (run : Routine → Fun 𝓤) where
   pub one-new : (time : ℕ) (e : AtExit new.ended tt) → Only 𝓤 (λ r. new.clauses 𝓤 H A mem run tt (time, tt) .ensures tt r e)
@@ -34,8 +33,3 @@ module _ {M : Type 1} (𝓤 : URA M) (H : Heap 𝓤) (A : Atoms 𝓤) (mem : Mem
   pub one-update : (κs : Lfts 1) (w : RefT Watch) (time : ℕ) (wake : Bool)
       → Only 𝓤 (λ (x : Updated). update.clauses 𝓤 H A mem run κs (w, (time, (wake, tt))) .ensures tt (x .answer) (at-last w (x .watch), (time, (wake, tt))))
   one-update κs w time wake = only-this 𝓤 _ (D.the-row .coded) (afterCall (now w) time wake) (λ x. refl)
-
-  -- both fields at exit, and the answer, together
-  pub one-update-fields : (κs : Lfts 2) (last : RefT ℕ) (asleep : RefT Bool) (time : ℕ) (wake : Bool)
-      → Only 𝓤 (λ (x : Updated). update-fields.clauses 𝓤 H A mem run κs (last, (asleep, (time, (wake, tt)))) .ensures tt (x .answer) (at-last last (x .watch .«last_wake»), (at-last asleep (x .watch .asleep), (time, (wake, tt)))))
-  one-update-fields κs last asleep time wake = only-this 𝓤 _ (D.the-row .coded) (afterCall (watchOf (now last) (now asleep)) time wake) (λ x. refl)

@@ -4,10 +4,10 @@ use mathlib.Core.Bool.{Bool, true, false}
 use mathlib.Core.List.{List, [], _∷_, map}
 use Prim.Native.Nat.{ℕ}
 use Rattle.sleep.specs.declared.Watch.{Watch}
-use Rattle.sleep.specs.declared.Answer.{Answer}
-use Rattle.sleep.specs.declared.Answer.the-variants.{Taken, ClockWentBack}
+use Rattle.sleep.specs.declared.SleepAnswer.{SleepAnswer}
+use Rattle.sleep.specs.declared.SleepAnswer.the-variants.{Taken, ClockWentBack}
 use Rattle.sleep.specs.declared.Updated.{Updated}
-use Rattle.sleep.specs.Watching.{awakeAt, watchOf, outcome, afterCall}
+use Rattle.sleep.specs.Watching.{awakeAt, watchOf, watchAndAnswer, afterCall}
 
 pub record Worked : Type 0 where
   pub before : Watch
@@ -15,8 +15,8 @@ pub record Worked : Type 0 where
   pub wake : Bool
   pub after : Updated
 
-abbrev call : Watch → ℕ → Bool → Watch → Answer → Worked
-call w t b x a = record { before = w; time = t; wake = b; after = outcome x a }
+abbrev call : Watch → ℕ → Bool → Watch → SleepAnswer → Worked
+call w t b x a = record { before = w; time = t; wake = b; after = watchAndAnswer x a }
 
 abbrev asleepSince : ℕ → Watch
 asleepSince time = watchOf time true

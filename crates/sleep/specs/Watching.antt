@@ -3,21 +3,21 @@ use Prim.Native.Nat.{ℕ, _+_, _-_, _%_, _^_}
 use mathlib.Core.Bool.{Bool, false, cond}
 use lib.Dec.{leb}
 use Rattle.sleep.specs.declared.Watch.{Watch}
-use Rattle.sleep.specs.declared.Answer.{Answer}
-use Rattle.sleep.specs.declared.Answer.the-variants.{Taken, ClockWentBack}
+use Rattle.sleep.specs.declared.SleepAnswer.{SleepAnswer}
+use Rattle.sleep.specs.declared.SleepAnswer.the-variants.{Taken, ClockWentBack}
 use Rattle.sleep.specs.declared.Updated.{Updated}
 
 -- document 01's number of each answer; 0 is no refusal
-abbrev pub refusal : Answer → ℕ
-refusal Taken = 0
-refusal ClockWentBack = 51
+abbrev pub sleepRefusal : SleepAnswer → ℕ
+sleepRefusal Taken = 0
+sleepRefusal ClockWentBack = 51
 
 -- a watch from its parts, and what a call leaves: the watch and the answer
 abbrev pub watchOf : ℕ → Bool → Watch
 watchOf lastWake sleeps = record { «last_wake» = lastWake; asleep = sleeps }
 
-abbrev pub outcome : Watch → Answer → Updated
-outcome w a = record { watch = w; answer = a }
+abbrev pub watchAndAnswer : Watch → SleepAnswer → Updated
+watchAndAnswer w a = record { watch = w; answer = a }
 
 -- "it starts awake at the time given"; "awake, last wake = now"
 abbrev pub awakeAt : ℕ → Watch
@@ -41,7 +41,7 @@ sleepsAfter = 10000
 
 -- "it stays asleep until wake is on. While asleep no call is refused, and a wake-off call changes nothing"
 abbrev pub whileAsleep : Watch → ℕ → Bool → Updated
-whileAsleep w time wake = outcome (cond wake (awakeAt time) w) Taken
+whileAsleep w time wake = watchAndAnswer (cond wake (awakeAt time) w) Taken
 
 -- "Wake on: awake, last wake = now. Wake off: asleep from age 10,000 on"
 abbrev pub whileAwake : Watch → ℕ → Bool → Watch
@@ -51,4 +51,4 @@ whileAwake w time wake = cond wake (awakeAt time) (watchOf (w .«last_wake») (l
 unfoldable pub afterCall : Watch → ℕ → Bool → Updated
 afterCall w time wake =
     cond (w .asleep) (whileAsleep w time wake)
-    (cond (leb halfTheCircle (age time (w .«last_wake»))) (outcome w ClockWentBack) (outcome (whileAwake w time wake) Taken))
+    (cond (leb halfTheCircle (age time (w .«last_wake»))) (watchAndAnswer w ClockWentBack) (watchAndAnswer (whileAwake w time wake) Taken))

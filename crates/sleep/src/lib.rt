@@ -4,7 +4,7 @@
 // over its 32 bits. No function has a `requires`: every watch, time and wake is answered, and a refused call leaves the
 // watch as it stood. `specs/Watching.antt` says what each call does, for every input.
 ghost use mathlib.Core.Path.{_≡_};
-ghost use Rattle.sleep.specs.Watching.{awakeAt, watchOf, age, afterCall, outcome};
+ghost use Rattle.sleep.specs.Watching.{awakeAt, age, afterCall, watchAndAnswer};
 
 // The clock's time at the last wake, and whether the truck sleeps.
 pub struct Watch {
@@ -12,7 +12,7 @@ pub struct Watch {
     pub asleep: bool,
 }
 
-pub enum Answer {
+pub enum SleepAnswer {
     Taken,
     // While awake the time is half the circle or more past the last wake: read as a clock that went back.
     ClockWentBack,
@@ -21,7 +21,7 @@ pub enum Answer {
 // The watch after a call, and the call's answer.
 pub struct Updated {
     pub watch: Watch,
-    pub answer: Answer,
+    pub answer: SleepAnswer,
 }
 
 const SLEEPS_AFTER: u32 = 10000;
@@ -35,33 +35,6 @@ fn age_at(time: u32, last: u32) -> u32
     std::num::wrapping_sub_u32(time, last)
 }
 
-// The work, on a watch whose two fields stand apart, as a C caller lends them.
-pub fn update_fields(last: &mut u32, asleep: &mut bool, time: u32, wake: bool) -> Answer
-    ensures { λ r. ⌜ outcome (watchOf (now (last .exit)) (now (asleep .exit))) r ≡ afterCall (watchOf (now (last .entry)) (now (asleep .entry))) time wake ⌝ }
-{
-    if *asleep {
-        if wake {
-            *last = time;
-            *asleep = false;
-            return Answer::Taken;
-        }
-        return Answer::Taken;
-    }
-    let passed = age_at(time, *last);
-    if HALF_THE_CIRCLE <= passed {
-        return Answer::ClockWentBack;
-    }
-    if wake {
-        *last = time;
-        return Answer::Taken;
-    }
-    if SLEEPS_AFTER <= passed {
-        *asleep = true;
-        return Answer::Taken;
-    }
-    Answer::Taken
-}
-
 impl Watch {
     // A watch starts awake, at the time given.
     pub fn new(time: u32) -> Watch
@@ -73,23 +46,49 @@ impl Watch {
         }
     }
 
-    // One call, by value: the watch goes in and comes back.
+    // One call, by value: the watch goes in and comes back. The rules stand here and nowhere else.
     pub fn updated(self, time: u32, wake: bool) -> Updated
         ensures { λ r. ⌜ r ≡ afterCall self time wake ⌝ }
     {
-        let mut last_wake = self.last_wake;
-        let mut asleep = self.asleep;
-        let answer = update_fields(&mut last_wake, &mut asleep, time, wake);
+        let woken = Watch::new(time);
+        if self.asleep {
+            if wake {
+                return Updated {
+                    watch: woken,
+                    answer: SleepAnswer::Taken,
+                };
+            }
+            return Updated {
+                watch: self,
+                answer: SleepAnswer::Taken,
+            };
+        }
+        let passed = age_at(time, self.last_wake);
+        if HALF_THE_CIRCLE <= passed {
+            return Updated {
+                watch: self,
+                answer: SleepAnswer::ClockWentBack,
+            };
+        }
+        if wake {
+            return Updated {
+                watch: woken,
+                answer: SleepAnswer::Taken,
+            };
+        }
         Updated {
-            watch: Watch { last_wake, asleep },
-            answer,
+            watch: Watch {
+                last_wake: self.last_wake,
+                asleep: SLEEPS_AFTER <= passed,
+            },
+            answer: SleepAnswer::Taken,
         }
     }
 }
 
 // One call on the watch where it stands.
-pub fn update(watch: &mut Watch, time: u32, wake: bool) -> Answer
-    ensures { λ r. ⌜ outcome (now (watch .exit)) r ≡ afterCall (now (watch .entry)) time wake ⌝ }
+pub fn update(watch: &mut Watch, time: u32, wake: bool) -> SleepAnswer
+    ensures { λ r. ⌜ watchAndAnswer (now (watch .exit)) r ≡ afterCall (now (watch .entry)) time wake ⌝ }
 {
     let next = (*watch).updated(time, wake);
     *watch = next.watch;

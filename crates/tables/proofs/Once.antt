@@ -20,22 +20,22 @@ use Rattle.placing.proofs.Placing.{alone-room}
 use Rattle.placing.proofs.Filling.{more-there, fills-once}
 use Rattle.tables.specs.declared.Added.{Added}
 use Rattle.tables.specs.declared.Added.the-variants as added
-use Rattle.tables.specs.declared.Placed.{Placed}
-use Rattle.tables.specs.Adding.{refusalOf, unless, Judged, SignalJudged}
+use Rattle.tables.specs.declared.AddedSignal.{AddedSignal}
+use Rattle.tables.specs.Adding.{addedNumber, unless, LineJudged, SignalJudged}
 use Rattle.tables.proofs.Room.{signal-room}
 use Rattle.tables.proofs.Kept.{fills-signal}
 
 -- ---- no two answers have the same number
-answers-apart : (r r′ : Added) → refusalOf r ≡ refusalOf r′ → r ≡ r′
+answers-apart : (r r′ : Added) → addedNumber r ≡ addedNumber r′ → r ≡ r′
 answers-apart added.Taken added.Taken e = refl
 answers-apart added.Taken (added.Refused why) e = absurd (omega (arith, above-0 why .1))
 answers-apart (added.Refused why) added.Taken e = absurd (omega (arith, above-0 why .1))
 answers-apart (added.Refused why) (added.Refused why′) e = ap added.Refused (number-once why why′ e)
 
-pub judged-once : (refusal : ℕ) (old new : Book) (r r′ : Added) (w w′ : List ℕ) → Judged refusal old new r w → Judged refusal old new r′ w′ → (r ≡ r′) × (w ≡ w′)
+pub judged-once : (refusal : ℕ) (old new : Book) (r r′ : Added) (w w′ : List ℕ) → LineJudged refusal old new r w → LineJudged refusal old new r′ w′ → (r ≡ r′) × (w ≡ w′)
 judged-once refusal old new r r′ w w′ j j′ = (answers-apart r r′ (j .answer ∙ sym (j′ .answer)), j .words ∙ sym (j′ .words))
 
-pub signal-judged-once : (b : Book) (p : Placement) (r r′ : Placed) (w w′ : List ℕ) → SignalJudged b p r w → SignalJudged b p r′ w′ → (r ≡ r′) × (w ≡ w′)
+pub signal-judged-once : (b : Book) (p : Placement) (r r′ : AddedSignal) (w w′ : List ℕ) → SignalJudged b p r w → SignalJudged b p r′ w′ → (r ≡ r′) × (w ≡ w′)
 signal-judged-once b p r r′ w w′ j j′ =
     let e = judged-once _ b (withSignal b p) (r .added) (r′ .added) w w′ (j .judged) (j′ .judged) in
     let f = fills-once _ (r .filled) (r′ .filled) (j .fills) (j′ .fills) in
@@ -44,7 +44,7 @@ signal-judged-once b p r r′ w w′ j j′ =
 -- ---- and each refusal has an answer
 pub record Answers (n : ℕ) : Type 0 where
   pub answer : Added
-  pub is : refusalOf answer ≡ n
+  pub is : addedNumber answer ≡ n
 
 or : (t : Bool) (why : Refusal) (n : ℕ) → Answers n → Answers (cond t (number why) n)
 or true why n a = record { answer = added.Refused why; is = refl }
@@ -75,7 +75,7 @@ route-answer rs x i y j =
     or ((leb busLimit x || leb identifierLimit i) || (leb busLimit y || leb identifierLimit j)) refusal.OverLimit _
     (or (leb routeLimit (length rs)) refusal.Full 0 taken)
 
-pub judged-there : (refusal : ℕ) (old new : Book) (a : Answers refusal) → Judged refusal old new (a .answer) (wordsOf (unless refusal old new))
+pub judged-there : (refusal : ℕ) (old new : Book) (a : Answers refusal) → LineJudged refusal old new (a .answer) (wordsOf (unless refusal old new))
 judged-there refusal old new a = record { answer = a .is; words = refl }
 
 -- what the last message's signals fill then
@@ -92,7 +92,7 @@ filled-there b p f h = go (signalRefusal (b .messages) p) refl
     go (suc n) e = (f, h)
 
 pub signal-judged-there : (b : Book) (p : Placement) (f : Filled) → Fills (lastPlacements (b .messages)) f
-    → (x : Placed × List ℕ) × SignalJudged b p (x .0) (x .1)
+    → (x : AddedSignal × List ℕ) × SignalJudged b p (x .0) (x .1)
 signal-judged-there b p f h =
     let a = signal-answer (b .messages) p in
     let g = filled-there b p f h in (

@@ -12,16 +12,16 @@ use Rattle.books.specs.Words.{wordsOf}
 use Rattle.books.proofs.Tests.{both-false}
 use Rattle.record.specs.Columns.{messageCountOf, routeCountOf, idsOf}
 use Rattle.tables.specs.declared.Added.{Added}
-use Rattle.tables.specs.Adding.{Holds, Judged, refusalOf, unless}
+use Rattle.tables.specs.Adding.{Holds, LineJudged, addedNumber, unless}
 use Rattle.tables.proofs.Held.{messages-held, routes-held, ids-held}
 
 -- ---- a line that is refused leaves the words, and one that is taken makes those of the new book
-module _ (refusal : ℕ) (w : List ℕ) (old new : Book) (r : Added) (e : refusalOf r ≡ refusal) where
-  pub stays : (n : ℕ) → refusal ≡ suc n → Holds w old → Judged refusal old new r w
+module _ (refusal : ℕ) (w : List ℕ) (old new : Book) (r : Added) (e : addedNumber r ≡ refusal) where
+  pub stays : (n : ℕ) → refusal ≡ suc n → Holds w old → LineJudged refusal old new r w
   unfolding unless
   stays n f h = record { answer = e; words = rw f (h .words) }
 
-  pub takes : refusal ≡ 0 → w ≡ wordsOf new → Judged refusal old new r w
+  pub takes : refusal ≡ 0 → w ≡ wordsOf new → LineJudged refusal old new r w
   unfolding unless
   takes f g = record { answer = e; words = rw f g }
 

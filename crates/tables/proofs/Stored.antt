@@ -5,13 +5,13 @@ use Prim.Native.Nat.{ℕ, _+_, _-_, _<_}
 use native.Mathlib.Nat.{zero-add}
 use native.Mathlib.Omega.{arith}
 use lib.ListN.{length, set, length-append, length-map, length-set}
-use Rattle.record.specs.Columns.{messageCountAt, signalCountAt, routeCountAt, idsAt, endsAt, numbersAt, startsAt, fromsAt, tosAt}
 use Rattle.books.specs.Book.{Placement, Message, Route, Book, identifiers, numbers, allPlacements, fresh, withPlacement, inLast, withMessage, withRoute}
 use Rattle.books.specs.Lines.{messageLimit, signalLimit, routeLimit}
-use Rattle.books.specs.Words.{column, starts, endsAfter, idColumn, endColumn, numberColumn, startColumn, fromColumn, toColumn, wordsOf}
+use Rattle.books.specs.Words.{column, placementStarts, endsAfter, idColumn, endColumn, numberColumn, startColumn, fromColumn, toColumn, wordsOf}
 use Rattle.books.proofs.Ends.{map-append, in-last, last}
 use Rattle.books.proofs.Columns.{length-column, length-ends, ids-long, ends-long, numbers-long, starts-long}
 use Rattle.tables.specs.Adding.{Within}
+use Rattle.tables.specs.Storing.{messageStored, signalStored, routeStored}
 use Rattle.tables.proofs.Flat.{words-flat, column-more, column-last, set-messages, set-signals, set-routes, set-ids, set-ends, set-numbers, set-starts, set-froms, set-tos}
 use Rattle.tables.proofs.Longer.{ends-last, placements-stay, ends-more, identifiers-stay, placements-more}
 
@@ -34,8 +34,7 @@ module _ (b : Book) (i : ℕ) (h : Within b) (room : length (b .messages) < mess
       column-more messageLimit (endsAfter 0 (b .messages)) (length (allPlacements (b .messages))) (omega (arith, length-ends 0 (b .messages))) ∙
       ap (column messageLimit) (sym (ends-more (b .messages) i))
 
-  pub message-stored : set (set (set (wordsOf b) (idsAt + length (b .messages)) i) (endsAt + length (b .messages)) (length (allPlacements (b .messages)))) messageCountAt (length (b .messages) + 1)
-      ≡ wordsOf (withMessage b i)
+  pub message-stored : messageStored (wordsOf b) (length (b .messages)) i (length (allPlacements (b .messages))) ≡ wordsOf (withMessage b i)
   message-stored =
       let n = length (b .messages) in
       let s = length (allPlacements (b .messages)) in
@@ -74,11 +73,7 @@ module _ (before : List Message) (m : Message) (rs : List Route) (p : Placement)
       ap (λ (n : ℕ). column messageLimit (endsAfter 0 before ++ (n ∷ []))) (sym (zero-add (length (allPlacements (before ++ (withPlacement m p ∷ [])))) ∙ all-longer)) ∙
       ap (column messageLimit) (sym (ends-last 0 before (withPlacement m p)))
 
-  lines-stored : set (set (set (set (wordsOf (record { messages = before ++ (m ∷ []); routes = rs }))
-      (numbersAt + length (allPlacements (before ++ (m ∷ [])))) (p .number))
-      (startsAt + length (allPlacements (before ++ (m ∷ [])))) (p .start))
-      (endsAt + (length (before ++ (m ∷ [])) - 1)) (length (allPlacements (before ++ (m ∷ []))) + 1))
-      signalCountAt (length (allPlacements (before ++ (m ∷ []))) + 1)
+  lines-stored : signalStored (wordsOf (record { messages = before ++ (m ∷ []); routes = rs })) (length (before ++ (m ∷ []))) (length (allPlacements (before ++ (m ∷ [])))) (p .number) (p .start)
       ≡ wordsOf (record { messages = before ++ (withPlacement m p ∷ []); routes = rs })
   lines-stored =
       let ms = before ++ (m ∷ []) in
@@ -103,7 +98,7 @@ module _ (before : List Message) (m : Message) (rs : List Route) (p : Placement)
       let three = set-ends n s r ids ends nums′ sts′ froms tos (n - 1) (s + 1) li (omega (arith, length-more before m)) in
       let four = set-signals n s r ids (set ends (n - 1) (s + 1)) nums′ sts′ froms tos (s + 1) in
       let c : nums′ ≡ column signalLimit (numbers (allPlacements ms ++ (p ∷ []))) = column-map signalLimit (λ (q : Placement). q .number) (allPlacements ms) p room in
-      let d : sts′ ≡ column signalLimit (starts (allPlacements ms ++ (p ∷ []))) = column-map signalLimit (λ (q : Placement). q .start) (allPlacements ms) p room in
+      let d : sts′ ≡ column signalLimit (placementStarts (allPlacements ms ++ (p ∷ []))) = column-map signalLimit (λ (q : Placement). q .start) (allPlacements ms) p room in
       let e : allPlacements ns ≡ allPlacements ms ++ (p ∷ []) = placements-more before m p in
       let f : set ends (n - 1) (s + 1) ≡ endColumn ns = ends-last-more in
       let g : identifiers ns ≡ identifiers ms = identifiers-stay before m p in
@@ -114,8 +109,7 @@ module _ (before : List Message) (m : Message) (rs : List Route) (p : Placement)
 -- the same, of a book with messages
 abbrev Stores : Placement → List Route → List Message → Type 0
 Stores p rs ms =
-    set (set (set (set (wordsOf (record { messages = ms; routes = rs })) (numbersAt + length (allPlacements ms)) (p .number)) (startsAt + length (allPlacements ms)) (p .start))
-    (endsAt + (length ms - 1)) (length (allPlacements ms) + 1)) signalCountAt (length (allPlacements ms) + 1)
+    signalStored (wordsOf (record { messages = ms; routes = rs })) (length ms) (length (allPlacements ms)) (p .number) (p .start)
     ≡ wordsOf (record { messages = inLast ms p; routes = rs })
 
 pub signal-stored : (ms : List Message) (rs : List Route) (p : Placement) → Within (record { messages = ms; routes = rs }) → 0 < length ms → length (allPlacements ms) < signalLimit → Stores p rs ms
@@ -133,7 +127,7 @@ signal-stored (x ∷ xs) rs p h some room =
 -- ---- a route
 
 module _ (b : Book) (x : Route) (h : Within b) (room : length (b .routes) < routeLimit) where
-  pub route-stored : set (set (set (wordsOf b) (fromsAt + length (b .routes)) (x .from)) (tosAt + length (b .routes)) (x .to)) routeCountAt (length (b .routes) + 1) ≡ wordsOf (withRoute b x)
+  pub route-stored : routeStored (wordsOf b) (length (b .routes)) (x .from) (x .to) ≡ wordsOf (withRoute b x)
   route-stored =
       let n = length (b .messages) in
       let s = length (allPlacements (b .messages)) in

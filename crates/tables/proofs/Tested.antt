@@ -10,13 +10,15 @@ use borrow.Author.Tests.{le-leb}
 use Rattle.books.specs.Book.{Placement, Message, identifiers, numbers, allPlacements}
 use Rattle.books.specs.Good.{goodFrom, good}
 use Rattle.books.specs.Lines.{messageLimit, signalLimit}
-use Rattle.books.specs.Words.{column, starts, endsAfter, idColumn, endColumn, numberColumn, startColumn, messageColumns, sideBySide, messagesOf, messagesTaken, Stands}
+use Rattle.books.specs.Words.{column, placementStarts, endsAfter, idColumn, endColumn, numberColumn, startColumn, messageColumns, sideBySide, messagesOf, messagesTaken, Stands}
 use Rattle.books.proofs.Sides.{side-back, side-length, side-numbers, side-starts}
 use Rattle.books.proofs.Columns.{take-column, past-column, filled, length-ends, within, ids-stand, ends-stand, numbers-stand, starts-stand, taken-stands, stands-taken}
+use Rattle.catalogue.specs.Places.{noPlace}
 use Rattle.columns.specs.Identifiers.{distinctAfter}
+use Rattle.placing.specs.Stamps.{Below}
 use Rattle.record.specs.Columns.{idsAt, endsAt, numbersAt, messageCountOf, signalCountOf, idsOf, endsOf, numbersOf, startsOf, messageColumnsOf}
 use Rattle.zeros.specs.Zeros.{zeros}
-use Rattle.zeros.proofs.Gathering.{zeros-are, are-zeros}
+use Rattle.zeros.proofs.Gathering.{zeros-are, are-zeros, zero-at}
 use Rattle.tables.specs.Testing.{parted}
 use Rattle.tables.proofs.Parted.{shown-ids, shown-ends, shown-all, shown-good, good-parted, good-distinct}
 
@@ -122,7 +124,7 @@ module _ (w : List ℕ) (l : Long w) (c : Checked w) where
       let n : numbersOf w ≡ numberColumn (messagesOf w) =
       column-zero signalLimit (signalCountOf w) (numbersOf w) (l .numbers) (c .room) (b .0) ∙ ap (column signalLimit) (sym (ap numbers shows-all ∙ side-numbers ns ss starts-few)) in
       let s : startsOf w ≡ startColumn (messagesOf w) =
-      column-zero signalLimit (signalCountOf w) (startsOf w) (l .starts) (c .room) (b .1) ∙ ap (column signalLimit) (sym (ap starts shows-all ∙ side-starts ns ss starts-few)) in
+      column-zero signalLimit (signalCountOf w) (startsOf w) (l .starts) (c .room) (b .1) ∙ ap (column signalLimit) (sym (ap placementStarts shows-all ∙ side-starts ns ss starts-few)) in
       record { messages = count-messages; signals = count-signals; columns = cc (columns-whole w) }
 
   checked-taken : messagesTaken w ≡ true
@@ -166,7 +168,7 @@ module _ (w : List ℕ) (t : messagesTaken w ≡ true) where
       let starts-in = starts-stand w (messagesOf w) few′ room′ stood in
       let ps = allPlacements (messagesOf w) in
       let n-are : length (numbers ps) ≡ length ps = length-map ps (λ (p : Placement). p .number) in
-      let s-are : length (starts ps) ≡ length ps = length-map ps (λ (p : Placement). p .start) in
+      let s-are : length (placementStarts ps) ≡ length ps = length-map ps (λ (p : Placement). p .start) in
       let e-are = length-ends 0 (messagesOf w) in
       record {
         few = omega (arith, stood .messages, few′);
@@ -174,7 +176,7 @@ module _ (w : List ℕ) (t : messagesTaken w ≡ true) where
         messages-rest = rw (stood .messages, ids-in, ends-in)
             (and-eq-true-iff _ _ .1 (zero-column messageLimit _ (identifiers (messagesOf w)) ids-are, zero-column messageLimit _ (endsAfter 0 (messagesOf w)) e-are));
         signals-rest = rw (stood .signals, numbers-in, starts-in)
-            (and-eq-true-iff _ _ .1 (zero-column signalLimit _ (numbers ps) n-are, zero-column signalLimit _ (starts ps) s-are));
+            (and-eq-true-iff _ _ .1 (zero-column signalLimit _ (numbers ps) n-are, zero-column signalLimit _ (placementStarts ps) s-are));
         new = rw (stood .messages, ids-in, take-column messageLimit (length (messagesOf w)) (identifiers (messagesOf w)) ids-are) (good-distinct [] (messagesOf w) each);
         parts = rw (
           stood .messages,
@@ -184,7 +186,7 @@ module _ (w : List ℕ) (t : messagesTaken w ≡ true) where
           starts-in,
           take-column messageLimit (length (messagesOf w)) (endsAfter 0 (messagesOf w)) e-are,
           take-column signalLimit (length ps) (numbers ps) n-are,
-          take-column signalLimit (length ps) (starts ps) s-are,
+          take-column signalLimit (length ps) (placementStarts ps) s-are,
           side-back,
         )
             (good-parted [] 0 (messagesOf w) each);
@@ -246,3 +248,7 @@ module _ (w : List ℕ) (m s : ℕ) (ids ends ns ss : List ℕ) (em : m ≡ mess
       go : (t : Bool) → parted 0 ends′ (sideBySide ns′ ss′) ≡ t → parted 0 ends′ (sideBySide ns′ ss′) ≡ messagesTaken w
       go true e = e ∙ sym (checked-taken w long (checked e))
       go false e = e ∙ fails w (λ c. true≢false (sym (c .parts) ∙ same ∙ e))
+
+-- ---- the stamps before the first message
+pub no-stamps : Below (replicate noPlace 0) 1
+no-stamps = record { each = refl; below = λ p. let z = zero-at noPlace p in omega (arith, z) }

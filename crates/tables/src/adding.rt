@@ -1,9 +1,8 @@
 // One line more at the end of a book: the words are then those of the book with the line, or stay where the line is refused.
-ghost use Rattle.books.specs.Book.{Book, placement, route, withMessage, withRoute};
-ghost use Rattle.books.specs.Lines.{messageRefusal, routeRefusal};
-ghost use Rattle.tables.specs.Adding.{OfBook, Holds, OfKept, Kept, Judged, SignalJudged};
+ghost use Rattle.books.specs.Book.{Book, placement};
+ghost use Rattle.tables.specs.Adding.{OfBook, OfBookFilled, HoldsFilled, MessageAdded, SignalJudged, RouteAdded};
 use crate::Added;
-use crate::Placed;
+use crate::AddedSignal;
 use crate::judging::has_message;
 use crate::judging::judge_signal;
 use crate::judging::over_limit;
@@ -22,7 +21,7 @@ use record::wide;
 // An `M` line.
 pub fn add_message(book: &mut [u32; BOOK_WORDS], identifier: u32) -> Added
     requires { ⌜ OfBook (now book) ⌝ }
-    ensures { λ r. ⌜ ((b : Book) → Holds (now (book .entry)) b → Judged (messageRefusal (b .messages) identifier) b (withMessage b identifier) r (now (book .exit))) ⌝ }
+    ensures { λ r. ⌜ MessageAdded (now (book .entry)) identifier r (now (book .exit)) ⌝ }
 {
     if identifier >= IDENTIFIER_LIMIT {
         return Added::Refused(Refusal::OverLimit);
@@ -40,9 +39,14 @@ pub fn add_message(book: &mut [u32; BOOK_WORDS], identifier: u32) -> Added
 }
 
 // An `S` line: it belongs to the last message, whose signals have filled so much.
-pub fn add_signal(book: &mut [u32; BOOK_WORDS], filled: Filled, number: u32, start: u32) -> Placed
-    requires { ⌜ OfKept (now book) filled ⌝ }
-    ensures { λ r. ⌜ ((b : Book) → Kept (now (book .entry)) filled b → SignalJudged b (placement number start) r (now (book .exit))) ⌝ }
+pub fn add_signal(
+    book: &mut [u32; BOOK_WORDS],
+    filled: Filled,
+    number: u32,
+    start: u32,
+) -> AddedSignal
+    requires { ⌜ OfBookFilled (now book) filled ⌝ }
+    ensures { λ r. ⌜ ((b : Book) → HoldsFilled (now (book .entry)) filled b → SignalJudged b (placement number start) r (now (book .exit))) ⌝ }
 {
     let bits = catalogue::bits_of(number);
     let added = judge_signal(&*book, filled, number, start, bits);
@@ -50,12 +54,12 @@ pub fn add_signal(book: &mut [u32; BOOK_WORDS], filled: Filled, number: u32, sta
         let messages = record::message_count(&*book);
         let signals = record::signal_count(&*book);
         put_signal(book, messages, signals, number, start);
-        return Placed {
+        return AddedSignal {
             added,
             filled: filled_with(filled, number, start, bits),
         };
     }
-    Placed { added, filled }
+    AddedSignal { added, filled }
 }
 
 // An `R` line: from place, to place.
@@ -67,7 +71,7 @@ pub fn add_route(
     to_identifier: u32,
 ) -> Added
     requires { ⌜ OfBook (now book) ⌝ }
-    ensures { λ r. ⌜ ((b : Book) → Holds (now (book .entry)) b → Judged (routeRefusal (b .routes) «from_bus» «from_identifier» «to_bus» «to_identifier») b (withRoute b (route «from_bus» «from_identifier» «to_bus» «to_identifier»)) r (now (book .exit))) ⌝ }
+    ensures { λ r. ⌜ RouteAdded (now (book .entry)) «from_bus» «from_identifier» «to_bus» «to_identifier» r (now (book .exit)) ⌝ }
 {
     if over_limit(from_bus, from_identifier) {
         return Added::Refused(Refusal::OverLimit);

@@ -10,7 +10,7 @@ ghost use Rattle.catalogue.specs.Find.{bitsOf};
 ghost use Rattle.books.specs.Book.{Placement, Book, placement};
 ghost use Rattle.books.specs.Lines.{isIn, afterRefusal, signalRefusal, messageLimit, busLimit, identifierLimit, startLimit};
 ghost use Rattle.record.specs.Columns.{idsOf, endsOf};
-ghost use Rattle.tables.specs.Adding.{OfKept, Kept, Earlier, refusalOf};
+ghost use Rattle.tables.specs.Adding.{OfBookFilled, HoldsFilled, Earlier, addedNumber};
 use crate::Added;
 use answers::Refusal;
 use placing::Filled;
@@ -59,7 +59,7 @@ fn judge_after(
     bits: u32,
 ) -> Added
     requires { ⌜ ((ps : List Placement) × Earlier (now before) filled ps) × (start < startLimit) × (0 < bits) × (bits ≤ mostBits) × (bits ≡ bitsOf number) ⌝ }
-    ensures { λ r. ⌜ ((ps : List Placement) → Earlier (now (before .entry)) filled ps → refusalOf r ≡ afterRefusal ps count (placement number start)) ⌝ }
+    ensures { λ r. ⌜ ((ps : List Placement) → Earlier (now (before .entry)) filled ps → addedNumber r ≡ afterRefusal ps count (placement number start)) ⌝ }
 {
     if is_repeated(before, filled, number) {
         return Added::Refused(Refusal::SignalRepeated);
@@ -84,8 +84,8 @@ pub fn judge_signal(
     start: u32,
     bits: u32,
 ) -> Added
-    requires { ⌜ OfKept (now book) filled × (bits ≡ bitsOf number) ⌝ }
-    ensures { λ r. ⌜ ((b : Book) → Kept (now (book .entry)) filled b → refusalOf r ≡ signalRefusal (b .messages) (placement number start)) ⌝ }
+    requires { ⌜ OfBookFilled (now book) filled × (bits ≡ bitsOf number) ⌝ }
+    ensures { λ r. ⌜ ((b : Book) → HoldsFilled (now (book .entry)) filled b → addedNumber r ≡ signalRefusal (b .messages) (placement number start)) ⌝ }
 {
     if bits == 0 {
         return Added::Refused(Refusal::OverLimit);

@@ -19,7 +19,7 @@ pub enum Added {
 }
 
 // What becomes of an `S` line, and what the signals of the last message fill then.
-pub struct Placed {
+pub struct AddedSignal {
     pub added: Added,
     pub filled: Filled,
 }

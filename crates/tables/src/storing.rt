@@ -1,9 +1,8 @@
 // The words of a line, stored at the ends of the columns, with the counts raised.
 ghost use mathlib.Core.Path.{_≡_};
-ghost use Prim.Native.Nat.{_+_, _-_, _<_, _≤_};
-ghost use lib.ListN.{set};
+ghost use Prim.Native.Nat.{_<_, _≤_};
 ghost use Rattle.books.specs.Lines.{messageLimit, signalLimit, routeLimit};
-ghost use Rattle.record.specs.Columns.{messageCountAt, signalCountAt, routeCountAt, idsAt, endsAt, numbersAt, startsAt, fromsAt, tosAt};
+ghost use Rattle.tables.specs.Storing.{messageStored, signalStored, routeStored};
 use record::BOOK_WORDS;
 use record::ENDS;
 use record::FROMS;
@@ -19,7 +18,7 @@ use record::wide;
 // A message after `count` others. It has no signals yet, so it ends where they end.
 pub fn put_message(book: &mut [u32; BOOK_WORDS], count: u32, identifier: u32, end: u32)
     requires { ⌜ count < messageLimit ⌝ }
-    ensures { λ _. ⌜ now (book .exit) ≡ set (set (set (now (book .entry)) (idsAt + count) identifier) (endsAt + count) end) messageCountAt (count + 1) ⌝ }
+    ensures { λ _. ⌜ now (book .exit) ≡ messageStored (now (book .entry)) count identifier end ⌝ }
 {
     let at = wide(count);
     book[IDS + at] = identifier;
@@ -36,7 +35,7 @@ pub fn put_signal(
     start: u32,
 )
     requires { ⌜ (0 < messages) × (messages ≤ messageLimit) × (signals < signalLimit) ⌝ }
-    ensures { λ _. ⌜ now (book .exit) ≡ set (set (set (set (now (book .entry)) (numbersAt + signals) number) (startsAt + signals) start) (endsAt + (messages - 1)) (signals + 1)) signalCountAt (signals + 1) ⌝ }
+    ensures { λ _. ⌜ now (book .exit) ≡ signalStored (now (book .entry)) messages signals number start ⌝ }
 {
     let at = wide(signals);
     let last = wide(messages) - 1;
@@ -49,7 +48,7 @@ pub fn put_signal(
 // A route after `count` others.
 pub fn put_route(book: &mut [u32; BOOK_WORDS], count: u32, from: u32, to: u32)
     requires { ⌜ count < routeLimit ⌝ }
-    ensures { λ _. ⌜ now (book .exit) ≡ set (set (set (now (book .entry)) (fromsAt + count) from) (tosAt + count) to) routeCountAt (count + 1) ⌝ }
+    ensures { λ _. ⌜ now (book .exit) ≡ routeStored (now (book .entry)) count from to ⌝ }
 {
     let at = wide(count);
     book[FROMS + at] = from;

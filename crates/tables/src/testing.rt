@@ -1,28 +1,53 @@
 // The test behind refusal 12 for the message and signal tables: whether they are those of a taken book, whatever the words are.
 ghost use mathlib.Core.Path.{_≡_};
 ghost use mathlib.Core.Bool.{_&&_};
-ghost use Prim.Native.Nat.{_≤_};
+ghost use Prim.Native.Nat.{_+_, _≤_, _<_};
 ghost use lib.ListN.{length, drop};
 ghost use Rattle.books.specs.Words.{sideBySide, messagesTaken};
+ghost use Rattle.books.specs.Lines.{messageLimit};
+ghost use Rattle.placing.specs.Stamps.{Columns, Below};
 ghost use Rattle.zeros.specs.Zeros.{zeros};
 ghost use Rattle.tables.specs.Testing.{parted};
 use record::BOOK_WORDS;
 use record::MESSAGES;
 use record::SIGNALS;
 use record::wide;
-use zeros::zero_past;
 
-// Whether the entries past a count are 0 in two columns in step.
+// Whether the entries past a count are 0 in two columns in step: each rest goes as two halves, which meet where its length is odd.
 fn rests_zero(one: &[u32], other: &[u32], count: usize) -> bool
-    requires { ⌜ (count ≤ length (now one)) × (count ≤ length (now other)) ⌝ }
+    requires { ⌜ (count ≤ length (now one)) × (length (now other) ≡ length (now one)) ⌝ }
     ensures { λ r. ⌜ r ≡ zeros (drop count (now (one .entry))) && zeros (drop count (now (other .entry))) ⌝ }
 {
-    zero_past(one, count) & zero_past(other, count)
+    let half = (one.len() - count + 1) / 2;
+    let end = count + half;
+    let last = one.len() - half;
+    zeros::four_zero(
+        &one[count..end],
+        &one[last..],
+        &other[count..end],
+        &other[last..],
+    )
+}
+
+// The stamp of the message at a place: one more than the place.
+fn stamp_of(at: usize) -> u8
+    requires { ⌜ at < messageLimit ⌝ }
+    ensures { λ r. ⌜ r ≡ at + 1 ⌝ }
+{
+    (at + 1) as u8
 }
 
 // Whether the ends part the signals among the messages, and each message's signals stand where they may.
-fn well_parted(ends: &[u32], numbers: &[u32], starts: &[u32]) -> bool
-    requires { ⌜ length (now starts) ≡ length (now numbers) ⌝ }
+fn well_parted(
+    ends: &[u32],
+    numbers: &[u32],
+    starts: &[u32],
+    above: &[usize],
+    bounds: &[u8],
+    widths: &[u8],
+    stamps: &mut [u8],
+) -> bool
+    requires { ⌜ (length (now starts) ≡ length (now numbers)) × (length (now ends) ≤ messageLimit) × Columns (now above) (now bounds) (now widths) × Below (now stamps) 1 ⌝ }
     ensures { λ r. ⌜ r ≡ parted 0 (now (ends .entry)) (sideBySide (now (numbers .entry)) (now (starts .entry))) ⌝ }
 {
     let mut begin: usize = 0;
@@ -38,6 +63,11 @@ fn well_parted(ends: &[u32], numbers: &[u32], starts: &[u32]) -> bool
         if !placing::well_placed(
             columns::part(numbers, begin, end),
             columns::part(starts, begin, end),
+            above,
+            bounds,
+            widths,
+            stamps,
+            stamp_of(at),
         ) {
             return false;
         }
@@ -72,9 +102,17 @@ pub fn messages_taken(book: &[u32; BOOK_WORDS]) -> bool
     if !columns::distinct(record::first(ids, messages)) {
         return false;
     }
+    let above = catalogue::surpluses();
+    let bounds = catalogue::bounds();
+    let widths = rows::widths();
+    let mut stamps = [0u8; catalogue::PLACES];
     well_parted(
         record::first(ends, messages),
         record::first(numbers, signals),
         record::first(starts, signals),
+        &above,
+        &bounds,
+        &widths,
+        &mut stamps,
     )
 }

@@ -3,53 +3,50 @@ use mathlib.Core.Path.{_≡_, refl, sym, ap, _∙_, subst}
 use Prim.Native.Nat.{ℕ, suc, _+_, _≤_, _<_}
 use native.Mathlib.Numerals.{add-one}
 use native.Mathlib.Omega.{arith}
-use mathlib.Core.List.{List, [], _∷_}
-use lib.ListN.{length, drop, length-drop}
-use lib.Seq.{drop-drop}
+use mathlib.Core.List.{List, [], _∷_, map}
+use lib.ListN.{length, drop}
 use Rattle.record.specs.Columns.{emptyBook}
 use Rattle.answers.specs.declared.Refusal.{Refusal}
 use Rattle.answers.specs.Numbers.{number}
-use Rattle.line.specs.declared.Line.the-variants as line
-use Rattle.line.specs.declared.First.{First}
-use Rattle.line.specs.First.{firstLine}
-use Rattle.line.proofs.Firsts as firsts
+use Rattle.parts.specs.Parts.{lines}
+use Rattle.parts.proofs.LineEnds.{lines-none}
+use Rattle.line.specs.declared.Line.{Line}
+use Rattle.line.specs.declared.ReadLine.{ReadLine}
+use Rattle.line.specs.Meaning.{meaningOf}
+use Rattle.line.specs.LineAt.{lineAt}
+use Rattle.line.proofs.Firsts.{PassesLine, passes-line}
 use Rattle.books.specs.Book.{Book, noBook, lastPlacements, allPlacements}
 use Rattle.books.specs.Words.{column, endsAfter, messageColumns, routeColumns, wordsOf}
 use Rattle.reading.specs.Reading.{Outcome, refused, onward, refusalOf, withLine, numberedWith, readFrom, meanings, linesRead}
 use Rattle.placing.specs.declared.Filled.{Filled}
 use Rattle.placing.proofs.Filling.{fills-none}
-use Rattle.tables.specs.Adding.{Kept, unless}
+use Rattle.tables.specs.Adding.{HoldsFilled, unless}
 use Rattle.tables.proofs.Room.{within-none}
 use Rattle.taking.specs.declared.Step.{Step}
 use Rattle.taking.specs.declared.Step.the-variants as step
 use Rattle.taking.specs.Taking.{stepNumber, FillsThen, Took, Empty, PassedTo}
-use Rattle.taking.proofs.Steps.{stops, taken-well, within-line}
+use Rattle.taking.proofs.Steps.{stops, within-line}
 
--- the first line of what is left of a text
-module _ (text : List ℕ) (at : ℕ) (h : at < length text) (rest : List ℕ) (r : rest ≡ drop at text) (f : First) (e : f ≡ firstLine rest) where
-  left : length rest + at ≡ length text
-  left = omega (arith, ap length r, length-drop at text)
+-- what the lines from a place on say, by the line that is read there
+module _ (text : List ℕ) (at : ℕ) (h : at < length text) (r : ReadLine) (e : r ≡ lineAt text at) where
+  pub read : PassesLine text at r
+  read = rw e (passes-line text at h)
 
-  pub next : firsts.Onward rest f
-  next = rw e (firsts.onward rest (omega (arith, left)))
-
-  pub says : meanings (drop at text) ≡ f .line ∷ next .rest
+  pub says : meanings (drop at text) ≡ r .line ∷ meanings (drop (r .next) text)
   unfolding meanings
-  says = rw (← r) (next .says)
+  says = ap (map meaningOf) (read .parted) ∙ ap (λ (l : Line). l ∷ map meaningOf (lines (drop (r .next) text))) (sym (read .says))
 
-  pub then : (f .line ≡ line.IllFormed → ⊥) → next .rest ≡ meanings (drop (at + f .size) text)
-  unfolding meanings
-  then n = next .after n ∙ rw (r, drop-drop (f .size) at text)
-
-  pub fits : at + f .size ≤ length text
-  fits = omega (arith, left, next .within)
+-- at the text's end there are none
+pub no-more : (text : List ℕ) (at : ℕ) → length text ≤ at → meanings (drop at text) ≡ []
+unfolding meanings
+no-more text at h = ap (map meaningOf) (lines-none text at h)
 
 -- `at` bytes of the text are read, line n is next, the words are those of the book so far, and so much is filled by its last message's signals
 pub record Going (text : List ℕ) (at n : ℕ) (filled : Filled) (w : List ℕ) : Type 0 where
   pub book : Book
   pub numbers : List ℕ
   pub answer : readFrom n book numbers (meanings (drop at text)) ≡ linesRead text
-  pub kept : Kept w filled book
+  pub kept : HoldsFilled w filled book
   pub within : at ≤ length text
   pub numbered : n ≤ at + 1
 
@@ -71,51 +68,35 @@ start text w e f z =
     }
 
 module _ {text : List ℕ} {at n : ℕ} {filled : Filled} {w : List ℕ} (g : Going text at n filled w) where
-  none-left : length text ≤ at → meanings (drop at text) ≡ []
-  unfolding meanings
-  none-left h = firsts.no-more text at h
-
   pub all-taken : length text ≤ at → PassedTo text w
   unfolding readFrom
-  all-taken h = record { book = g .book; numbers = g .numbers; read = sym (rw (none-left h) at (g .answer)); holds = g .kept .holds }
+  all-taken h = record { book = g .book; numbers = g .numbers; read = sym (rw (no-more text at h) at (g .answer)); holds = g .kept .holds }
 
-  module _ (h : at < length text) {rest : List ℕ} (r : rest ≡ drop at text) (f : First) (e : f ≡ firstLine rest) (s : Step) {w′ : List ℕ} (t : Took (g .book) (f .line) s w′) where
+  module _ (h : at < length text) (r : ReadLine) (e : r ≡ lineAt text at) (s : Step) {w′ : List ℕ} (t : Took (g .book) (r .line) s w′) where
     onto : Outcome
-    onto = readFrom (suc n) (withLine (g .book) (f .line)) (numberedWith (g .numbers) n (f .line)) (next text at h rest r f e .rest)
+    onto = readFrom (suc n) (withLine (g .book) (r .line)) (numberedWith (g .numbers) n (r .line)) (meanings (drop (r .next) text))
 
-    one-more : onward (refusalOf (g .book) (f .line)) n onto ≡ linesRead text
+    one-more : onward (refusalOf (g .book) (r .line)) n onto ≡ linesRead text
     unfolding readFrom onto
-    one-more = rw (says text at h rest r f e) at (g .answer)
+    one-more = rw (says text at h r e) at (g .answer)
 
     pub refused-here : (why : Refusal) → s ≡ step.Refused why → linesRead text ≡ refused (number why) n
     refused-here why q =
-        let z : refusalOf (g .book) (f .line) ≡ number why = sym (t .answer) ∙ ap stepNumber q in
+        let z : refusalOf (g .book) (r .line) ≡ number why = sym (t .answer) ∙ ap stepNumber q in
         sym one-more ∙ ap (λ (x : ℕ). onward x n onto) z ∙ stops why n onto
 
-    pub inside : at + f .size ≤ length text
-    inside = fits text at h rest r f e
-
-    module _ (more : Filled) (q : s ≡ step.Taken more) where
-      taken : refusalOf (g .book) (f .line) ≡ 0
-      taken = sym (t .answer) ∙ ap stepNumber q
-
-      well : f .line ≡ line.IllFormed → ⊥
-      well = taken-well (g .book) (f .line) taken
-
-      pub some : 0 < f .size
-      some = next text at h rest r f e .some well
-
-      pub goes-on : Going text (at + f .size) (n + 1) more w′
-      unfolding onward unless onto
-      goes-on =
-          record {
-            book = withLine (g .book) (f .line);
-            numbers = numberedWith (g .numbers) n (f .line);
-            answer = rw (add-one n, ← then text at h rest r f e well) (rw taken at one-more);
-            kept = record {
-              holds = record { words = t .words ∙ rw taken; within = within-line (g .book) (f .line) (g .kept .holds .within) taken };
-              fills = subst (FillsThen (lastPlacements (withLine (g .book) (f .line) .messages))) q (t .fills);
-            };
-            within = inside;
-            numbered = omega (arith, g .numbered, some);
-          }
+    pub goes-on : (more : Filled) → s ≡ step.Taken more → Going text (r .next) (n + 1) more w′
+    unfolding onward unless onto
+    goes-on more q =
+        let taken : refusalOf (g .book) (r .line) ≡ 0 = sym (t .answer) ∙ ap stepNumber q in
+        record {
+          book = withLine (g .book) (r .line);
+          numbers = numberedWith (g .numbers) n (r .line);
+          answer = rw (add-one n) (rw taken at one-more);
+          kept = record {
+            holds = record { words = t .words ∙ rw taken; within = within-line (g .book) (r .line) (g .kept .holds .within) taken };
+            fills = subst (FillsThen (lastPlacements (withLine (g .book) (r .line) .messages))) q (t .fills);
+          };
+          within = read text at h r e .within;
+          numbered = omega (arith, g .numbered, read text at h r e .further);
+        }

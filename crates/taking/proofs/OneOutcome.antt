@@ -1,4 +1,5 @@
--- The contract of `take_lines` allows one outcome and no other: what came of the lines, with the words at exit. Assumes nothing.
+-- Each public function's contract allows one outcome and no other; that of `take_lines` is what came of the lines, with the words at
+-- exit. Assumes nothing.
 use mathlib.Core.Path.{refl}
 use mathlib.Core.List.{List}
 use Prim.Native.Nat.{ℕ}
@@ -12,12 +13,17 @@ use ghost.Atoms.{Atoms}
 use contract.Lifetimes.{Lfts}
 use contract.Monad.{Fun}
 use denote.Ref.{RefT, now, at-last}
-use Rattle.only.specs.Only.{Only}
+use denote.Triple.Clauses.{AtExit}
+use lib.ListN.{getD}
+use Rattle.only.specs.Only.{Only, only-this}
+use Rattle.reading.specs.Reading.{meanings}
+use Rattle.reading.specs.Taken.{rLinesFrom}
 use Rattle.taking.specs.declared.Lines.{Lines}
 use Rattle.taking.specs.Taking.{Came}
 use Rattle.taking.proofs.Once.{came-there, came-once}
 use Rattle.taking.proofs.Lines as the-lines
 use Rattle.taking.proofs.take_lines as take-lines
+use Rattle.taking.proofs.route_line as route-line
 
 module _ {M : Type 1} (𝓤 : URA M) (H : Heap 𝓤) (A : Atoms 𝓤) (mem : Memory → SProp 𝓤) (run : Routine → Fun 𝓤) (κs : Lfts 2) (text book : RefT (List ℕ)) where
   pub one-take-lines : Only 𝓤 (λ (x : Lines × List ℕ). take-lines.clauses 𝓤 H A mem run κs (text, (book, tt)) .ensures tt (x .0) (text, (at-last book (x .1), tt)))
@@ -31,3 +37,7 @@ module _ {M : Type 1} (𝓤 : URA M) (H : Heap 𝓤) (A : Atoms 𝓤) (mem : Mem
         there = here .1;
         alone = λ x c. let e = came-once (now text) (x .0) (here .0 .0) (x .1) (here .0 .1) c (here .1) in λ i. (e .0 i, e .1 i);
       }
+
+module _ {M : Type 1} (𝓤 : URA M) (H : Heap 𝓤) (A : Atoms 𝓤) (mem : Memory → SProp 𝓤) (run : Routine → Fun 𝓤) (κs : Lfts 1) (text : RefT (List ℕ)) where
+  pub one-route-line : (route : ℕ) (e : AtExit route-line.ended κs) → Only 𝓤 (λ r. route-line.clauses 𝓤 H A mem run κs (text, (route, tt)) .ensures tt r e)
+  one-route-line route e = only-this 𝓤 _ codedℕ (getD (rLinesFrom 1 (meanings (now text))) route 0) (λ r. refl)

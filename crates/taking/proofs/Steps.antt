@@ -1,7 +1,6 @@
 -- One line into the words: what `tables` answers is what the line is judged by. Assumes nothing.
 use mathlib.Core.Path.{_≡_, refl, sym, ap, _∙_, subst}
 use Prim.Native.Nat.{ℕ}
-use native.Mathlib.Omega.{arith}
 use mathlib.Core.List.{List}
 use Rattle.answers.specs.declared.Refusal.{Refusal}
 use Rattle.answers.specs.declared.Refusal.the-variants as refusal
@@ -15,9 +14,8 @@ use Rattle.reading.specs.Reading.{Outcome, refused, onward, refusalOf, withLine
 use Rattle.placing.specs.declared.Filled.{Filled}
 use Rattle.placing.specs.Filling.{Fills}
 use Rattle.tables.specs.declared.Added.{Added}
-use Rattle.tables.specs.declared.Placed.{Placed}
-use Rattle.tables.specs.Adding.{Within, Holds, unless, Judged, SignalJudged}
-use Rattle.tables.specs.Adding as adding
+use Rattle.tables.specs.declared.AddedSignal.{AddedSignal}
+use Rattle.tables.specs.Adding.{Within, Holds, addedNumber, unless, LineJudged, SignalJudged}
 use Rattle.tables.proofs.Room.{within-message, within-signal, within-route}
 use Rattle.tables.proofs.Kept.{fills-fresh}
 use Rattle.taking.specs.declared.Step.{Step}
@@ -29,8 +27,8 @@ told : (ps : List Placement) (r : Step) (f : Filled) → Carries f r → (stepNu
 told ps (step.Taken g) f e h = subst (Fills ps) (sym e) (h refl)
 told ps (step.Refused why) f e h = tt
 
-module _ (b : Book) {l : Line} {r : Step} {a : Added} {w : List ℕ} {f : Filled} (s : (stepNumber r ≡ adding.refusalOf a) × Carries f r) where
-  pub took-message : (i : ℕ) → l ≡ line.Message i → Judged (messageRefusal (b .messages) i) b (withMessage b i) a w → (f .bits ≡ 0) × (f .marks ≡ 0) → Took b l r w
+module _ (b : Book) {l : Line} {r : Step} {a : Added} {w : List ℕ} {f : Filled} (s : (stepNumber r ≡ addedNumber a) × Carries f r) where
+  pub took-message : (i : ℕ) → l ≡ line.Message i → LineJudged (messageRefusal (b .messages) i) b (withMessage b i) a w → (f .bits ≡ 0) × (f .marks ≡ 0) → Took b l r w
   unfolding refusalOf withLine
   took-message i e j z = rw e (record {
     answer = s .0 ∙ j .answer;
@@ -38,12 +36,12 @@ module _ (b : Book) {l : Line} {r : Step} {a : Added} {w : List ℕ} {f : Filled
     fills = told _ r f (s .1) (λ t. fills-fresh (b .messages) i f (z .0) (z .1));
   })
 
-  pub took-signal : (n t : ℕ) → l ≡ line.Signal n t → (placed : Placed) → a ≡ placed .added → f ≡ placed .filled
+  pub took-signal : (n t : ℕ) → l ≡ line.Signal n t → (placed : AddedSignal) → a ≡ placed .added → f ≡ placed .filled
       → SignalJudged b (placement n t) placed w → Took b l r w
   unfolding refusalOf withLine unless
   took-signal n t e placed ea ef k =
       let j = k .judged in
-      let answer = s .0 ∙ ap adding.refusalOf ea ∙ j .answer in
+      let answer = s .0 ∙ ap addedNumber ea ∙ j .answer in
       rw e (record {
         answer = answer;
         words = j .words;
@@ -51,7 +49,7 @@ module _ (b : Book) {l : Line} {r : Step} {a : Added} {w : List ℕ} {f : Filled
       })
 
   pub took-route : (x i y j : ℕ) → l ≡ line.Route x i y j
-      → Judged (routeRefusal (b .routes) x i y j) b (withRoute b (route x i y j)) a w → Fills (lastPlacements (b .messages)) f → Took b l r w
+      → LineJudged (routeRefusal (b .routes) x i y j) b (withRoute b (route x i y j)) a w → Fills (lastPlacements (b .messages)) f → Took b l r w
   unfolding refusalOf withLine
   took-route x i y j e k h = rw e (record { answer = s .0 ∙ k .answer; words = k .words; fills = told _ r f (s .1) (λ t. h) })
 
@@ -64,11 +62,7 @@ pub stops : (why : Refusal) (n : ℕ) (later : Outcome) → onward (number why) 
 unfolding onward
 stops why n later = rw (above-0 why .1)
 
--- a line that is taken is well formed, and the book with it is within the limits
-pub taken-well : (b : Book) (l : Line) → refusalOf b l ≡ 0 → l ≡ line.IllFormed → ⊥
-unfolding refusalOf
-taken-well b l e i = let z : _≡_ {A = ℕ} 2 0 = sym (ap (refusalOf b) i) ∙ e in omega arith
-
+-- the book with a line that is taken is within the limits
 pub within-line : (b : Book) (l : Line) → Within b → refusalOf b l ≡ 0 → Within (withLine b l)
 unfolding refusalOf withLine
 within-line b (line.Message i) h e = within-message b h i e

@@ -2,7 +2,7 @@
 use mathlib.Core.Path.{_≡_}
 use Prim.Native.Nat.{ℕ}
 use mathlib.Core.Bool.{Bool, true, false}
-use mathlib.Core.List.{List, [], _∷_}
+use mathlib.Core.List.{List}
 use Rattle.record.specs.Columns.{emptyBook}
 use Rattle.answers.specs.Numbers.{number}
 use Rattle.line.specs.declared.Line.{Line}
@@ -59,8 +59,3 @@ isRoute (line.Message i) = false
 isRoute (line.Signal n s) = false
 isRoute (line.Route a i b j) = true
 isRoute line.IllFormed = false
-
--- none of the lines is ill formed
-pub data Well : List Line → Type 0 where
-  none : Well []
-  more : {l : Line} {ls : List Line} → (l ≡ line.IllFormed → ⊥) → Well ls → Well (l ∷ ls)

@@ -1,9 +1,8 @@
 // The lines of a text, one after the other, into the lent words of a book: up to the first line that is refused. And the number of
-// the line that a route was read from. For the crate `book`; what a line adds is done by `tables`.
+// the line that a route was read from. For the crate `book`; each line is read by the line reader, and what it adds is done by `tables`.
 use answers::Refusal;
 use line::Line;
-use line::read_first;
-use parts::part_from;
+use line_reader::read_at;
 use placing::Filled;
 use placing::nothing;
 use record::BOOK_WORDS;
@@ -15,8 +14,8 @@ ghost use Rattle.record.specs.Limits.{textLimit};
 ghost use Rattle.books.specs.Book.{Book};
 ghost use Rattle.reading.specs.Reading.{meanings};
 ghost use Rattle.reading.specs.Taken.{rLinesFrom};
-ghost use Rattle.tables.specs.Adding.{refusalOf, OfKept, Kept};
-ghost use Rattle.taking.specs.Taking.{stepNumber, Carries, isRoute, Took, Empty, Came, Well};
+ghost use Rattle.tables.specs.Adding.{addedNumber, OfBookFilled, HoldsFilled};
+ghost use Rattle.taking.specs.Taking.{stepNumber, Carries, isRoute, Took, Empty, Came};
 
 // What came of one line: it was taken, with what the signals of the last message fill then, or refused.
 pub enum Step {
@@ -31,7 +30,7 @@ pub enum Lines {
 }
 
 fn step_of(added: Added, filled: Filled) -> Step
-    ensures { λ r. ⌜ (stepNumber r ≡ refusalOf added) × Carries filled r ⌝ }
+    ensures { λ r. ⌜ (stepNumber r ≡ addedNumber added) × Carries filled r ⌝ }
 {
     match added {
         Added::Taken => Step::Taken(filled),
@@ -41,8 +40,8 @@ fn step_of(added: Added, filled: Filled) -> Step
 
 // One line more: the words are then those of the book with the line, or stay where the line is refused.
 fn take_line(book: &mut [u32; BOOK_WORDS], filled: Filled, line: Line) -> Step
-    requires { ⌜ OfKept (now book) filled ⌝ }
-    ensures { λ r. ⌜ ((b : Book) → Kept (now (book .entry)) filled b → Took b line r (now (book .exit))) ⌝ }
+    requires { ⌜ OfBookFilled (now book) filled ⌝ }
+    ensures { λ r. ⌜ ((b : Book) → HoldsFilled (now (book .entry)) filled b → Took b line r (now (book .exit))) ⌝ }
 {
     match line {
         Line::Message(id) => step_of(tables::add_message(book, id), nothing()),
@@ -70,9 +69,9 @@ pub fn take_lines(text: &[u8], book: &mut [u32; BOOK_WORDS]) -> Lines
     let mut n: u32 = 1;
     let mut filled = nothing();
     while at < text.len() {
-        let first = read_first(part_from(text, at));
-        let size = first.size;
-        let line = first.line;
+        let read = read_at(text, at);
+        let next = read.next;
+        let line = read.line;
         match take_line(&mut *book, filled, line) {
             Step::Taken(more) => filled = more,
             Step::Refused(why) => {
@@ -80,7 +79,7 @@ pub fn take_lines(text: &[u8], book: &mut [u32; BOOK_WORDS]) -> Lines
                 return Lines::Refused(why, n);
             }
         }
-        at += size;
+        at = next;
         n += 1;
     }
     Lines::Passed
@@ -99,23 +98,23 @@ fn is_route(line: Line) -> bool
 
 // The number of the line that a route of the text stands on, routes counted from 0; 0 where there are not so many.
 pub fn route_line(text: &[u8], route: usize) -> u32
-    requires { ⌜ (length (now text) ≤ textLimit) × Well (meanings (now text)) ⌝ }
+    requires { ⌜ length (now text) ≤ textLimit ⌝ }
     ensures { λ r. ⌜ r ≡ getD (rLinesFrom 1 (meanings (now (text .entry)))) route 0 ⌝ }
 {
     let mut at: usize = 0;
     let mut n: u32 = 1;
     let mut left: usize = route;
     while at < text.len() {
-        let first = read_first(part_from(text, at));
-        let size = first.size;
-        let line = first.line;
+        let read = read_at(text, at);
+        let next = read.next;
+        let line = read.line;
         if is_route(line) {
             if left == 0 {
                 return n;
             }
             left -= 1;
         }
-        at += size;
+        at = next;
         n += 1;
     }
     0

@@ -10,7 +10,7 @@ use mathlib.Core.List.{List, _∷_}
 use lib.ListN.{length}
 use Rattle.chains.specs.Chain.{Walk, OnClosed, LoopFree, Doubling, BeginsDoubling, Single, IsSound}
 use Rattle.chains.proofs.Walks.{chain-walk}
-use Rattle.chains.specs.Tests.{First}
+use Rattle.chains.specs.Tests.{FirstPassing}
 use Rattle.chains.proofs.Loops.{comesBack, closed-back, back-closed, loop-free}
 use Rattle.chains.proofs.Tests.{first, begins, begins-is, is-begins}
 use Rattle.verdict.specs.Verdicts.{Lowest, Judged}
@@ -26,14 +26,14 @@ module _ (fs ts : List ℕ) where
       go (i, c′, e, w) = none i (w .0) (p, q, c′, d, record { one = w; other = two .other; different = λ z. two .different (e ∙ z) })
 
   -- what the first route that comes back tells
-  pub loop-found : (r : ℕ) → First (comesBack fs ts) (length fs) r → r < length fs → Judged fs ts (verdict.Loop r)
+  pub loop-found : (r : ℕ) → FirstPassing (comesBack fs ts) (length fs) r → r < length fs → Judged fs ts (verdict.Loop r)
   loop-found r f l = (back-closed fs ts r l (f .found l), λ k h o. true≢false (sym (closed-back fs ts k o .1) ∙ f .before k h))
 
-  pub no-loop : (r : ℕ) → First (comesBack fs ts) (length fs) r → length fs ≤ r → LoopFree fs ts
+  pub no-loop : (r : ℕ) → FirstPassing (comesBack fs ts) (length fs) r → length fs ≤ r → LoopFree fs ts
   no-loop r f l = loop-free fs ts (λ i h. f .before i (omega arith))
 
   -- what the first route tells that begins a doubling
-  module _ (free : LoopFree fs ts) (r : ℕ) (f : First (begins fs ts) (length fs) r) where
+  module _ (free : LoopFree fs ts) (r : ℕ) (f : FirstPassing (begins fs ts) (length fs) r) where
     pub doubling-found : r < length fs → Judged fs ts (verdict.Doubling r)
     doubling-found l = (free, (begins-is fs ts r l (f .found l), λ k h b. true≢false (sym (is-begins fs ts free k b) ∙ f .before k h)))
 
@@ -44,14 +44,14 @@ module _ (fs ts : List ℕ) where
   pub judged : (v : Verdict) × Judged fs ts v
   judged = go (first (comesBack fs ts) (length fs))
     where
-      last : LoopFree fs ts → (r : ℕ) × First (begins fs ts) (length fs) r → (v : Verdict) × Judged fs ts v
+      last : LoopFree fs ts → (r : ℕ) × FirstPassing (begins fs ts) (length fs) r → (v : Verdict) × Judged fs ts v
       last free (r, f) = at (decLe (length fs) r)
         where
           at : Dec (length fs ≤ r) → (v : Verdict) × Judged fs ts v
           at (yes l) = (verdict.Sound, no-doubling free r f l)
           at (no n) = (verdict.Doubling r, doubling-found free r f (omega arith))
 
-      go : (r : ℕ) × First (comesBack fs ts) (length fs) r → (v : Verdict) × Judged fs ts v
+      go : (r : ℕ) × FirstPassing (comesBack fs ts) (length fs) r → (v : Verdict) × Judged fs ts v
       go (r, f) = at (decLe (length fs) r)
         where
           at : Dec (length fs ≤ r) → (v : Verdict) × Judged fs ts v

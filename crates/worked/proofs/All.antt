@@ -7,7 +7,7 @@ use Rattle.rows.specs.Rows.{rows}
 use Rattle.catalogue.specs.Find.{rowOf}
 use Rattle.catalogue.specs.Class.{classOf, between}
 use Rattle.power.specs.Observed.{prechargeComplete}
-use Rattle.worked.specs.Table.{count, checksum, precharge, value, invalid, absent, outside, check, complete, answer, Worked, asks, identifier}
+use Rattle.worked.specs.Table.{count, checksum, precharge, value, invalid, absent, outside, check, complete, answer, Worked, asks, workedIdentifier}
 
 pub worked : List Worked
 worked =
@@ -22,8 +22,8 @@ worked =
     ∷ asks (count 1306 48) (value (pos 12000))
     ∷ asks (count 1306 49) outside
     ∷ asks (count 1705 2) invalid
-    ∷ asks (checksum identifier 0 0) (check 4)
-    ∷ asks (checksum identifier 255 15) (check 5)
+    ∷ asks (checksum workedIdentifier 0 0) (check 4)
+    ∷ asks (checksum workedIdentifier 255 15) (check 5)
     ∷ asks (precharge 6000 5700) (complete true)
     ∷ asks (precharge 6000 5699) (complete false)
     ∷ []

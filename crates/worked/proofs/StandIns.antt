@@ -5,7 +5,7 @@ use native.Mathlib.Omega.{arith}
 use Rattle.rows.specs.Rows.{rows}
 use Rattle.catalogue.specs.declared.Raw.{Raw}
 use Rattle.catalogue.specs.Find.{rowOf}
-use Rattle.catalogue.specs.Class.{classOf, refusalOf, between}
+use Rattle.catalogue.specs.Class.{classOf, classNumber, between}
 use Rattle.worked.specs.Kinds.{Kind, value, outside, kindOf}
 
 value-204 : kindOf (classOf 204 (record { 0 = 250 })) ≡ value
@@ -17,7 +17,7 @@ unfolding classOf rowOf rows between
 outside-204 = refl
 
 -- no class is that of every count that is not refused: 204 has 250 as a value and 251 outside
-pub one-class : (k : Kind) → ((n : ℕ) (raw : Raw) → refusalOf (classOf n raw) ≡ 0 → kindOf (classOf n raw) ≡ k) → ⊥
+pub one-class : (k : Kind) → ((n : ℕ) (raw : Raw) → classNumber (classOf n raw) ≡ 0 → kindOf (classOf n raw) ≡ k) → ⊥
 unfolding classOf rowOf rows between
 one-class k same =
     let e : value ≡ outside = sym value-204 ∙ same 204 (record { 0 = 250 }) refl ∙ sym (same 204 (record { 0 = 251 }) refl) ∙ outside-204 in

@@ -17,18 +17,18 @@ pub data Question : Type 0 where
   -- precharge, by the voltages inside and outside
   precharge : ℕ → ℕ → Question
 
-pub data Answer : Type 0 where
-  value : ℤ → Answer
-  invalid : Answer
-  absent : Answer
-  error : Answer
-  reserved : Answer
-  outside : Answer
-  refused : Answer
-  check : ℕ → Answer
-  complete : Bool → Answer
+pub data WorkedAnswer : Type 0 where
+  value : ℤ → WorkedAnswer
+  invalid : WorkedAnswer
+  absent : WorkedAnswer
+  error : WorkedAnswer
+  reserved : WorkedAnswer
+  outside : WorkedAnswer
+  refused : WorkedAnswer
+  check : ℕ → WorkedAnswer
+  complete : Bool → WorkedAnswer
 
-abbrev pub named : Class → Answer
+abbrev pub named : Class → WorkedAnswer
 named (class.Value t) = value (t .0)
 named (class.Invalid r) = invalid
 named (class.Absent r) = absent
@@ -41,18 +41,18 @@ named class.TooWide = refused
 abbrev pub frame : ℕ → ℕ → List ℕ
 frame byte last = byte ∷ byte ∷ byte ∷ byte ∷ byte ∷ byte ∷ byte ∷ last ∷ []
 
-abbrev pub answer : Question → Answer
+abbrev pub answer : Question → WorkedAnswer
 answer (count number raw) = named (classOf number (record { 0 = raw }))
 answer (checksum identifier byte last) = check (checksumOf identifier (frame byte last))
-answer (precharge volts beyond) = complete (prechargeComplete volts beyond)
+answer (precharge volts beyond) = complete (prechargeComplete (record { 0 = volts }) (record { 0 = beyond }))
 
 pub record Worked : Type 0 where
   pub asked : Question
-  pub given : Answer
+  pub given : WorkedAnswer
 
-abbrev pub asks : Question → Answer → Worked
+abbrev pub asks : Question → WorkedAnswer → Worked
 asks q a = record { asked = q; given = a }
 
 -- the identifier 18FFFAF3
-abbrev pub identifier : ℕ
-identifier = 419429107
+abbrev pub workedIdentifier : ℕ
+workedIdentifier = 419429107

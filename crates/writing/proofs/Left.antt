@@ -8,7 +8,7 @@ use lib.ListN.{length, set, length-set}
 use lib.Seq.{sets}
 use Rattle.numerals.specs.Written.{digitByte, digitsOf}
 use Rattle.numerals.proofs.Digits.{length-digits}
-use Rattle.writing.specs.Room.{Room}
+use Rattle.writing.specs.DigitRoom.{DigitRoom}
 use Rattle.writing.proofs.Lowest.{digits-lowest, sets-last}
 
 -- j digits of m are left to write at a place of out
@@ -18,7 +18,7 @@ pub record Left (old : List ℕ) (at k n base : ℕ) (out : List ℕ) (j m : ℕ
   pub fewer : j ≤ k
   pub size : length out ≡ length old
 
-pub all-left : (old : List ℕ) (at k n base : ℕ) → Room old at k n base → Left old at k n base old k n
+pub all-left : (old : List ℕ) (at k n base : ℕ) → DigitRoom old at k n base → Left old at k n base old k n
 all-left old at k n base r = record { rest = refl; holds = r .holds; fewer = omega arith; size = refl }
 
 module _ {old : List ℕ} {at k n base : ℕ} {out : List ℕ} where

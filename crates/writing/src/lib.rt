@@ -7,7 +7,7 @@ ghost use lib.ListN.{length};
 ghost use lib.Seq.{sets};
 ghost use Rattle.numerals.specs.Numeral.{identifierDigits};
 ghost use Rattle.numerals.specs.Written.{digitByte, digitsOf, identifierText};
-ghost use Rattle.writing.specs.Room.{Room};
+ghost use Rattle.writing.specs.DigitRoom.{DigitRoom};
 
 fn digit_byte(d: u64) -> u8
     requires { ⌜ d < 16 ⌝ }
@@ -21,7 +21,7 @@ fn digit_byte(d: u64) -> u8
 
 // k digits of n in a base, at a place of out; the lowest is written first.
 pub fn put_digits(out: &mut [u8], at: usize, k: usize, n: u64, base: u64)
-    requires { ⌜ Room (now out) at k n base ⌝ }
+    requires { ⌜ DigitRoom (now out) at k n base ⌝ }
     ensures { λ r. ⌜ now (out .exit) ≡ sets (now (out .entry)) at (digitsOf base k n) ⌝ }
 {
     let mut j: usize = k;

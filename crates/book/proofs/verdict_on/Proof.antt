@@ -5,14 +5,6 @@ use Rattle.book.proofs.Routes.{count-few, on-routes}
 use borrow.Author.Needs.{needs}
 use Rattle.book.proofs.verdict_on.Statement.{statement}
 use Rattle.book.proofs.verdict_on.Tie as tie
-use Rattle.book.proofs.verdict_on.Reads as reads
-use Rattle.book.proofs.verdict_on.Lts as lts
-use Rattle.record.proofs.wide.Reads as wide-reads
-use Rattle.record.proofs.first.Reads as first-reads
-use Rattle.record.proofs.froms.Reads as froms-reads
-use Rattle.record.proofs.route_count.Reads as route-count-reads
-use Rattle.record.proofs.tos.Reads as tos-reads
-use Rattle.verdict.proofs.judge.Reads as judge-reads
 
 route-count-requires : tie.Need-route-count-requires
 route-count-requires c κs = search needs

@@ -10,13 +10,13 @@ use lib.ListN.{length, take, drop, getD}
 use lib.Seq.{length-take-le}
 use Rattle.books.specs.Lines.{isIn}
 use Rattle.columns.specs.Identifiers.{distinctAfter}
-use Rattle.columns.specs.Slots.{slotCount}
+use Rattle.columns.specs.Slots.{identifierSlots}
 use Rattle.columns.proofs.Slots.{Used, unused, used-more, distinct-end, distinct-over, distinct-again, distinct-next}
 use Rattle.columns.proofs.distinct.Statement.{statement}
 use Rattle.columns.proofs.distinct.Tie as tie
 
 abbrev Inv-loop : tie.InvT-loop
-Inv-loop ids used₀ at₀ used at = (length used ≡ slotCount) × (distinctAfter (take at ids) (drop at ids) ≡ distinctAfter [] ids) × Used ids used at
+Inv-loop ids used₀ at₀ used at = (length used ≡ identifierSlots) × (distinctAfter (take at ids) (drop at ids) ≡ distinctAfter [] ids) × Used ids used at
 
 abbrev μ-loop : tie.MeasureT-loop
 μ-loop ids used₀ at₀ used at = length ids - at

@@ -3,15 +3,15 @@ use Prim.Native.Nat.{_+_, _-_, _≤_}
 use mathlib.Core.Path.{_≡_, refl}
 use mathlib.Core.Bool.{_&&_}
 use borrow.Author.Needs.{needs}
-use Rattle.faults.specs.Rows.{rows}
-use Rattle.faults.specs.Counts.{below, allOf}
+use Rattle.faults.specs.Rows.{rowsBetween}
+use Rattle.faults.specs.Counts.{rawBelow, allOf}
 use Rattle.faults.proofs.Loops.{all-next, all-end}
 use Rattle.faults.proofs.all_below.Statement.{statement}
 use Rattle.faults.proofs.all_below.Tie as tie
 
 abbrev Inv-loop : tie.InvT-loop
 Inv-loop counts from to limit all₀ row₀ all row =
-    (from ≤ row) × (all && allOf (below counts limit) (rows row to) ≡ allOf (below counts limit) (rows from to))
+    (from ≤ row) × (all && allOf (rawBelow counts limit) (rowsBetween row to) ≡ allOf (rawBelow counts limit) (rowsBetween from to))
 
 abbrev μ-loop : tie.MeasureT-loop
 μ-loop counts from to limit all₀ row₀ all row = to + 1 - row
@@ -19,8 +19,8 @@ abbrev μ-loop : tie.MeasureT-loop
 loop-holds : tie.Need-loop-holds Inv-loop μ-loop
 loop-holds c = (search needs, refl)
 
-count-at-requires : tie.Need-count-at-requires Inv-loop μ-loop
-count-at-requires c κs = search needs
+is-below-requires : tie.Need-is-below-requires Inv-loop μ-loop
+is-below-requires c κs = search needs
 
 add-row : tie.Need-add-row Inv-loop μ-loop
 add-row c = search needs
@@ -31,14 +31,14 @@ loop-less c = search needs
 loop-again : tie.Need-loop-again Inv-loop μ-loop
 loop-again c = (
   search needs,
-  all-next _ _ (search needs) (below (c .before .before .before .before .args .counts .now) (c .before .before .before .before .args .limit)) (c .before .before .loop .all) _ _
-      (c .before .before .loop .inv .1) (simp (c .count-at .ensures)),
+  all-next _ _ (search needs) (rawBelow (c .before .before .before .before .args .counts .now) (c .before .before .before .before .args .limit)) (c .before .before .loop .all) _ _
+      (c .before .before .loop .inv .1) (c .is-below .ensures),
 )
 
 returns : tie.Need-returns Inv-loop μ-loop
-returns c = all-end _ _ (search needs) (below (c .before .before .before .args .counts .now) (c .before .before .before .args .limit)) _ _ (c .before .loop .inv .1)
+returns c = all-end _ _ (search needs) (rawBelow (c .before .before .before .args .counts .now) (c .before .before .before .args .limit)) _ _ (c .before .loop .inv .1)
 
 pub all-below-spec : {M : Type 1} → statement M
 all-below-spec =
     tie.close
-    (tie.spec Inv-loop μ-loop loop-holds count-at-requires add-row loop-less loop-again returns)
+    (tie.spec Inv-loop μ-loop loop-holds is-below-requires add-row loop-less loop-again returns)

@@ -2,15 +2,15 @@
 use Prim.Native.Nat.{_+_, _-_, _≤_, max}
 use mathlib.Core.Path.{_≡_}
 use borrow.Author.Needs.{needs}
-use Rattle.faults.specs.Rows.{rows}
-use Rattle.faults.specs.Counts.{at, highestOf}
+use Rattle.faults.specs.Rows.{rowsBetween}
+use Rattle.faults.specs.Counts.{levelOf, highestOf}
 use Rattle.faults.proofs.Loops.{highest-next, highest-end}
 use Rattle.faults.proofs.highest_of.Statement.{statement}
 use Rattle.faults.proofs.highest_of.Tie as tie
 
 abbrev Inv-loop : tie.InvT-loop
 Inv-loop counts from to highest₀ row₀ highest row =
-    (from ≤ row) × (max highest (highestOf (at counts) (rows row to)) ≡ highestOf (at counts) (rows from to))
+    (from ≤ row) × (max highest (highestOf (levelOf counts) (rowsBetween row to)) ≡ highestOf (levelOf counts) (rowsBetween from to))
 
 abbrev μ-loop : tie.MeasureT-loop
 μ-loop counts from to highest₀ row₀ highest row = to + 1 - row
@@ -18,8 +18,8 @@ abbrev μ-loop : tie.MeasureT-loop
 loop-holds : tie.Need-loop-holds Inv-loop μ-loop
 loop-holds c = search needs
 
-count-at-requires : tie.Need-count-at-requires Inv-loop μ-loop
-count-at-requires c κs = search needs
+level-of-requires : tie.Need-level-of-requires Inv-loop μ-loop
+level-of-requires c κs = search needs
 
 greater-requires : tie.Need-greater-requires Inv-loop μ-loop
 greater-requires c κs = search needs
@@ -32,10 +32,10 @@ loop-less c = search needs
 
 loop-again : tie.Need-loop-again Inv-loop μ-loop
 loop-again c =
-    (search needs, highest-next _ _ (search needs) (at (c .before .before .before .before .before .args .counts .now)) _ _ _ _ (c .before .before .before .loop .inv .1) (c .before .count-at .ensures) (c .greater .ensures))
+    (search needs, highest-next _ _ (search needs) (levelOf (c .before .before .before .before .before .args .counts .now)) _ _ _ _ (c .before .before .before .loop .inv .1) (c .before .level-of .ensures) (c .greater .ensures))
 
 returns : tie.Need-returns Inv-loop μ-loop
-returns c = highest-end _ _ (search needs) (at (c .before .before .before .args .counts .now)) _ _ (c .before .loop .inv .1)
+returns c = highest-end _ _ (search needs) (levelOf (c .before .before .before .args .counts .now)) _ _ (c .before .loop .inv .1)
 
 pub highest-of-spec : {M : Type 1} → statement M
 highest-of-spec =
@@ -44,7 +44,7 @@ highest-of-spec =
     Inv-loop
     μ-loop
     loop-holds
-    count-at-requires
+    level-of-requires
     greater-requires
     add-row
     loop-less

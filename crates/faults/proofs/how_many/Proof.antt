@@ -2,7 +2,7 @@
 use Prim.Native.Nat.{_+_, _-_, _≤_}
 use mathlib.Core.Path.{_≡_, _∙_}
 use borrow.Author.Needs.{needs}
-use Rattle.faults.specs.Rows.{rowCount, rows}
+use Rattle.faults.specs.Rows.{rowCount, rowsBetween}
 use Rattle.faults.specs.Counts.{standsAt, howMany}
 use Rattle.faults.proofs.Loops.{many-next, many-end}
 use Rattle.faults.proofs.how_many.Statement.{statement}
@@ -10,7 +10,7 @@ use Rattle.faults.proofs.how_many.Tie as tie
 
 abbrev Inv-loop : tie.InvT-loop
 Inv-loop counts from to wanted n₀ row₀ n row =
-    ((from ≤ row) × ((n ≤ row - from) × (n ≤ rowCount))) × (n + howMany (standsAt counts wanted) (rows row to) ≡ howMany (standsAt counts wanted) (rows from to))
+    ((from ≤ row) × ((n ≤ row - from) × (n ≤ rowCount))) × (n + howMany (standsAt counts wanted) (rowsBetween row to) ≡ howMany (standsAt counts wanted) (rowsBetween from to))
 
 abbrev μ-loop : tie.MeasureT-loop
 μ-loop counts from to wanted n₀ row₀ n row = to + 1 - row
@@ -18,8 +18,8 @@ abbrev μ-loop : tie.MeasureT-loop
 loop-holds : tie.Need-loop-holds Inv-loop μ-loop
 loop-holds c = search needs
 
-count-at-requires : tie.Need-count-at-requires Inv-loop μ-loop
-count-at-requires c κs = search needs
+stands-at-requires : tie.Need-stands-at-requires Inv-loop μ-loop
+stands-at-requires c κs = search needs
 
 one-if-requires : tie.Need-one-if-requires Inv-loop μ-loop
 one-if-requires c κs = search needs
@@ -37,7 +37,7 @@ loop-again : tie.Need-loop-again Inv-loop μ-loop
 loop-again c = (
   search needs,
   many-next _ _ (search needs) (standsAt (c .before .before .before .before .before .args .counts .now) (c .before .before .before .before .before .args .wanted)) _ _ _
-      (c .before .before .before .loop .inv .1) (c .one-if .ensures .0 ∙ simp (c .before .count-at .ensures)),
+      (c .before .before .before .loop .inv .1) (c .one-if .ensures .0 ∙ simp (c .before .stands-at .ensures)),
 )
 
 returns : tie.Need-returns Inv-loop μ-loop
@@ -51,7 +51,7 @@ how-many-spec =
     Inv-loop
     μ-loop
     loop-holds
-    count-at-requires
+    stands-at-requires
     one-if-requires
     add-n
     add-row

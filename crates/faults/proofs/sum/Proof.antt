@@ -16,7 +16,7 @@ returns-2 c = simp (eq-eqb _ _ (c .before .before .if1 .left), ← c .before .al
 returns-3 : tie.Need-returns-3
 unfolding answerTo
 returns-3 c =
-    simp (eq-eqb _ _ (c .before .before .before .before .before .before .before .before .before .if1 .left), ← c .before .before .before .before .before .before .before .before .all-fit .ensures, not-false (c .before .before .before .before .before .before .before .before .all-fit .result) (c .before .before .before .before .before .before .before .if2 .left), c .count-at .ensures, c .before .is-emergency .ensures, c .before .before .one-bit-faults .ensures, c .before .before .before .levels-at3 .ensures, c .before .before .before .before .levels-at2 .ensures, c .before .before .before .before .before .levels-at .ensures, c .before .before .before .before .before .before .highest-level .ensures)
+    simp (eq-eqb _ _ (c .before .before .before .before .before .before .before .before .before .if1 .left), ← c .before .before .before .before .before .before .before .before .all-fit .ensures, not-false (c .before .before .before .before .before .before .before .before .all-fit .result) (c .before .before .before .before .before .before .before .if2 .left), c .stands-at .ensures, c .before .is-emergency .ensures, c .before .before .one-bit-faults .ensures, c .before .before .before .levels-at3 .ensures, c .before .before .before .before .levels-at2 .ensures, c .before .before .before .before .before .levels-at .ensures, c .before .before .before .before .before .before .highest-level .ensures)
 
 pub sum-spec : {M : Type 1} → statement M
 sum-spec =

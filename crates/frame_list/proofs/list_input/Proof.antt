@@ -7,7 +7,7 @@ use Rattle.frame_list.proofs.list_input.Statement.{statement}
 use Rattle.frame_list.proofs.list_input.Tie as tie
 use Rattle.frame_list.proofs.list_input.Reads as reads
 use Rattle.frame_list.proofs.list_input.Lts as lts
-use Rattle.frame_list.proofs.input.step.Reads as step-reads
+use Rattle.frame_list.proofs.input.read_and_list.Reads as read-and-list-reads
 
 abbrev Inv-loop : tie.InvT-loop
 Inv-loop book input₀ out₀ held₀ turns₀ input out held turns = (length input ≡ length input₀) × (length out ≡ length out₀)
@@ -18,8 +18,8 @@ abbrev μ-loop : tie.MeasureT-loop
 loop-holds : tie.Need-loop-holds Inv-loop μ-loop
 loop-holds c = (refl, refl)
 
-step-requires : tie.Need-step-requires Inv-loop μ-loop
-step-requires c κs = search needs
+read-and-list-requires : tie.Need-read-and-list-requires Inv-loop μ-loop
+read-and-list-requires c κs = search needs
 
 same-length : tie.Need-same-length Inv-loop μ-loop
 same-length c = omega arith
@@ -55,7 +55,7 @@ list-input-spec =
     Inv-loop
     μ-loop
     loop-holds
-    step-requires
+    read-and-list-requires
     same-length
     same-length-2
     returns

@@ -1,27 +1,32 @@
--- `placing::well_placed` meets its contract: the answer for the signals from `at` on is the answer for all, and those before it fill what is held. Assumes nothing.
-use Rattle.placing.proofs.Signals.{Passed, begin, end, marks-before, refuse-alone, refuse-meeting, refuse-again, next}
+-- `placing::well_placed` meets its contract: the answer for the signals from `at` on is the answer for all, those before it fill what is held and their places have the stamp. Assumes nothing.
 use mathlib.Core.Path.{sym, _∙_}
 use Prim.Native.Nat.{_-_}
 use native.Mathlib.Omega.{arith}
 use borrow.Author.Needs.{needs}
 use borrow.Author.Tests.{not-true, not-false}
 use lib.ListN.{length}
-use lib.Seq.{length-take-le}
+use Rattle.catalogue.proofs.Placed.{at-place, nowhere, in-widths, its-bits, has-some}
 use Rattle.placing.proofs.Placing.{alone-room}
+use Rattle.placing.proofs.Signals.{Passed, begin, end, refuse-unknown, refuse-alone, refuse-meeting, refuse-again, next}
 use Rattle.placing.proofs.well_placed.Statement.{statement}
 use Rattle.placing.proofs.well_placed.Tie as tie
+use Rattle.placing.proofs.well_placed.Reads as reads
+use Rattle.placing.proofs.well_placed.Lts as lts
+use Rattle.catalogue.proofs.place_of.Reads as place-of-reads
+use Rattle.masks.proofs.either.Reads as either-reads
+use Rattle.masks.proofs.meet.Reads as meet-reads
+use Rattle.placing.proofs.run.Reads as run-reads
+use Rattle.placing.proofs.stands_alone.Reads as stands-alone-reads
+use Rattle.placing.proofs.wide.Reads as wide-reads
 
 abbrev Inv-loop : tie.InvT-loop
-Inv-loop numbers starts filled₀ at₀ filled at = Passed numbers starts filled at
+Inv-loop numbers starts above ends widths stamps₀ stamp filled₀ at₀ stamps filled at = Passed numbers starts stamps₀ filled stamps stamp at
 
 abbrev μ-loop : tie.MeasureT-loop
-μ-loop numbers starts filled₀ at₀ filled at = length numbers - at
-
-nothing-requires : tie.Need-nothing-requires Inv-loop μ-loop
-nothing-requires c κs = search needs
+μ-loop numbers starts above ends widths stamps₀ stamp filled₀ at₀ stamps filled at = length numbers - at
 
 loop-holds : tie.Need-loop-holds Inv-loop μ-loop
-loop-holds c = begin _ _ _ (c .nothing .ensures .0) (c .nothing .ensures .1)
+loop-holds c = begin _ _ _ _ (c .before .before .before .before .before .before .pre .2)
 
 mul-number : tie.Need-mul-number Inv-loop μ-loop
 mul-number c = search needs
@@ -30,40 +35,67 @@ shared-slice-read-number : tie.Need-shared-slice-read-number Inv-loop μ-loop
 shared-slice-read-number c = search needs
 
 mul-start : tie.Need-mul-start Inv-loop μ-loop
-mul-start c = omega arith
+mul-start c = omega (arith, c .before .before .before .before .before .before .before .before .before .pre .0)
 
 shared-slice-read-start : tie.Need-shared-slice-read-start Inv-loop μ-loop
-shared-slice-read-start c = omega arith
+shared-slice-read-start c = omega (arith, c .before .before .before .before .before .before .before .before .before .before .pre .0)
 
-bits-of-requires : tie.Need-bits-of-requires Inv-loop μ-loop
-bits-of-requires c κs = search needs
+place-of-requires : tie.Need-place-of-requires Inv-loop μ-loop
+place-of-requires c κs = c .before .before .before .before .before .before .before .before .before .before .pre .1 .places
 
-stands-alone-requires : tie.Need-stands-alone-requires Inv-loop μ-loop
-stands-alone-requires c κs = search needs
+enum-known-place : tie.Need-enum-known-place Inv-loop μ-loop
+enum-known-place c = search needs
+
+enum-told : tie.Need-enum-told Inv-loop μ-loop
+enum-told c = search needs
+
+same-length : tie.Need-same-length Inv-loop μ-loop
+same-length c = simp (c .before .before .before .before .before .before .loop .inv .below .each, c .before .before .before .before .before .before .before .before .before .before .before .before .before .pre .2 .each)
 
 returns : tie.Need-returns Inv-loop μ-loop
-returns c = refuse-alone _ _ _ _ (c .before .before .before .before .before .before .before .before .before .before .pre) (c .before .before .before .before .before .before .loop .inv) (c .before .before .before .before .before .loop-test .taken) (sym (c .before .stands-alone .ensures) ∙ not-true _ (c .if1 .taken))
+returns c = refuse-unknown _ _ _ _ _ _ _ (c .before .before .before .before .before .before .before .before .before .before .before .before .before .pre .0) (c .before .before .before .before .before .before .loop .inv) (c .before .before .before .before .before .loop-test .taken) (nowhere _ _ (c .before .before .place-of .ensures) (c .enum-told .given .1))
+
+shared-slice-read-wide : tie.Need-shared-slice-read-wide Inv-loop μ-loop
+shared-slice-read-wide c = in-widths _ _ _ (c .before .before .before .before .before .before .before .before .before .before .before .before .before .before .before .pre .1 .bits) (at-place _ _ _ (c .before .before .before .before .place-of .ensures) (c .before .before .place .given .1))
+
+wide-requires : tie.Need-wide-requires Inv-loop μ-loop
+wide-requires c κs = search needs
+
+stands-alone-requires : tie.Need-stands-alone-requires Inv-loop μ-loop
+stands-alone-requires c κs = (has-some _ _ _ (c .before .before .before .before .before .before .before .before .before .before .before .before .before .before .before .before .pre .1 .bits) (at-place _ _ _ (c .before .before .before .before .before .place-of .ensures) (c .before .before .before .place .given .1)) _ (c .wide .ensures), (its-bits _ _ _ (c .before .before .before .before .before .before .before .before .before .before .before .before .before .before .before .before .pre .1 .bits) (at-place _ _ _ (c .before .before .before .before .before .place-of .ensures) (c .before .before .before .place .given .1)) _ (c .wide .ensures)))
+
+same-length-2 : tie.Need-same-length-2 Inv-loop μ-loop
+same-length-2 c = simp (c .before .before .before .before .before .before .before .before .before .before .before .loop .inv .below .each, c .before .before .before .before .before .before .before .before .before .before .before .before .before .before .before .before .before .before .pre .2 .each)
+
+returns-2 : tie.Need-returns-2 Inv-loop μ-loop
+returns-2 c = refuse-alone _ _ _ _ _ _ _ (c .before .before .before .before .before .before .before .before .before .before .before .before .before .before .before .before .before .before .pre .0) (c .before .before .before .before .before .before .before .before .before .before .before .loop .inv) (c .before .before .before .before .before .before .before .before .before .before .loop-test .taken) (sym (c .before .stands-alone .ensures) ∙ not-true _ (c .if1 .taken))
 
 run-requires : tie.Need-run-requires Inv-loop μ-loop
-run-requires c κs = alone-room _ _ _ (c .before .before .bits-of .ensures) (sym (c .before .stands-alone .ensures) ∙ not-false _ (c .if1 .left))
+run-requires c κs = alone-room _ _ _ (its-bits _ _ _ (c .before .before .before .before .before .before .before .before .before .before .before .before .before .before .before .before .before .before .pre .1 .bits) (at-place _ _ _ (c .before .before .before .before .before .before .before .place-of .ensures) (c .before .before .before .before .before .place .given .1)) _ (c .before .before .wide .ensures)) (sym (c .before .stands-alone .ensures) ∙ not-false _ (c .if1 .left))
 
 meet-requires : tie.Need-meet-requires Inv-loop μ-loop
 meet-requires c κs = search needs
 
-returns-2 : tie.Need-returns-2 Inv-loop μ-loop
-returns-2 c = refuse-meeting _ _ _ _ (c .before .before .before .before .before .before .before .before .before .before .before .before .before .pre) (c .before .before .before .before .before .before .before .before .before .loop .inv) (c .before .before .before .before .before .before .before .before .loop-test .taken) (sym (c .before .before .before .before .stands-alone .ensures) ∙ not-false _ (c .before .before .before .if1 .left)) _ (c .before .before .run .result) (c .before .before .before .before .before .bits-of .ensures) (c .before .before .run .ensures) (sym (c .before .meet .ensures) ∙ c .if2 .taken)
-
-slice-aggregate-is-repeated : tie.Need-slice-aggregate-is-repeated Inv-loop μ-loop
-slice-aggregate-is-repeated c = sym (length-take-le _ _ (omega arith))
-
-is-repeated-requires : tie.Need-is-repeated-requires Inv-loop μ-loop
-is-repeated-requires c κs = marks-before _ _ _ _ (c .before .before .before .before .before .before .before .before .before .before .before .before .before .before .pre) (c .before .before .before .before .before .before .before .before .before .before .loop .inv) (c .before .before .before .before .before .before .before .before .before .loop-test .taken)
+same-length-3 : tie.Need-same-length-3 Inv-loop μ-loop
+same-length-3 c = simp (c .before .before .before .before .before .before .before .before .before .before .before .before .before .before .loop .inv .below .each, c .before .before .before .before .before .before .before .before .before .before .before .before .before .before .before .before .before .before .before .before .before .pre .2 .each)
 
 returns-3 : tie.Need-returns-3 Inv-loop μ-loop
-returns-3 c = refuse-again _ _ _ _ (c .before .before .before .before .before .before .before .before .before .before .before .before .before .before .before .before .pre) (c .before .before .before .before .before .before .before .before .before .before .before .before .loop .inv) (c .before .before .before .before .before .before .before .before .before .before .before .loop-test .taken) (sym (c .before .before .before .before .before .before .before .stands-alone .ensures) ∙ not-false _ (c .before .before .before .before .before .before .if1 .left)) _ (c .before .before .before .before .before .run .result) (c .before .before .before .before .before .before .before .before .bits-of .ensures) (c .before .before .before .before .before .run .ensures) (sym (c .before .is-repeated .ensures) ∙ c .if3 .taken)
+returns-3 c = refuse-meeting _ _ _ _ _ _ _ (c .before .before .before .before .before .before .before .before .before .before .before .before .before .before .before .before .before .before .before .before .before .pre .0) (c .before .before .before .before .before .before .before .before .before .before .before .before .before .before .loop .inv) (c .before .before .before .before .before .before .before .before .before .before .before .before .before .loop-test .taken) _ (at-place _ _ _ (c .before .before .before .before .before .before .before .before .before .before .place-of .ensures) (c .before .before .before .before .before .before .before .before .place .given .1)) (sym (c .before .before .before .before .stands-alone .ensures) ∙ not-false _ (c .before .before .before .if1 .left)) _ (c .before .before .run .result) (its-bits _ _ _ (c .before .before .before .before .before .before .before .before .before .before .before .before .before .before .before .before .before .before .before .before .before .pre .1 .bits) (at-place _ _ _ (c .before .before .before .before .before .before .before .before .before .before .place-of .ensures) (c .before .before .before .before .before .before .before .before .place .given .1)) _ (c .before .before .before .before .before .wide .ensures)) (c .before .before .run .ensures) (sym (c .before .meet .ensures) ∙ c .if2 .taken)
 
-filled-with-requires : tie.Need-filled-with-requires Inv-loop μ-loop
-filled-with-requires c κs = alone-room _ _ _ (c .before .before .before .before .before .before .before .before .bits-of .ensures) (sym (c .before .before .before .before .before .before .before .stands-alone .ensures) ∙ not-false _ (c .before .before .before .before .before .before .if1 .left))
+slice-read-if3 : tie.Need-slice-read-if3 Inv-loop μ-loop
+slice-read-if3 c = omega (arith, c .before .before .before .before .before .before .before .before .before .before .before .before .before .before .before .loop .inv .below .each, (at-place _ _ _ (c .before .before .before .before .before .before .before .before .before .before .before .place-of .ensures) (c .before .before .before .before .before .before .before .before .before .place .given .1)) .1)
+
+same-length-4 : tie.Need-same-length-4 Inv-loop μ-loop
+same-length-4 c = simp (c .before .before .before .before .before .before .before .before .before .before .before .before .before .before .before .before .loop .inv .below .each, c .before .before .before .before .before .before .before .before .before .before .before .before .before .before .before .before .before .before .before .before .before .before .before .pre .2 .each)
+
+returns-4 : tie.Need-returns-4 Inv-loop μ-loop
+returns-4 c = refuse-again _ _ _ _ _ _ _ (c .before .before .before .before .before .before .before .before .before .before .before .before .before .before .before .before .before .before .before .before .before .before .before .pre .0) (c .before .before .before .before .before .before .before .before .before .before .before .before .before .before .before .before .loop .inv) (c .before .before .before .before .before .before .before .before .before .before .before .before .before .before .before .loop-test .taken) _ (at-place _ _ _ (c .before .before .before .before .before .before .before .before .before .before .before .before .place-of .ensures) (c .before .before .before .before .before .before .before .before .before .before .place .given .1)) (c .if3 .taken)
+
+slice-write-stamps : tie.Need-slice-write-stamps Inv-loop μ-loop
+slice-write-stamps c = omega (arith, c .before .before .before .before .before .before .before .before .before .before .before .before .before .before .before .before .loop .inv .below .each, (at-place _ _ _ (c .before .before .before .before .before .before .before .before .before .before .before .before .place-of .ensures) (c .before .before .before .before .before .before .before .before .before .before .place .given .1)) .1)
+
+either-requires : tie.Need-either-requires Inv-loop μ-loop
+either-requires c κs = search needs
 
 add-at : tie.Need-add-at Inv-loop μ-loop
 add-at c = omega arith
@@ -72,10 +104,13 @@ loop-less : tie.Need-loop-less Inv-loop μ-loop
 loop-less c = omega arith
 
 loop-again : tie.Need-loop-again Inv-loop μ-loop
-loop-again c = next _ _ _ _ (c .before .before .before .before .before .before .before .before .before .before .before .before .before .before .before .before .before .pre) (c .before .before .before .before .before .before .before .before .before .before .before .before .before .loop .inv) (c .before .before .before .before .before .before .before .before .before .before .before .before .loop-test .taken) (sym (c .before .before .before .before .before .before .before .before .stands-alone .ensures) ∙ not-false _ (c .before .before .before .before .before .before .before .if1 .left)) _ (c .before .before .before .before .before .before .run .result) (c .before .before .before .before .before .before .before .before .before .bits-of .ensures) (c .before .before .before .before .before .before .run .ensures) (sym (c .before .before .before .before .before .meet .ensures) ∙ c .before .before .before .before .if2 .left) (sym (c .before .before .is-repeated .ensures) ∙ c .before .if3 .left) _ (c .filled-with .ensures)
+loop-again c = next _ _ _ _ _ _ _ (c .before .before .before .before .before .before .before .before .before .before .before .before .before .before .before .before .before .before .before .before .before .before .before .before .pre .0) (c .before .before .before .before .before .before .before .before .before .before .before .before .before .before .before .before .before .loop .inv) (c .before .before .before .before .before .before .before .before .before .before .before .before .before .before .before .before .loop-test .taken) _ (at-place _ _ _ (c .before .before .before .before .before .before .before .before .before .before .before .before .before .place-of .ensures) (c .before .before .before .before .before .before .before .before .before .before .before .place .given .1)) (sym (c .before .before .before .before .before .before .before .stands-alone .ensures) ∙ not-false _ (c .before .before .before .before .before .before .if1 .left)) _ (c .before .before .before .before .before .run .result) (its-bits _ _ _ (c .before .before .before .before .before .before .before .before .before .before .before .before .before .before .before .before .before .before .before .before .before .before .before .before .pre .1 .bits) (at-place _ _ _ (c .before .before .before .before .before .before .before .before .before .before .before .before .before .place-of .ensures) (c .before .before .before .before .before .before .before .before .before .before .before .place .given .1)) _ (c .before .before .before .before .before .before .before .before .wide .ensures)) (c .before .before .before .before .before .run .ensures) (sym (c .before .before .before .before .meet .ensures) ∙ c .before .before .before .if2 .left) (c .before .if3 .left) _ (c .either .ensures)
 
-returns-4 : tie.Need-returns-4 Inv-loop μ-loop
-returns-4 c = end _ _ _ _ (c .before .before .before .before .before .pre) (c .before .loop .inv) (c .loop-test .left)
+same-length-5 : tie.Need-same-length-5 Inv-loop μ-loop
+same-length-5 c = simp (c .before .loop .inv .below .each, c .before .before .before .before .before .before .before .before .pre .2 .each)
+
+returns-5 : tie.Need-returns-5 Inv-loop μ-loop
+returns-5 c = end _ _ _ _ _ _ _ (c .before .before .before .before .before .before .before .before .pre .0) (c .before .loop .inv) (c .loop-test .left)
 
 pub well-placed-spec : {M : Type 1} → statement M
 well-placed-spec =
@@ -83,23 +118,32 @@ well-placed-spec =
     (tie.spec
     Inv-loop
     μ-loop
-    nothing-requires
     loop-holds
     mul-number
     shared-slice-read-number
     mul-start
     shared-slice-read-start
-    bits-of-requires
-    stands-alone-requires
+    place-of-requires
+    enum-known-place
+    enum-told
+    same-length
     returns
+    shared-slice-read-wide
+    wide-requires
+    stands-alone-requires
+    same-length-2
+    returns-2
     run-requires
     meet-requires
-    returns-2
-    slice-aggregate-is-repeated
-    is-repeated-requires
+    same-length-3
     returns-3
-    filled-with-requires
+    slice-read-if3
+    same-length-4
+    returns-4
+    slice-write-stamps
+    either-requires
     add-at
     loop-less
     loop-again
-    returns-4)
+    same-length-5
+    returns-5)

@@ -1,7 +1,7 @@
 -- `signal_lines::put_refused` meets its contract: the identifier, a tab, and the rest of the line. Assumes nothing.
 use native.Mathlib.Omega.{arith}
 use Rattle.printing.proofs.Puts.{put-within}
-use Rattle.signal_lines.specs.Printed.{lineRoom}
+use Rattle.signal_lines.specs.Printed.{listedLineRoom}
 use Rattle.signal_lines.proofs.Fields.{put-more, put-identifier}
 use borrow.Author.Needs.{needs}
 use Rattle.signal_lines.proofs.put_refused.Statement.{statement}
@@ -28,7 +28,7 @@ same-length : tie.Need-same-length
 same-length c = search needs
 
 returns : tie.Need-returns
-returns c = put-within lineRoom (put-more _ _ (put-identifier _ (c .before .before .before .before .before .before .before .before .before .before .before .put-identifier .ensures)) (c .before .before .before .before .before .before .before .put-byte .ensures) (c .before .before .put-count .ensures .put)) (omega (arith, c .before .before .put-count .ensures .short, c .before .before .put-count .ensures .put .now-at, c .before .before .before .before .before .before .before .put-byte .ensures .now-at, c .before .before .before .before .before .before .before .before .before .before .before .put-identifier .ensures .0))
+returns c = put-within listedLineRoom (put-more _ _ (put-identifier _ (c .before .before .before .before .before .before .before .before .before .before .before .put-identifier .ensures)) (c .before .before .before .before .before .before .before .put-byte .ensures) (c .before .before .put-count .ensures .put)) (omega (arith, c .before .before .put-count .ensures .short, c .before .before .put-count .ensures .put .now-at, c .before .before .before .before .before .before .before .put-byte .ensures .now-at, c .before .before .before .before .before .before .before .before .before .before .before .put-identifier .ensures .0))
 
 pub put-refused-spec : {M : Type 1} → statement M
 put-refused-spec =

@@ -12,8 +12,8 @@ use Rattle.sleep.proofs.Watch as T
 use Rattle.sleep.proofs.Watch.Laws as T′
 use Rattle.sleep.proofs.Updated as D
 use Rattle.sleep.proofs.Updated.Laws as D′
-use Rattle.sleep.proofs.Answer as S
-use Rattle.sleep.proofs.Answer.Laws as S′
+use Rattle.sleep.proofs.SleepAnswer as S
+use Rattle.sleep.proofs.SleepAnswer.Laws as S′
 use Rattle.sleep.proofs.Watch.updated as updated-fn
 use Rattle.sleep.proofs.Watch.updated.Symbol as updated-def
 use Rattle.sleep.proofs.Watch.updated.Symbol.{name as #updated}

@@ -4,13 +4,13 @@ use native.Mathlib.Omega.{arith}
 use mathlib.Core.Logic.{⊎-elim}
 use lib.ListN.{length}
 use borrow.Author.Needs.{needs}
-use Rattle.taking.proofs.Seeking.{Seeking, start, not-there, some, inside, found, one-less, as-many}
+use Rattle.taking.proofs.Going.{read}
+use Rattle.taking.proofs.Seeking.{Seeking, start, not-there, found, one-less, as-many}
 use Rattle.taking.proofs.route_line.Statement.{statement}
 use Rattle.taking.proofs.route_line.Tie as tie
 use Rattle.taking.proofs.route_line.Reads as reads
 use Rattle.taking.proofs.route_line.Lts as lts
-use Rattle.line.proofs.read_first.Reads as read-first-reads
-use Rattle.parts.proofs.part_from.Reads as part-from-reads
+use Rattle.line_reader.proofs.read_at.Reads as read-at-reads
 use Rattle.taking.proofs.is_route.Reads as is-route-reads
 
 abbrev Inv-loop : tie.InvT-loop
@@ -20,34 +20,28 @@ abbrev μ-loop : tie.MeasureT-loop
 μ-loop text route at₀ n₀ left₀ at n left = length text - at
 
 loop-holds : tie.Need-loop-holds Inv-loop μ-loop
-loop-holds c = start _ _ (c .before .pre .1)
+loop-holds c = start _ _
 
-part-from-requires : tie.Need-part-from-requires Inv-loop μ-loop
-part-from-requires c κs = omega (arith, c .before .loop .inv .within)
-
-read-first-requires : tie.Need-read-first-requires Inv-loop μ-loop
-read-first-requires c κs = search needs
+read-at-requires : tie.Need-read-at-requires Inv-loop μ-loop
+read-at-requires c κs = search needs
 
 is-route-requires : tie.Need-is-route-requires Inv-loop μ-loop
 is-route-requires c κs = search needs
 
 returns : tie.Need-returns Inv-loop μ-loop
-returns c = found (c .before .before .before .before .before .before .loop .inv) (c .before .before .before .before .before .loop-test .taken) (c .before .before .before .before .part-from .ensures) _ (c .before .before .before .read-first .ensures) _ (c .before .before .is-route .ensures) (c .before .if1 .taken) (c .if2 .taken)
+returns c = found (c .before .before .before .before .before .loop .inv) (c .before .before .before .before .loop-test .taken) _ (c .before .before .before .read-at .ensures) _ (c .before .before .is-route .ensures) (c .before .if1 .taken) (c .if2 .taken)
 
 sub-left : tie.Need-sub-left Inv-loop μ-loop
 sub-left c = omega arith
 
-add-at : tie.Need-add-at Inv-loop μ-loop
-add-at c = omega (arith, inside (c .before .before .before .before .before .loop .inv) (c .before .before .before .before .loop-test .taken) (c .before .before .before .part-from .ensures) _ (c .before .before .read-first .ensures))
-
 add-n : tie.Need-add-n Inv-loop μ-loop
-add-n c = omega (arith, c .before .before .before .before .before .loop .inv .numbered, c .before .before .before .before .before .loop .inv .within, c .before .before .before .before .before .before .before .pre .0)
+add-n c = omega (arith, c .before .before .before .before .loop .inv .numbered, c .before .before .before .before .loop .inv .within, c .before .before .before .before .before .before .pre)
 
 loop-less : tie.Need-loop-less Inv-loop μ-loop
-loop-less c = omega (arith, some (c .before .before .before .before .before .loop .inv) (c .before .before .before .before .loop-test .taken) (c .before .before .before .part-from .ensures) _ (c .before .before .read-first .ensures), inside (c .before .before .before .before .before .loop .inv) (c .before .before .before .before .loop-test .taken) (c .before .before .before .part-from .ensures) _ (c .before .before .read-first .ensures))
+loop-less c = let r = read _ _ (c .before .before .before .loop-test .taken) _ (c .before .before .read-at .ensures) in omega (arith, r .further, r .within)
 
 loop-again : tie.Need-loop-again Inv-loop μ-loop
-loop-again c = ⊎-elim (λ w. rw (w .2) (one-less (c .before .before .before .before .before .loop .inv) (c .before .before .before .before .loop-test .taken) (c .before .before .before .part-from .ensures) _ (c .before .before .read-first .ensures) _ (c .before .is-route .ensures) (w .0 .taken) (w .1 .left))) (λ w. rw (w .1) (as-many (c .before .before .before .before .before .loop .inv) (c .before .before .before .before .loop-test .taken) (c .before .before .before .part-from .ensures) _ (c .before .before .read-first .ensures) _ (c .before .is-route .ensures) (w .0 .left))) (c .if1 .came)
+loop-again c = ⊎-elim (λ w. rw (w .2) (one-less (c .before .before .before .before .loop .inv) (c .before .before .before .loop-test .taken) _ (c .before .before .read-at .ensures) _ (c .before .is-route .ensures) (w .0 .taken) (w .1 .left))) (λ w. rw (w .1) (as-many (c .before .before .before .before .loop .inv) (c .before .before .before .loop-test .taken) _ (c .before .before .read-at .ensures) _ (c .before .is-route .ensures) (w .0 .left))) (c .if1 .came)
 
 returns-2 : tie.Need-returns-2 Inv-loop μ-loop
 returns-2 c = not-there (c .before .loop .inv) (c .loop-test .left)
@@ -59,12 +53,10 @@ route-line-spec =
     Inv-loop
     μ-loop
     loop-holds
-    part-from-requires
-    read-first-requires
+    read-at-requires
     is-route-requires
     returns
     sub-left
-    add-at
     add-n
     loop-less
     loop-again

@@ -3,7 +3,7 @@ use Prim.Native.Nat.{_-_}
 use native.Mathlib.Omega.{arith}
 use lib.ListN.{length}
 use borrow.Author.Needs.{needs}
-use Rattle.taking.proofs.Going.{Going, start, all-taken, refused-here, some, inside, goes-on}
+use Rattle.taking.proofs.Going.{read, Going, start, all-taken, refused-here, goes-on}
 use Rattle.taking.proofs.take_lines.Statement.{statement}
 use Rattle.taking.proofs.take_lines.Tie as tie
 
@@ -19,14 +19,11 @@ nothing-requires c κs = search needs
 loop-holds : tie.Need-loop-holds Inv-loop μ-loop
 loop-holds c = start _ _ (c .before .before .pre .1) _ (c .nothing .ensures)
 
-part-from-requires : tie.Need-part-from-requires Inv-loop μ-loop
-part-from-requires c κs = omega (arith, c .before .loop .inv .within)
-
-read-first-requires : tie.Need-read-first-requires Inv-loop μ-loop
-read-first-requires c κs = search needs
+read-at-requires : tie.Need-read-at-requires Inv-loop μ-loop
+read-at-requires c κs = search needs
 
 take-line-requires : tie.Need-take-line-requires Inv-loop μ-loop
-take-line-requires c κs = (c .before .before .before .before .loop .inv .book, c .before .before .before .before .loop .inv .kept)
+take-line-requires c κs = (c .before .before .before .loop .inv .book, c .before .before .before .loop .inv .kept)
 
 enum-known-more : tie.Need-enum-known-more Inv-loop μ-loop
 enum-known-more c = search needs
@@ -38,19 +35,16 @@ clear-requires : tie.Need-clear-requires Inv-loop μ-loop
 clear-requires c κs = search needs
 
 returns : tie.Need-returns Inv-loop μ-loop
-returns c = (refused-here (c .before .before .before .before .before .before .before .before .before .before .loop .inv) (c .before .before .before .before .before .before .before .before .before .loop-test .taken) (c .before .before .before .before .before .before .before .before .part-from .ensures) _ (c .before .before .before .before .before .before .before .read-first .ensures) _ (c .before .before .before .before .before .take-line .ensures (c .before .before .before .before .before .before .before .before .before .before .loop .inv .book) (c .before .before .before .before .before .before .before .before .before .before .loop .inv .kept)) _ (c .before .before .before .why .given .1), c .clear .ensures)
-
-add-at : tie.Need-add-at Inv-loop μ-loop
-add-at c = omega (arith, inside (c .before .before .before .before .before .before .before .before .loop .inv) (c .before .before .before .before .before .before .before .loop-test .taken) (c .before .before .before .before .before .before .part-from .ensures) _ (c .before .before .before .before .before .read-first .ensures) _ (c .before .before .before .take-line .ensures (c .before .before .before .before .before .before .before .before .loop .inv .book) (c .before .before .before .before .before .before .before .before .loop .inv .kept)))
+returns c = (refused-here (c .before .before .before .before .before .before .before .before .before .loop .inv) (c .before .before .before .before .before .before .before .before .loop-test .taken) _ (c .before .before .before .before .before .before .before .read-at .ensures) _ (c .before .before .before .before .before .take-line .ensures (c .before .before .before .before .before .before .before .before .before .loop .inv .book) (c .before .before .before .before .before .before .before .before .before .loop .inv .kept)) _ (c .before .before .before .why .given .1), c .clear .ensures)
 
 add-n : tie.Need-add-n Inv-loop μ-loop
-add-n c = omega (arith, c .before .before .before .before .before .before .before .before .loop .inv .numbered, c .before .before .before .before .before .before .before .before .loop .inv .within, c .before .before .before .before .before .before .before .before .before .before .before .pre .0)
+add-n c = omega (arith, c .before .before .before .before .before .before .before .loop .inv .numbered, c .before .before .before .before .before .before .before .loop .inv .within, c .before .before .before .before .before .before .before .before .before .before .pre .0)
 
 loop-less : tie.Need-loop-less Inv-loop μ-loop
-loop-less c = omega (arith, some (c .before .before .before .before .before .before .before .before .loop .inv) (c .before .before .before .before .before .before .before .loop-test .taken) (c .before .before .before .before .before .before .part-from .ensures) _ (c .before .before .before .before .before .read-first .ensures) _ (c .before .before .before .take-line .ensures (c .before .before .before .before .before .before .before .before .loop .inv .book) (c .before .before .before .before .before .before .before .before .loop .inv .kept)) _ (c .before .more .given .1), inside (c .before .before .before .before .before .before .before .before .loop .inv) (c .before .before .before .before .before .before .before .loop-test .taken) (c .before .before .before .before .before .before .part-from .ensures) _ (c .before .before .before .before .before .read-first .ensures) _ (c .before .before .before .take-line .ensures (c .before .before .before .before .before .before .before .before .loop .inv .book) (c .before .before .before .before .before .before .before .before .loop .inv .kept)))
+loop-less c = let r = read _ _ (c .before .before .before .before .before .before .loop-test .taken) _ (c .before .before .before .before .before .read-at .ensures) in omega (arith, r .further, r .within)
 
 loop-again : tie.Need-loop-again Inv-loop μ-loop
-loop-again c = goes-on (c .before .before .before .before .before .before .before .before .loop .inv) (c .before .before .before .before .before .before .before .loop-test .taken) (c .before .before .before .before .before .before .part-from .ensures) _ (c .before .before .before .before .before .read-first .ensures) _ (c .before .before .before .take-line .ensures (c .before .before .before .before .before .before .before .before .loop .inv .book) (c .before .before .before .before .before .before .before .before .loop .inv .kept)) _ (c .before .more .given .1)
+loop-again c = goes-on (c .before .before .before .before .before .before .before .loop .inv) (c .before .before .before .before .before .before .loop-test .taken) _ (c .before .before .before .before .before .read-at .ensures) _ (c .before .before .before .take-line .ensures (c .before .before .before .before .before .before .before .loop .inv .book) (c .before .before .before .before .before .before .before .loop .inv .kept)) _ (c .before .more .given .1)
 
 returns-2 : tie.Need-returns-2 Inv-loop μ-loop
 returns-2 c = all-taken (c .before .loop .inv) (c .loop-test .left)
@@ -63,14 +57,12 @@ take-lines-spec =
     μ-loop
     nothing-requires
     loop-holds
-    part-from-requires
-    read-first-requires
+    read-at-requires
     take-line-requires
     enum-known-more
     enum-known-why
     clear-requires
     returns
-    add-at
     add-n
     loop-less
     loop-again

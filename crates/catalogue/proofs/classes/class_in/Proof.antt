@@ -5,12 +5,13 @@ use mathlib.Core.Bool.{false}
 use Prim.Native.Nat.{_*_, _^_}
 use lib.Dec.{leb}
 use lib.IntN.{ℤ, pos, _+ℤ_}
-use mir.Syntax.{w32, w64}
+use mir.Syntax.{w32}
 use mir.Val.{SFits}
 use mir.ValLaws.{toZ-ofZ}
 use borrow.Author.Needs.{needs}
 use Rattle.catalogue.specs.declared.Class.the-variants.{Value}
 use Rattle.catalogue.specs.Class.{between}
+use Rattle.catalogue.proofs.Marks.{has-kind}
 use Rattle.catalogue.proofs.classes.class_in.Statement.{statement}
 use Rattle.catalogue.proofs.classes.class_in.Tie as tie
 
@@ -41,37 +42,37 @@ is-between-requires : tie.Need-is-between-requires
 is-between-requires c κs = search needs
 
 marked-requires : tie.Need-marked-requires
-marked-requires c κs = search needs
+marked-requires c κs = has-kind _ _ (c .before .before .before .before .pre .1) (sym (c .before .is-between .ensures) ∙ c .if2 .taken)
 
 returns-2 : tie.Need-returns-2
 returns-2 c =
     let w = c .before .before in
-    simp (c .marked .ensures, narrow (w .before), sym (w .is-between .ensures) ∙ c .before .if2 .taken)
+    simp (sym (c .marked .ensures), narrow (w .before), sym (w .is-between .ensures) ∙ c .before .if2 .taken)
 
 is-between-requires-2 : tie.Need-is-between-requires-2
 is-between-requires-2 c κs = search needs
 
 marked-requires-2 : tie.Need-marked-requires-2
-marked-requires-2 c κs = search needs
+marked-requires-2 c κs = has-kind _ _ (c .before .before .before .before .before .before .pre .2) (sym (c .before .is-between2 .ensures) ∙ c .if3 .taken)
 
 returns-3 : tie.Need-returns-3
 returns-3 c =
     let w = c .before .before in
     let e2 = w .before in
-    simp (c .marked2 .ensures, narrow (e2 .before .before), no1 e2, sym (w .is-between2 .ensures) ∙ c .before .if3 .taken)
+    simp (sym (c .marked2 .ensures), narrow (e2 .before .before), no1 e2, sym (w .is-between2 .ensures) ∙ c .before .if3 .taken)
 
 is-between-requires-3 : tie.Need-is-between-requires-3
 is-between-requires-3 c κs = search needs
 
 marked-requires-3 : tie.Need-marked-requires-3
-marked-requires-3 c κs = search needs
+marked-requires-3 c κs = has-kind _ _ (c .before .before .before .before .before .before .before .before .pre .3) (sym (c .before .is-between3 .ensures) ∙ c .if4 .taken)
 
 returns-4 : tie.Need-returns-4
 returns-4 c =
     let w = c .before .before in
     let e3 = w .before in
     let e2 = e3 .before .before in
-    simp (c .marked3 .ensures, narrow (e2 .before .before), no1 e2, no2 e3, sym (w .is-between3 .ensures) ∙ c .before .if4 .taken)
+    simp (sym (c .marked3 .ensures), narrow (e2 .before .before), no1 e2, no2 e3, sym (w .is-between3 .ensures) ∙ c .before .if4 .taken)
 
 is-between-requires-4 : tie.Need-is-between-requires-4
 is-between-requires-4 c κs = search needs
@@ -89,7 +90,7 @@ returns-5 c =
     let so : SFits w32 (a .offset) = search needs in
     simp (narrow (e2 .before .before), no1 e2, no2 e3, no3 e4, sym (w .is-between4 .ensures) ∙ c .before .if5 .taken)
     (ap (λ (z : ℤ). Value (record { 0 = z }))
-    (toZ-ofZ w64 (c .reading .result) (record { sfits = c .reading .ok }) ∙ c .reading .ensures ∙ ap (λ (z : ℤ). pos (a .raw .0 * a .resolution) +ℤ z) (toZ-ofZ w32 (a .offset) so)))
+    (c .reading .ensures ∙ ap (λ (z : ℤ). pos (a .raw .0 * a .resolution) +ℤ z) (toZ-ofZ w32 (a .offset) so)))
 
 returns-6 : tie.Need-returns-6
 returns-6 c =

@@ -3,11 +3,12 @@
 use mir.Syntax.{w32}
 use mir.ValLaws.{toZ-ofZ}
 use borrow.Author.Needs.{needs}
+use Rattle.catalogue.proofs.Marks.{no-code}
 use Rattle.catalogue.proofs.classes.no_mark.Statement.{statement}
 use Rattle.catalogue.proofs.classes.no_mark.Tie as tie
 
 one-mark-requires : tie.Need-one-mark-requires
-one-mark-requires c κs = search needs
+one-mark-requires c κs = search (needs, no-code)
 
 returns : tie.Need-returns
 returns c = rw (toZ-ofZ w32 (c .before .args .offset) (c .before .fits .offset)) at (c .one-mark .ensures)

@@ -3,11 +3,12 @@
 use mir.Syntax.{w32}
 use mir.ValLaws.{toZ-ofZ}
 use borrow.Author.Needs.{needs}
+use Rattle.catalogue.proofs.Marks.{no-code}
 use Rattle.catalogue.proofs.classes.one_mark.Statement.{statement}
 use Rattle.catalogue.proofs.classes.one_mark.Tie as tie
 
 two-marks-requires : tie.Need-two-marks-requires
-two-marks-requires c κs = search needs
+two-marks-requires c κs = search (needs, no-code)
 
 returns : tie.Need-returns
 returns c = rw (toZ-ofZ w32 (c .before .args .offset) (c .before .fits .offset)) at (c .two-marks .ensures)

@@ -3,11 +3,12 @@
 use mir.Syntax.{w32}
 use mir.ValLaws.{toZ-ofZ}
 use borrow.Author.Needs.{needs}
+use Rattle.catalogue.proofs.Marks.{no-code}
 use Rattle.catalogue.proofs.classes.two_marks.Statement.{statement}
 use Rattle.catalogue.proofs.classes.two_marks.Tie as tie
 
 class-in-requires : tie.Need-class-in-requires
-class-in-requires c κs = search needs
+class-in-requires c κs = search (needs, no-code)
 
 returns : tie.Need-returns
 returns c = rw (toZ-ofZ w32 (c .before .args .offset) (c .before .fits .offset)) at (c .class-in .ensures)

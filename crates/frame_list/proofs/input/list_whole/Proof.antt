@@ -1,10 +1,11 @@
--- `frame_list::input::list_whole` meets its contract: it ends within the text. Assumes nothing.
+-- `frame_list::input::list_whole` meets its contract: it ends where no whole line is left. Assumes nothing.
 use mathlib.Core.Path.{_≡_, refl, ap, _∙_}
 use Prim.Native.Nat.{_-_, _≤_}
 use native.Mathlib.Omega.{arith}
 use borrow.Author.Needs.{needs}
 use lib.ListN.{length, length-drop}
 use Rattle.listing.proofs.Sizes.{list-long, list-used}
+use Rattle.frame_list.proofs.Whole.{none-used, no-book, all-used}
 use Rattle.frame_list.proofs.input.list_whole.Statement.{statement}
 use Rattle.frame_list.proofs.input.list_whole.Tie as tie
 use Rattle.frame_list.proofs.input.list_whole.Reads as reads
@@ -38,7 +39,7 @@ same-length : tie.Need-same-length Inv-loop μ-loop
 same-length c = list-long _ _ _ (c .before .before .before .before .before .before .before .before .list .ensures) ∙ c .before .before .before .before .before .before .before .before .before .before .before .before .loop .inv .1
 
 returns : tie.Need-returns Inv-loop μ-loop
-returns c = c .before .before .before .before .before .before .before .before .before .before .before .before .loop .inv .0
+returns c = none-used _ (c .before .before .before .before .before .before .before .before .before .before .before .before .loop .inv .0) (c .before .before .before .before .before .before .before .before .before .before .before .before .loop .inv .1) (c .before .before .before .before .before .before .before .before .before .before .part-from .ensures) (c .before .before .before .before .before .before .before .before .list .ensures) _ _ (c .before .before .before .before .more .given .1) (c .if1 .taken)
 
 add-used : tie.Need-add-used Inv-loop μ-loop
 add-used c = omega (arith, list-used _ _ _ (c .before .before .before .before .before .before .before .before .list .ensures) _ _ (c .before .before .before .before .more .given .1), ap length (c .before .before .before .before .before .before .before .before .before .before .part-from .ensures), length-drop (c .before .before .before .before .before .before .before .before .before .before .before .before .loop .used) (c .before .before .before .before .before .before .before .before .before .before .before .before .before .before .before .args .text .now), c .before .before .before .before .before .before .before .before .before .before .before .loop-test .taken)
@@ -56,13 +57,13 @@ same-length-2 : tie.Need-same-length-2 Inv-loop μ-loop
 same-length-2 c = list-long _ _ _ (c .before .before .before .before .list .ensures) ∙ c .before .before .before .before .before .before .before .before .loop .inv .1
 
 returns-2 : tie.Need-returns-2 Inv-loop μ-loop
-returns-2 c = c .before .before .before .before .before .before .before .before .loop .inv .0
+returns-2 c = no-book _ (c .before .before .before .before .before .before .before .before .loop .inv .0) (c .before .before .before .before .before .before .before .before .loop .inv .1) _ (c .before .before .before .before .list .ensures) (c .enum-told .given .1)
 
 same-length-3 : tie.Need-same-length-3 Inv-loop μ-loop
 same-length-3 c = c .before .loop .inv .1
 
 returns-3 : tie.Need-returns-3 Inv-loop μ-loop
-returns-3 c = c .before .loop .inv .0
+returns-3 c = all-used (c .before .loop .inv .0) (c .loop-test .left)
 
 pub list-whole-spec : {M : Type 1} → statement M
 list-whole-spec =

@@ -44,8 +44,8 @@ take-requires c κs = subst⁻¹ (λ (b : ℕ). Fits (getD (c .before .before .b
 class-shaped-requires : tie.Need-class-shaped-requires Inv-loop μ-loop
 class-shaped-requires c κs = search needs
 
-put-signal-requires : tie.Need-put-signal-requires Inv-loop μ-loop
-put-signal-requires c κs = room-left (c .before .before .before .before .before .before .before .before .loop .inv) (c .before .before .before .before .before .before .before .before .before .before .before .before .pre) (c .before .before .before .before .before .before .before .loop-test .taken)
+put-reading-requires : tie.Need-put-reading-requires Inv-loop μ-loop
+put-reading-requires c κs = room-left (c .before .before .before .before .before .before .before .before .loop .inv) (c .before .before .before .before .before .before .before .before .before .before .before .before .pre) (c .before .before .before .before .before .before .before .loop-test .taken)
 
 add-i : tie.Need-add-i Inv-loop μ-loop
 add-i c = omega arith
@@ -54,7 +54,7 @@ loop-less : tie.Need-loop-less Inv-loop μ-loop
 loop-less c = omega arith
 
 loop-again : tie.Need-loop-again Inv-loop μ-loop
-loop-again c = signal-walked (c .before .before .before .before .before .before .before .before .before .before .before .loop .inv) (c .before .before .before .before .before .before .before .before .before .before .before .before .before .before .before .pre) (c .before .before .before .before .before .before .before .before .before .before .loop-test .taken) (class-is _ _ _ (shaped-bits _ _ (c .before .before .before .before .before .before .before .before .shape-of .ensures) (c .before .before .before .before .before .before .bits-shaped .ensures)) (c .before .before .before .before .before .take .ensures) (shaped-class _ _ _ (c .before .before .before .before .before .before .before .before .shape-of .ensures) (c .before .before .before .before .class-shaped .ensures))) (c .before .before .put-signal .ensures)
+loop-again c = signal-walked (c .before .before .before .before .before .before .before .before .before .before .before .loop .inv) (c .before .before .before .before .before .before .before .before .before .before .before .before .before .before .before .pre) (c .before .before .before .before .before .before .before .before .before .before .loop-test .taken) (class-is _ _ _ (shaped-bits _ _ (c .before .before .before .before .before .before .before .before .shape-of .ensures) (c .before .before .before .before .before .before .bits-shaped .ensures)) (c .before .before .before .before .before .take .ensures) (shaped-class _ _ _ (c .before .before .before .before .before .before .before .before .shape-of .ensures) (c .before .before .before .before .class-shaped .ensures))) (c .before .before .put-reading .ensures)
 
 same-length : tie.Need-same-length Inv-loop μ-loop
 same-length c = c .before .loop .inv .size
@@ -77,7 +77,7 @@ put-signals-spec =
     bits-shaped-requires
     take-requires
     class-shaped-requires
-    put-signal-requires
+    put-reading-requires
     add-i
     loop-less
     loop-again

@@ -9,8 +9,8 @@ use borrow.Author.Needs.{needs}
 use Rattle.books.specs.Words.{sideBySide}
 use Rattle.framing.specs.Putting.{allOnes}
 use Rattle.messages.specs.Signals.{AllFit}
-use Rattle.messages.specs.declared.packing.Put.{Put}
-use Rattle.messages.specs.declared.packing.Put.the-variants.{Word}
+use Rattle.messages.specs.declared.packing.PutWord.{PutWord}
+use Rattle.messages.specs.declared.packing.PutWord.the-variants.{Word}
 use Rattle.messages.specs.Put.{putAll}
 use Rattle.messages.proofs.Steps.{rest, fits-at, fits-on}
 use Rattle.messages.proofs.Packs.{put-more, put-none, wide-stays, barred-stays}
@@ -64,7 +64,7 @@ loop-less c = omega arith
 loop-again : tie.Need-loop-again Inv-loop μ-loop
 loop-again c = let a = c .before .before .before .before .before .before .before .before .before .before .before .before .args in
     let l = c .before .before .before .before .before .before .before .before .loop in
-    let put-on : Put → Put = λ x. putAll x (rest (a .numbers .now) (a .starts .now) (l .i + 1)) (drop (l .i + 1) (a .values .now)) in
+    let put-on : PutWord → PutWord = λ x. putAll x (rest (a .numbers .now) (a .starts .now) (l .i + 1)) (drop (l .i + 1) (a .values .now)) in
     record {
       bound = omega arith;
       fit = fits-on (a .numbers .now) (a .starts .now) (l .i) (c .before .before .before .before .before .before .before .loop-test .taken) (c .before .before .before .before .before .before .before .before .before .before .before .before .pre .same) (l .inv .fit);
@@ -77,7 +77,7 @@ enum-told c = search needs
 returns : tie.Need-returns Inv-loop μ-loop
 returns c = let a = c .before .before .before .before .before .before .before .before .before .before .before .args in
     let l = c .before .before .before .before .before .before .before .loop in
-    let put-on : Put → Put = λ x. putAll x (rest (a .numbers .now) (a .starts .now) (l .i + 1)) (drop (l .i + 1) (a .values .now)) in
+    let put-on : PutWord → PutWord = λ x. putAll x (rest (a .numbers .now) (a .starts .now) (l .i + 1)) (drop (l .i + 1) (a .values .now)) in
     sym (put-more (a .numbers .now) (a .starts .now) (a .values .now) (l .word) (l .i) (c .before .before .before .before .before .before .before .before .before .before .before .pre) (c .before .before .before .before .before .before .loop-test .taken) ∙ ap put-on (sym (c .before .before .put-one .ensures) ∙ c .enum-told .given .1) ∙ wide-stays (rest (a .numbers .now) (a .starts .now) (l .i + 1)) (drop (l .i + 1) (a .values .now))) ∙ l .inv .puts
 
 enum-told-2 : tie.Need-enum-told-2 Inv-loop μ-loop
@@ -86,7 +86,7 @@ enum-told-2 c = search needs
 returns-2 : tie.Need-returns-2 Inv-loop μ-loop
 returns-2 c = let a = c .before .before .before .before .before .before .before .before .before .before .before .args in
     let l = c .before .before .before .before .before .before .before .loop in
-    let put-on : Put → Put = λ x. putAll x (rest (a .numbers .now) (a .starts .now) (l .i + 1)) (drop (l .i + 1) (a .values .now)) in
+    let put-on : PutWord → PutWord = λ x. putAll x (rest (a .numbers .now) (a .starts .now) (l .i + 1)) (drop (l .i + 1) (a .values .now)) in
     sym (put-more (a .numbers .now) (a .starts .now) (a .values .now) (l .word) (l .i) (c .before .before .before .before .before .before .before .before .before .before .before .pre) (c .before .before .before .before .before .before .loop-test .taken) ∙ ap put-on (sym (c .before .before .put-one .ensures) ∙ c .enum-told2 .given .1) ∙ barred-stays (rest (a .numbers .now) (a .starts .now) (l .i + 1)) (drop (l .i + 1) (a .values .now))) ∙ l .inv .puts
 
 returns-3 : tie.Need-returns-3 Inv-loop μ-loop

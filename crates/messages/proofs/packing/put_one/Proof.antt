@@ -8,7 +8,7 @@ use Rattle.bits.specs.Word.{Fits, placed}
 use Rattle.catalogue.proofs.Shaped.{shaped-bits}
 use Rattle.catalogue.proofs.Classing.{shaped-class}
 use Rattle.framing.specs.Packing.{packable}
-use Rattle.messages.specs.declared.packing.Put.the-variants.{Word}
+use Rattle.messages.specs.declared.packing.PutWord.the-variants.{Word}
 use Rattle.messages.proofs.Packs.{put-skips, put-wide, put-fine, put-barred}
 use borrow.Author.Needs.{needs}
 use Rattle.messages.proofs.packing.put_one.Statement.{statement}

@@ -4,8 +4,8 @@ use Prim.Native.Nat.{ℕ, zero, suc, _≤_}
 use native.Mathlib.Omega.{arith}
 use lib.Arith.{lt-of-le-ne}
 use lib.ListN.{List·getD-eq-default}
-use Rattle.power.specs.declared.Numbered.the-variants.{NoState}
-use Rattle.power.specs.States.{inOrder, numbered}
+use Rattle.power.specs.declared.StateOrNone.the-variants.{NoState}
+use Rattle.power.specs.States.{inOrder, stateNumbered}
 use Rattle.power.proofs.State.numbered.Statement.{statement}
 use Rattle.power.proofs.State.numbered.Tie as tie
 
@@ -19,11 +19,11 @@ beyond zero x r = omega arith
 beyond (suc n) x r = lt-of-le-ne (beyond n x (r .0)) (λ e. r .1 (sym e))
 
 none-left : tie.Need-returns-8
-unfolding numbered
+unfolding stateNumbered
 none-left c = sym (List·getD-eq-default inOrder NoState (beyond 7 (c .before .args .n) (c .match .rest)))
 
 pub numbered-spec : {M : Type 1} → statement M
-unfolding numbered
+unfolding stateNumbered
 numbered-spec =
     tie.close
     (tie.spec (λ c. cc) (λ c. cc) (λ c. cc) (λ c. cc) (λ c. cc) (λ c. cc) (λ c. cc) none-left)

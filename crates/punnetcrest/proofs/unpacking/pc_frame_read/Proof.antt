@@ -28,7 +28,7 @@ same-length-3 : tie.Need-same-length-3
 same-length-3 c = search needs
 
 returns : tie.Need-returns
-returns c = rw (c .number-of .ensures, c .before .count-after .ensures) (as-unpacked _ _ _ _ _ (c .before .before .before .before .before .before .before .before .read .ensures))
+returns c = rw (c .number-of .ensures, c .before .count-after .ensures) (as-unpacked _ _ _ _ (c .before .before .before .before .before .before .before .before .read .ensures))
 
 pub pc-frame-read-spec : {M : Type 1} → statement M
 pc-frame-read-spec =

@@ -22,11 +22,11 @@ mul-t3 c = search needs
 array-read-t6 : tie.Need-array-read-t6
 array-read-t6 c = search needs
 
-mul-t8 : tie.Need-mul-t8
-mul-t8 c = search needs
+array-read-wide : tie.Need-array-read-wide
+array-read-wide c = search needs
 
-array-read-t11 : tie.Need-array-read-t11
-array-read-t11 c = search needs
+wide-requires : tie.Need-wide-requires
+wide-requires c κs = search needs
 
 mul-t13 : tie.Need-mul-t13
 mul-t13 c = search needs
@@ -111,11 +111,14 @@ mark-at f rs i empty =
     mark (numbers (λ (r : Row). f r .kind) rs i) (getD (map (λ (r : Row). f r .first) rs) i empty) (numbers (λ (r : Row). f r .last) rs i)
 
 -- the row that the columns have at a place, with an offset
-abbrev from-columns : List Row → ℕ → ℕ → ℤ → Row
-from-columns rs i empty o =
-    row (numbers (λ (r : Row). r .number) rs i) (numbers (λ (r : Row). r .bits) rs i) (numbers (λ (r : Row). r .resolution) rs i) o
+abbrev with-bits : List Row → ℕ → ℕ → ℤ → ℕ → Row
+with-bits rs i empty o bits =
+    row (numbers (λ (r : Row). r .number) rs i) bits (numbers (λ (r : Row). r .resolution) rs i) o
     (numbers (λ (r : Row). r .lowest) rs i) (numbers (λ (r : Row). r .highest) rs i)
     (mark-at (λ (r : Row). r .mark1) rs i empty) (mark-at (λ (r : Row). r .mark2) rs i empty) (mark-at (λ (r : Row). r .mark3) rs i empty)
+
+abbrev from-columns : List Row → ℕ → ℕ → ℤ → Row
+from-columns rs i empty o = with-bits rs i empty o (numbers (λ (r : Row). r .bits) rs i)
 
 whole : (rs : List Row) (i : ℕ) → from-columns rs i 1 (offset-at rs i) ≡ getD rs i blank
 whole [] i = refl
@@ -130,8 +133,9 @@ inside (r ∷ rs) (suc i) o h = inside rs i o (le-of-suc-le-suc h)
 returns : tie.Need-returns
 unfolding rows
 returns c =
-    let i = c .before .args .place in
-    inside rows i (toZ w32 (ofZ w32 (offset-at rows i))) (c .before .pre)
+    let i = c .before .before .args .place in
+    ap (with-bits rows i 0 (toZ w32 (ofZ w32 (offset-at rows i)))) (c .before .wide .ensures)
+    ∙ inside rows i (toZ w32 (ofZ w32 (offset-at rows i))) (c .before .before .pre)
     ∙ ap (from-columns rows i 1) (toZ-ofZ w32 _ (record { sfits = c .t21 .given }))
     ∙ whole rows i
 
@@ -141,8 +145,8 @@ row-at-spec =
     (tie.spec
     mul-t3
     array-read-t6
-    mul-t8
-    array-read-t11
+    array-read-wide
+    wide-requires
     mul-t13
     array-read-t16
     mul-t18

@@ -4,7 +4,7 @@ use native.Mathlib.Omega.{arith}
 use Rattle.answers.proofs.Numbered.{above-0}
 use Rattle.books.specs.Book.{placement}
 use Rattle.placing.proofs.Placing.{alone-room}
-use Rattle.tables.specs.Adding.{refusalOf}
+use Rattle.tables.specs.Adding.{addedNumber}
 use Rattle.tables.proofs.Held.{messages-held, signals-held}
 use Rattle.tables.proofs.Stored.{signal-stored}
 use Rattle.tables.proofs.Room.{signal-room}
@@ -32,14 +32,14 @@ put-signal-requires : tie.Need-put-signal-requires
 put-signal-requires c κs =
     let b = c .before .before .before .before .before .before .before .before .before .before .pre .0 in
     let h = c .before .before .before .before .before .before .before .before .before .before .pre .1 .holds in
-    let e = ap refusalOf (c .before .before .before .before .before .enum-told .given .1) in
+    let e = ap addedNumber (c .before .before .before .before .before .enum-told .given .1) in
     let r = signal-room (b .messages) (placement (c .before .before .before .before .before .before .before .before .before .before .args .number) (c .before .before .before .before .before .before .before .before .before .before .args .start)) (sym (c .before .before .before .before .before .before .before .judge-signal .ensures b (c .before .before .before .before .before .before .before .before .before .before .pre .1)) ∙ e) in
     (omega (arith, c .before .before .before .message-count .ensures, messages-held _ b h, r .some), omega (arith, c .before .before .before .message-count .ensures, messages-held _ b h, h .within .messages), omega (arith, c .before .signal-count .ensures, signals-held _ b h, r .room))
 
 filled-with-requires : tie.Need-filled-with-requires
 filled-with-requires c κs =
     let b = c .before .before .before .before .before .before .before .before .before .before .before .pre .0 in
-    let e = ap refusalOf (c .before .before .before .before .before .before .enum-told .given .1) in
+    let e = ap addedNumber (c .before .before .before .before .before .before .enum-told .given .1) in
     let r = signal-room (b .messages) (placement (c .before .before .before .before .before .before .before .before .before .before .before .args .number) (c .before .before .before .before .before .before .before .before .before .before .before .args .start)) (sym (c .before .before .before .before .before .before .before .before .judge-signal .ensures b (c .before .before .before .before .before .before .before .before .before .before .before .pre .1)) ∙ e) in
     alone-room _ _ _ (c .before .before .before .before .before .before .before .before .before .before .bits-of .ensures) (r .alone)
 
@@ -48,7 +48,7 @@ returns c = λ b k.
     let h = k .holds in
     let p = placement (c .before .before .before .before .before .before .before .before .before .before .before .before .args .number) (c .before .before .before .before .before .before .before .before .before .before .before .before .args .start) in
     let f = c .before .before .before .before .before .before .before .before .before .judge-signal .ensures b k in
-    let taken = sym f ∙ ap refusalOf (c .before .before .before .before .before .before .before .enum-told .given .1) in
+    let taken = sym f ∙ ap addedNumber (c .before .before .before .before .before .before .before .enum-told .given .1) in
     let r = signal-room (b .messages) p taken in
     let messages = c .before .before .before .before .before .message-count .ensures ∙ messages-held _ b h in
     let signals = c .before .before .before .signal-count .ensures ∙ signals-held _ b h in
@@ -62,7 +62,7 @@ returns-2 : tie.Need-returns-2
 returns-2 c = λ b k.
     let f = c .before .before .judge-signal .ensures b k in
     let n = above-0 (c .enum-told2 .given .0 .0) in
-    signal-stays b _ _ _ f (n .0) (sym f ∙ ap refusalOf (c .enum-told2 .given .1) ∙ n .1) k
+    signal-stays b _ _ _ f (n .0) (sym f ∙ ap addedNumber (c .enum-told2 .given .1) ∙ n .1) k
 
 pub add-signal-spec : {M : Type 1} → statement M
 add-signal-spec =

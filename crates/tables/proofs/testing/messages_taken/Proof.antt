@@ -1,12 +1,29 @@
-use mathlib.Core.List.{[]}
 -- `tables::testing::messages_taken` meets its contract: each part of the test that fails refuses the tables, and the last part decides where the others pass. Assumes nothing.
 use mathlib.Core.Path.{sym, ap, _∙_}
+use mathlib.Core.List.{[]}
+use native.Mathlib.Omega.{arith}
 use borrow.Author.Tests.{not-true, not-false}
 use Rattle.columns.specs.Identifiers.{distinctAfter}
-use Rattle.tables.proofs.Tested.{many-messages, many-signals, rest-of-messages, rest-of-signals, repeated, last-part}
+use Rattle.tables.proofs.Tested.{many-messages, many-signals, rest-of-messages, rest-of-signals, repeated, last-part, no-stamps}
 use borrow.Author.Needs.{needs}
 use Rattle.tables.proofs.testing.messages_taken.Statement.{statement}
 use Rattle.tables.proofs.testing.messages_taken.Tie as tie
+use Rattle.tables.proofs.testing.messages_taken.Reads as reads
+use Rattle.tables.proofs.testing.messages_taken.Lts as lts
+use Rattle.catalogue.proofs.bounds.Reads as bounds-reads
+use Rattle.catalogue.proofs.surpluses.Reads as surpluses-reads
+use Rattle.columns.proofs.distinct.Reads as distinct-reads
+use Rattle.record.proofs.ends.Reads as ends-reads
+use Rattle.record.proofs.first.Reads as first-reads
+use Rattle.record.proofs.ids.Reads as ids-reads
+use Rattle.record.proofs.message_count.Reads as message-count-reads
+use Rattle.record.proofs.numbers.Reads as numbers-reads
+use Rattle.record.proofs.signal_count.Reads as signal-count-reads
+use Rattle.record.proofs.starts.Reads as starts-reads
+use Rattle.record.proofs.wide.Reads as wide-reads
+use Rattle.rows.proofs.widths.Reads as widths-reads
+use Rattle.tables.proofs.testing.rests_zero.Reads as rests-zero-reads
+use Rattle.tables.proofs.testing.well_parted.Reads as well-parted-reads
 
 message-count-requires : tie.Need-message-count-requires
 message-count-requires c κs = search needs
@@ -59,6 +76,15 @@ distinct-requires c κs = search needs
 returns-5 : tie.Need-returns-5
 returns-5 c = repeated _ _ _ (c .before .before .before .before .before .before .before .before .before .before .before .before .before .before .before .wide .ensures ∙ c .before .before .before .before .before .before .before .before .before .before .before .before .before .before .before .before .message-count .ensures) (c .before .before .before .before .before .before .before .before .before .before .ids .ensures .0) (sym (c .before .distinct .ensures ∙ ap (distinctAfter []) (c .before .before .first .ensures .0)) ∙ not-true _ (c .if5 .taken))
 
+surpluses-requires : tie.Need-surpluses-requires
+surpluses-requires c κs = search needs
+
+bounds-requires : tie.Need-bounds-requires
+bounds-requires c κs = search needs
+
+widths-requires : tie.Need-widths-requires
+widths-requires c κs = search needs
+
 first-requires-2 : tie.Need-first-requires-2
 first-requires-2 c κs = search needs
 
@@ -68,31 +94,23 @@ first-requires-3 c κs = search needs
 first-requires-4 : tie.Need-first-requires-4
 first-requires-4 c κs = search needs
 
+slice-aggregate-well-parted : tie.Need-slice-aggregate-well-parted
+slice-aggregate-well-parted c = search needs
+
+slice-aggregate-well-parted-2 : tie.Need-slice-aggregate-well-parted-2
+slice-aggregate-well-parted-2 c = search needs
+
+slice-aggregate-well-parted-3 : tie.Need-slice-aggregate-well-parted-3
+slice-aggregate-well-parted-3 c = search needs
+
+slice-aggregate-well-parted-4 : tie.Need-slice-aggregate-well-parted-4
+slice-aggregate-well-parted-4 c = search needs
+
 well-parted-requires : tie.Need-well-parted-requires
-well-parted-requires c κs = search needs
+well-parted-requires c κs = (omega (arith, c .before .before .before .before .before .first3 .ensures .1, c .before .before .before .before .first4 .ensures .1), omega (arith, c .before .before .before .before .before .before .first2 .ensures .1, c .before .before .before .before .before .before .before .before .before .before .before .before .before .before .before .before .before .before .before .before .before .before .before .before .if1 .left), record { places = (c .before .before .before .before .before .before .before .before .before .surpluses .ensures, c .before .before .before .before .before .before .before .before .bounds .ensures); bits = c .before .before .before .before .before .before .before .widths .ensures }, no-stamps)
 
 returns-6 : tie.Need-returns-6
-returns-6 c = c .well-parted .ensures ∙
-    last-part _ _ _ _ _ _ _
-    (c .before .before .before .before .before .before .before .before .before .before .before .before .before .before .before .before .before .before .before .wide .ensures ∙ c .before .before .before .before .before .before .before .before .before .before .before .before .before .before .before .before .before .before .before .before .message-count .ensures)
-    (c .before .before .before .before .before .before .before .before .before .before .before .before .before .before .before .before .wide2 .ensures ∙ c .before .before .before .before .before .before .before .before .before .before .before .before .before .before .before .before .before .signal-count .ensures)
-    (c .before .before .before .before .before .before .before .before .before .before .before .before .before .before .ids .ensures .0)
-    (c .before .before .before .before .before .before .before .before .before .before .before .before .before .ends .ensures .0)
-    (c .before .before .before .before .before .before .before .before .before .before .numbers .ensures .0)
-    (c .before .before .before .before .before .before .before .before .before .starts .ensures .0)
-    (c .before .before .before .before .before .before .before .before .before .before .before .before .before .before .ids .ensures .1)
-    (c .before .before .before .before .before .before .before .before .before .before .before .before .before .ends .ensures .1)
-    (c .before .before .before .before .before .before .before .before .before .before .numbers .ensures .1)
-    (c .before .before .before .before .before .before .before .before .before .starts .ensures .1)
-    (c .before .before .before .before .before .before .before .before .before .before .before .before .before .before .before .before .before .before .if1 .left)
-    (c .before .before .before .before .before .before .before .before .before .before .before .before .before .before .before .if2 .left)
-    (sym (c .before .before .before .before .before .before .before .before .before .before .before .before .rests-zero .ensures) ∙ not-false _ (c .before .before .before .before .before .before .before .before .before .before .before .if3 .left))
-    (sym (c .before .before .before .before .before .before .before .before .rests-zero2 .ensures) ∙ not-false _ (c .before .before .before .before .before .before .before .if4 .left))
-    (sym (c .before .before .before .before .before .distinct .ensures ∙ ap (distinctAfter []) (c .before .before .before .before .before .before .first .ensures .0)) ∙ not-false _ (c .before .before .before .before .if5 .left))
-    _ _ _
-    (c .before .before .before .first2 .ensures .0)
-    (c .before .before .first3 .ensures .0)
-    (c .before .first4 .ensures .0)
+returns-6 c = c .before .well-parted .ensures ∙ last-part _ _ _ _ _ _ _ (c .before .before .before .before .before .before .before .before .before .before .before .before .before .before .before .before .before .before .before .before .before .before .before .before .before .before .before .wide .ensures ∙ c .before .before .before .before .before .before .before .before .before .before .before .before .before .before .before .before .before .before .before .before .before .before .before .before .before .before .before .before .message-count .ensures) (c .before .before .before .before .before .before .before .before .before .before .before .before .before .before .before .before .before .before .before .before .before .before .before .before .wide2 .ensures ∙ c .before .before .before .before .before .before .before .before .before .before .before .before .before .before .before .before .before .before .before .before .before .before .before .before .before .signal-count .ensures) (c .before .before .before .before .before .before .before .before .before .before .before .before .before .before .before .before .before .before .before .before .before .before .ids .ensures .0) (c .before .before .before .before .before .before .before .before .before .before .before .before .before .before .before .before .before .before .before .before .before .ends .ensures .0) (c .before .before .before .before .before .before .before .before .before .before .before .before .before .before .before .before .before .before .numbers .ensures .0) (c .before .before .before .before .before .before .before .before .before .before .before .before .before .before .before .before .before .starts .ensures .0) (c .before .before .before .before .before .before .before .before .before .before .before .before .before .before .before .before .before .before .before .before .before .before .ids .ensures .1) (c .before .before .before .before .before .before .before .before .before .before .before .before .before .before .before .before .before .before .before .before .before .ends .ensures .1) (c .before .before .before .before .before .before .before .before .before .before .before .before .before .before .before .before .before .before .numbers .ensures .1) (c .before .before .before .before .before .before .before .before .before .before .before .before .before .before .before .before .before .starts .ensures .1) (c .before .before .before .before .before .before .before .before .before .before .before .before .before .before .before .before .before .before .before .before .before .before .before .before .before .before .if1 .left) (c .before .before .before .before .before .before .before .before .before .before .before .before .before .before .before .before .before .before .before .before .before .before .before .if2 .left) (sym (c .before .before .before .before .before .before .before .before .before .before .before .before .before .before .before .before .before .before .before .before .rests-zero .ensures) ∙ not-false _ (c .before .before .before .before .before .before .before .before .before .before .before .before .before .before .before .before .before .before .before .if3 .left)) (sym (c .before .before .before .before .before .before .before .before .before .before .before .before .before .before .before .before .rests-zero2 .ensures) ∙ not-false _ (c .before .before .before .before .before .before .before .before .before .before .before .before .before .before .before .if4 .left)) (sym (c .before .before .before .before .before .before .before .before .before .before .before .before .before .distinct .ensures ∙ ap (distinctAfter []) (c .before .before .before .before .before .before .before .before .before .before .before .before .before .before .first .ensures .0)) ∙ not-false _ (c .before .before .before .before .before .before .before .before .before .before .before .before .if5 .left)) _ _ _ (c .before .before .before .before .before .before .before .before .first2 .ensures .0) (c .before .before .before .before .before .before .before .first3 .ensures .0) (c .before .before .before .before .before .before .first4 .ensures .0)
 
 pub messages-taken-spec : {M : Type 1} → statement M
 messages-taken-spec =
@@ -115,8 +133,15 @@ messages-taken-spec =
     first-requires
     distinct-requires
     returns-5
+    surpluses-requires
+    bounds-requires
+    widths-requires
     first-requires-2
     first-requires-3
     first-requires-4
+    slice-aggregate-well-parted
+    slice-aggregate-well-parted-2
+    slice-aggregate-well-parted-3
+    slice-aggregate-well-parted-4
     well-parted-requires
     returns-6)

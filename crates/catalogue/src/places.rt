@@ -1,0 +1,107 @@
+// The place of a signal in the constant table, from its number: numbers go by the hundred, a hundred for each table of the standard.
+// A const array is built anew at every read, so a caller that asks for many signals holds the columns and lends them.
+ghost use mathlib.Core.Path.{_≡_};
+ghost use Rattle.catalogue.specs.Places.{surpluses, bounds, Placed};
+
+// How many hundreds there are with signals in them, or below one that has.
+pub const HUNDREDS: usize = 20;
+
+// How many places there are.
+pub const PLACES: usize = 199;
+
+const NUMBER_LIMIT: u32 = 2000;
+
+// What the numbers of a hundred's signals have more than their places.
+const SURPLUSES: [usize; HUNDREDS] = [
+    0,
+    101,
+    201,
+    291,
+    362,
+    454,
+    539,
+    634,
+    724,
+    816,
+    909,
+    1006,
+    1101,
+    1175,
+    1268,
+    1368,
+    1462,
+    1556,
+    1643,
+    1729,
+];
+
+// The place where they end.
+const BOUNDS: [u8; HUNDREDS] = [
+    0,
+    0,
+    10,
+    39,
+    47,
+    62,
+    67,
+    77,
+    85,
+    92,
+    95,
+    100,
+    126,
+    133,
+    133,
+    139,
+    145,
+    158,
+    172,
+    199,
+];
+
+pub fn surpluses() -> [usize; HUNDREDS]
+    ensures { λ r. ⌜ r ≡ surpluses ⌝ }
+{
+    SURPLUSES
+}
+
+pub fn bounds() -> [u8; HUNDREDS]
+    ensures { λ r. ⌜ r ≡ bounds ⌝ }
+{
+    BOUNDS
+}
+
+fn wide(number: u32) -> usize
+    ensures { λ r. ⌜ r ≡ number ⌝ }
+{
+    number as usize
+}
+
+fn size(bound: u8) -> usize
+    ensures { λ r. ⌜ r ≡ bound ⌝ }
+{
+    bound as usize
+}
+
+// What looking for a signal finds: its place in the table.
+pub enum Place {
+    At(usize),
+    Nowhere,
+}
+
+// The place of a signal in the table. Of 1 to 100, 101 to 200 and so on, the number is in the hundred that a product and a shift tell.
+pub fn place_of(number: u32, above: &[usize], ends: &[u8]) -> Place
+    requires { ⌜ (now above ≡ surpluses) × (now ends ≡ bounds) ⌝ }
+    ensures { λ r. ⌜ Placed number r ⌝ }
+{
+    if number >= NUMBER_LIMIT {
+        return Place::Nowhere;
+    }
+    let n = wide(number);
+    let hundred = n * 5242 / 524288;
+    let place = n - above[hundred];
+    if place >= size(ends[hundred]) {
+        return Place::Nowhere;
+    }
+    Place::At(place)
+}

@@ -1,0 +1,2 @@
+// No code: specs/ says what a table of routes is with some of them taken out, and proofs/ which chains it has then, that it stays
+// sound, and what is left of a spread.

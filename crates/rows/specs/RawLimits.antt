@@ -1,0 +1,31 @@
+-- "Raw limits = (printed limit - offset) / resolution, exact for every row but 1301 to 1304." Assumes nothing.
+use mathlib.Core.Path.{_≡_}
+use mathlib.Core.Bool.{cond}
+use mathlib.Core.List.{List, [], _∷_}
+use mathlib.Core.Option.{Option, none, some}
+use Prim.Native.Nat.{ℕ, _*_, _≤_}
+use lib.Dec.{eqb}
+use lib.IntN.{ℤ, pos, _+ℤ_, _-ℤ_}
+use lib.Signed.{quotZ, remZ}
+use Rattle.rows.specs.declared.Row.{Row}
+use Rattle.rows.specs.PrintedLimits.{PrintedLimits, printedLimits}
+
+-- what is printed for the number n, if the list has it
+abbrev pub limitsIn : ℕ → List PrintedLimits → Option PrintedLimits
+limitsIn n [] = none
+limitsIn n (p ∷ ps) = cond (eqb (p .number) n) (some p) (limitsIn n ps)
+
+-- the printed limits of the signal with the number n, if it has some
+unfoldable pub limitsOf : ℕ → Option PrintedLimits
+limitsOf n = limitsIn n printedLimits
+
+-- the raw count is (limit - offset) / resolution, and nothing is left over; so it reads as the limit
+pub record IsRawLimit (r : Row) (limit : ℤ) (raw : ℕ) : Type 0 where
+  pub quotient : quotZ (limit -ℤ r .offset) (pos (r .resolution)) ≡ pos raw
+  pub exact : remZ (limit -ℤ r .offset) (pos (r .resolution)) ≡ pos 0
+  pub reads : pos (raw * r .resolution) +ℤ r .offset ≡ limit
+
+-- a row and what is printed for it: its lowest and highest raw count are those of the printed limits; none are printed for 1301 to 1304
+abbrev pub RawLimits : Row → Option PrintedLimits → Type 0
+RawLimits r (some p) = IsRawLimit r (p .lowest) (r .lowest) × IsRawLimit r (p .highest) (r .highest)
+RawLimits r none = (1301 ≤ r .number) × (r .number ≤ 1304)

@@ -1,0 +1,80 @@
+/* What the parts of the comparison share: numbers by chance, one case with what is lent for it, and the count of edges. */
+#ifndef TEST_H
+#define TEST_H
+
+#include "lent.h"
+#include "plain.h"
+
+/* ---- Numbers by chance. */
+
+extern struct chance chance;
+
+uint32_t below(uint32_t bound);
+int once_in(uint32_t times);
+
+/* A number from everywhere, the edges of the 32 bits more often. */
+uint32_t any_number(void);
+
+/* ---- A case: begun, lent to, judged. */
+
+enum function { BOOK_READ, CLASS, FRAME_READ, FRAME_PACK, SPREAD, FAULT_SUM, POWER_STEP, SLEEP_START, SLEEP_WATCH, FUNCTIONS };
+
+void begin_case(enum function f);
+
+/* A block for this case, with these contents, or any where they are null. L is the library's copy of it, P the plain one's. */
+struct lent *lend(const char *name, const void *contents, size_t bytes);
+#define L(block, type) ((type *)lent_library(block))
+#define P(block, type) ((type *)lent_plain(block))
+
+/* Ends the run where the two returned different numbers, or one that is none of the function's refusals, or left different
+   memory. The first `read_only` blocks of the case may not be written, and none where the call was refused, the book reader's
+   apart. */
+void judge(uint32_t library, uint32_t plain, int read_only);
+
+/* ---- Edges: inputs that tell a rule from one that is off by one. Each family of them is counted one by one. */
+
+enum edges {
+    TEXT_LENGTHS, FULL_TABLES, FULL_LINES, EDGE_LINES, KNOTS, BOOK_COUNTS, SPREAD_ROOMS, SPREAD_PLACES,
+    ROW_COUNTS, ROW_FRAMES, SIGNAL_NUMBERS, READ_ROOMS, CHECKS, FRAME_LENGTHS, PACK_LENGTHS, PACK_COUNTS,
+    FAULT_ALONE, FAULT_LIMITS, FAULT_LENGTHS, FAULT_AGREEMENT,
+    POWER_RULES, POWER_VOLTAGES, POWER_HUNDREDTHS, POWER_CURRENTS, POWER_LIMITS, POWER_ORDER,
+    SLEEP_AGES, SLEEP_STATES, SLEEP_ROUND, FAMILIES
+};
+
+/* Of each signal: counts around its limits, its bits and three marks. */
+enum { ROW_EDGES = 6 + 3 * 4 };
+
+void meet(enum edges family, uint32_t which);
+
+/* Counts the edges of the family, in their order, of which the list says that they hold. */
+void meet_each(enum edges family, const int *holds, uint32_t count);
+
+/* Where the number stands in the list; the count where it does not. */
+uint32_t place_in(const uint32_t *list, uint32_t count, uint32_t number);
+
+/* ---- The cases of a group, by what they are about. */
+
+/* A book of a text that is taken. */
+void make_taken_book(uint32_t book[PC_BOOK_WORDS]);
+
+/* Makes another of them the group's own. */
+void make_good_book(void);
+
+/* The group's book or an empty one, whole or damaged, or words by chance. */
+void choose_book(uint32_t book[PC_BOOK_WORDS]);
+
+/* Counts the edge where one of the three counts of a book is the most, or one over, there or in a book that is else empty, in
+   a call that tests it and gave this refusal. */
+void meet_count(const uint32_t book[PC_BOOK_WORDS], uint32_t count, uint32_t refusal);
+
+void try_texts(void);
+void try_spread(void);
+void try_classes(void);
+void try_frame_read(void);
+void try_frame_pack(void);
+void try_row_in_frame(void);
+void try_fault_sum(void);
+void try_power_step(void);
+void try_sleep(void);
+
+#endif
