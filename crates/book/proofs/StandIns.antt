@@ -13,7 +13,7 @@ use Rattle.parts.specs.Parts.{lines, linesOf, split, onFirst}
 use Rattle.line.specs.Meaning.{meaningOf, lineMeaning, ofFields, ofKind, ofMessage}
 use Rattle.books.specs.Book.{Book, allPlacements}
 use Rattle.reading.specs.Reading.{passed, onward, readFrom, refusalOf, meanings, linesRead}
-use Rattle.reading.specs.Taken.{Sound, mLines, sLines, rLinesFrom}
+use Rattle.reading.specs.Taken.{LineCounts}
 use Rattle.reading.proofs.Counts.{text-counted}
 use Rattle.reading.proofs.Exact.{no-routes-sound}
 use Rattle.taking.proofs.Going.{empty-words}
@@ -65,11 +65,6 @@ left-empty {text} {why} {n} {w} a = from (way a)
     from (by b at v p j e) = from-verdict b at v e
 
 -- "Line .. counts made up: they equal counts over the lines": those of a taken text are of its M, S and R lines
-pub record LineCounts (text : List ℕ) (m s r : ℕ) : Type 0 where
-  pub messages : m ≡ mLines (meanings text)
-  pub signals : s ≡ sLines (meanings text)
-  pub routes : r ≡ length (rLinesFrom 1 (meanings text))
-
 pub counts-of-lines : {text : List ℕ} {m s r : ℕ} {w : List ℕ} → Answered text (taken m s r) w → LineCounts text m s r
 unfolding ofVerdict allPlacements
 counts-of-lines {text} {m} {s} {r} {w} a = from (way a)

@@ -12,9 +12,8 @@ use borrow.Author.Tests.{eqb-true, eq-eqb, leb-true}
 use Rattle.record.specs.Columns.{messageCountOf, signalCountOf, idsAt, messageWords, idsOf, endsOf, numbersOf, startsOf}
 use Rattle.books.specs.Book.{Placement, Message, Book, identifiers, numbers, allPlacements}
 use Rattle.books.specs.Lines.{messageLimit, signalLimit}
-use Rattle.books.specs.Built.{Built}
 use Rattle.books.specs.Good.{good, goodFrom}
-use Rattle.books.specs.Words.{column, idColumn, endColumn, numberColumn, startColumn, placementStarts, endsAfter, messageColumns, routeColumns, wordsOf, shown, messagesOf, same, messagesTaken, Stands}
+use Rattle.books.specs.Words.{column, idColumn, endColumn, numberColumn, startColumn, placementStarts, endsAfter, messageColumns, routeColumns, wordsOf, shown, messagesOf, same, messagesTaken, Stands, OfBuilt}
 use Rattle.books.proofs.Building.{good-built, built-good}
 use Rattle.books.proofs.Sides.{side-back}
 
@@ -189,14 +188,8 @@ pub words-stand : (b : Book) → length (b .messages) ≤ messageLimit → lengt
 unfolding wordsOf
 words-stand b few room = record { messages = refl; signals = refl; columns = take-at (messageColumns (b .messages)) (routeColumns (b .routes)) messageWords (columns-long (b .messages) few room) }
 
--- refusal 12 for the message and signal tables, exactly: they are those of messages that lines build
-pub record Shown (w : List ℕ) : Type 0 where
-  pub shown-messages : List Message
-  pub built : Built shown-messages
-  pub stand : Stands w shown-messages
-
-pub taken-built : (w : List ℕ) → messagesTaken w ≡ true → Shown w
+pub taken-built : (w : List ℕ) → messagesTaken w ≡ true → OfBuilt w
 taken-built w e = let t = taken-stands w e in record { shown-messages = messagesOf w; built = good-built (messagesOf w) (t .1); stand = t .0 }
 
-pub built-taken : (w : List ℕ) → Shown w → messagesTaken w ≡ true
+pub built-taken : (w : List ℕ) → OfBuilt w → messagesTaken w ≡ true
 built-taken w s = stands-taken w (s .shown-messages) (s .stand) (built-good (s .built))

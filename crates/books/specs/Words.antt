@@ -10,6 +10,7 @@ use Rattle.record.specs.Columns.{messageCountOf, signalCountOf, routeCountOf, i
 use Rattle.books.specs.Book.{Placement, Message, Route, Book, identifiers, numbers, allPlacements, placement, routeBetween}
 use Rattle.books.specs.Lines.{messageLimit, signalLimit, routeLimit}
 use Rattle.books.specs.Good.{good}
+use Rattle.books.specs.Built.{Built}
 
 -- a column of n entries: those that are there, and 0 past them
 unfoldable pub column : ℕ → List ℕ → List ℕ
@@ -113,3 +114,9 @@ routesSideBySide (f ∷ fs) (t ∷ ts) = routeBetween f t ∷ routesSideBySide f
 -- the routes that words show: as many as are counted, by the columns
 unfoldable pub routesOf : List ℕ → List Route
 routesOf w = routesSideBySide (take (routeCountOf w) (fromsOf w)) (take (routeCountOf w) (tosOf w))
+
+-- refusal 12 for the message and signal tables, exactly: they are those of messages that lines build
+pub record OfBuilt (w : List ℕ) : Type 0 where
+  pub shown-messages : List Message
+  pub built : Built shown-messages
+  pub stand : Stands w shown-messages

@@ -10,7 +10,7 @@ use lib.ListN.{length, getD}
 use lib.Dec.{eqb}
 use borrow.Author.Tests.{eqb-true, eq-eqb}
 use Rattle.chains.specs.Chain.{Walk, LeadsOn}
-use Rattle.chains.specs.Tests.{Tells}
+use Rattle.chains.specs.Tells.{Tells}
 use Rattle.chains.proofs.Bools.{or-cases, or-left, or-right, test-tells}
 use Rattle.chains.proofs.Walks.{walk-append}
 

@@ -34,14 +34,14 @@ module _ (froms tos : List ℕ) where
   OnClosed i = (p : ℕ) × (c : List ℕ) × Closed p c × List·Memᴰ i c
 
   -- c and d are two different chains that join the places p and q
-  pub record Doubling (p q : ℕ) (c d : List ℕ) : Type 0 where
+  pub record JoinedTwice (p q : ℕ) (c d : List ℕ) : Type 0 where
     pub one : Chain p c q
     pub other : Chain p d q
     pub different : Different c d
 
   -- route i begins one of such a pair
   abbrev pub BeginsDoubling : ℕ → Type 0
-  BeginsDoubling i = (p q : ℕ) × (c d : List ℕ) × Doubling p q (i ∷ c) d
+  BeginsDoubling i = (p q : ℕ) × (c d : List ℕ) × JoinedTwice p q (i ∷ c) d
 
   -- no closed chain
   abbrev pub LoopFree : Type 0
@@ -49,7 +49,7 @@ module _ (froms tos : List ℕ) where
 
   -- no two different chains that join the same two places
   abbrev pub Single : Type 0
-  Single = (p q : ℕ) (c d : List ℕ) → Doubling p q c d → ⊥
+  Single = (p q : ℕ) (c d : List ℕ) → JoinedTwice p q c d → ⊥
 
 -- no closed chain, and no two different chains that join the same two places
 pub record IsSound (froms tos : List ℕ) : Type 0 where

@@ -3,3 +3,4 @@ pub mod Spread
 pub mod ChainLists
 pub mod Along
 pub mod Tests
+pub mod Tells

@@ -1,13 +1,8 @@
--- Tests that compute: what one tells, whether some number passes it, and which is the first that does. Assumes nothing: these are
+-- Tests that compute: whether some number passes one, and which is the first that does. Assumes nothing: these are
 -- definitions.
 use mathlib.Core.Path.{_≡_}
 use mathlib.Core.Bool.{Bool, true, false, _||_}
 use Prim.Native.Nat.{ℕ, zero, suc, _≤_, _<_}
-
--- r says whether P holds
-abbrev pub Tells : Type 0 → Bool → Type 0
-Tells P true = P
-Tells P false = P → ⊥
 
 -- one of the numbers below n passes
 abbrev pub any : ℕ → (ℕ → Bool) → Bool

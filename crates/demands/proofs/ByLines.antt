@@ -4,12 +4,12 @@ use mathlib.Core.Path.{subst}
 use Prim.Native.Nat.{ℕ}
 use mathlib.Core.List.{List, _∷_}
 use Rattle.record.specs.Place.{placeKey}
-use Rattle.chains.specs.Chain.{Chain, Closed, OnClosed, Doubling, BeginsDoubling, LoopFree, Single}
+use Rattle.chains.specs.Chain.{Chain, Closed, OnClosed, JoinedTwice, BeginsDoubling, LoopFree, Single}
 use Rattle.reading.specs.Taken.{froms, tos}
 use Rattle.demands.specs.Text.{textRoutes}
-use Rattle.demands.specs.RLines.{textRLines, LineChain, Returning, Joining, OnLoop, BeginsPair}
+use Rattle.demands.specs.RLines.{textRLines, LineChain, Returning, Joining, OnLoop, BeginsPair, AllInLimits}
 use Rattle.demands.specs.Loops.{Returns, Doubles}
-use Rattle.demands.proofs.Keys.{AllInLimits, keyed, unkeyed, ends}
+use Rattle.demands.proofs.Keys.{keyed, unkeyed, ends}
 
 module _ (text : List ℕ) where
   abbrev fs : List ℕ
@@ -22,7 +22,7 @@ module _ (text : List ℕ) where
   closed-keyed : (a i : ℕ) (c : List ℕ) → Returning (textRLines text) a i c → Closed fs ts (placeKey a i) c
   closed-keyed a i c r = keyed text a i c a i (r .closed)
 
-  doubling-keyed : (a i b j : ℕ) (c d : List ℕ) → Joining (textRLines text) a i b j c d → Doubling fs ts (placeKey a i) (placeKey b j) c d
+  doubling-keyed : (a i b j : ℕ) (c d : List ℕ) → Joining (textRLines text) a i b j c d → JoinedTwice fs ts (placeKey a i) (placeKey b j) c d
   doubling-keyed a i b j c d h = record { one = keyed text a i c b j (h .one); other = keyed text a i d b j (h .other); different = h .different }
 
   pub none-returns : LoopFree fs ts → Returns (textRLines text) → ⊥
@@ -44,7 +44,7 @@ module _ (text : List ℕ) where
         let e = ends text limits p c p w in
         (e .bus, e .identifier, record { closed = unkeyed text limits (e .bus) (e .identifier) c (e .bus) (e .identifier) (e .identified) (e .identified) (subst (λ (x : ℕ). Chain fs ts x c x) (e .from) w) })
 
-    doubling-unkeyed : (p q : ℕ) (c d : List ℕ) → Doubling fs ts p q c d → (a i b j : ℕ) × Joining (textRLines text) a i b j c d
+    doubling-unkeyed : (p q : ℕ) (c d : List ℕ) → JoinedTwice fs ts p q c d → (a i b j : ℕ) × Joining (textRLines text) a i b j c d
     doubling-unkeyed p q c d h =
         let e = ends text limits p c q (h .one) in
         let same : (x : List ℕ) → Chain fs ts p x q → LineChain (textRLines text) (e .bus) (e .identifier) x (e .to-bus) (e .to-identifier) =

@@ -19,8 +19,9 @@ use Rattle.route_tables.proofs.OneText.{text-messages-taken}
 use Rattle.framing.specs.Messages.{messageWith}
 use Rattle.framing.specs.Reading.{Slices, readByMessages, reading}
 use Rattle.framing.specs.Packing.{packByMessage, packing}
+use Rattle.route_tables.specs.Tables.{LeftOf}
 use Rattle.demands.specs.Text.{sPlacements, mMessages, textMessages}
-use Rattle.demands.proofs.Taken.{Left, left}
+use Rattle.demands.proofs.Taken.{left}
 
 -- messages with more signals in the last of them
 grown : List Message → List Placement → List Message
@@ -65,17 +66,17 @@ messages-of-text text {b} e =
 
 -- by the words that the reader left of a taken text
 module _ (text : List ℕ) {m s r : ℕ} {w : List ℕ} (a : Answered text (taken m s r) w) where
-  abbrev was : Left text w
+  abbrev was : LeftOf text w
   was = left text a
 
   -- they pass the test of reading and packing
   passes : messagesTaken w ≡ true
-  passes = ap messagesTaken (was .words) ∙ text-messages-taken text (was .book) (was .with-book)
+  passes = ap messagesTaken (was .words) ∙ text-messages-taken text (was .book) (was .taken)
 
   -- and show the messages of the text
   shown : messagesOf w ≡ textMessages text
   shown =
-      let t = was .with-book in
+      let t = was .taken in
       let l = within (was .book .messages) (built-good (read-built text (t .read))) in
       ap messagesOf (was .words) ∙
       shows (wordsOf (was .book)) (was .book .messages) (l .few) (l .room) (words-stand (was .book) (l .few) (l .room)) ∙

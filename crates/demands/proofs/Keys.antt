@@ -1,6 +1,6 @@
 -- A place's number tells its bus and its identifier: for R lines that pass, equal numbers are equal buses and identifiers, so chains of
 -- routes between numbers are chains of R lines between buses and identifiers. Assumes nothing.
-use mathlib.Core.Path.{_≡_, refl, sym, ap, _∙_, subst}
+use mathlib.Core.Path.{_≡_, refl, sym, _∙_, subst}
 use mathlib.Core.Bool.{_||_}
 use Prim.Native.Nat.{ℕ, zero, suc, _<_}
 use native.Mathlib.Omega.{arith}
@@ -21,19 +21,8 @@ use Rattle.books.proofs.Tests.{not-refused, both-false}
 use Rattle.reading.specs.Reading.{passed, refusalOf, withLine, numberedWith, readFrom, meanings, linesRead}
 use Rattle.reading.specs.Taken.{froms, tos}
 use Rattle.reading.proofs.Passing.{went}
-use Rattle.demands.specs.Text.{rRoutes, textRoutes}
-use Rattle.demands.specs.RLines.{RLine, rLinesIn, textRLines, rLineAt, LineWalk, LineChain}
-
--- an R line whose buses and identifiers are within their limits
-pub record InLimits (l : RLine) : Type 0 where
-  pub on-bus : l .bus < busLimit
-  pub identified : l .identifier < identifierLimit
-  pub to-on-bus : l .to-bus < busLimit
-  pub to-identified : l .to-identifier < identifierLimit
-
-pub data AllInLimits : List RLine → Type 0 where
-  none : AllInLimits []
-  more : {l : RLine} {ls : List RLine} → InLimits l → AllInLimits ls → AllInLimits (l ∷ ls)
+use Rattle.demands.specs.Text.{lineRoute, rRoutes, textRoutes}
+use Rattle.demands.specs.RLines.{RLine, rLinesIn, textRLines, rLineAt, LineWalk, LineChain, InLimits, AllInLimits, none, more}
 
 in-limits-at : {ls : List RLine} → AllInLimits ls → (k : ℕ) → k < length ls → InLimits (rLineAt ls k)
 in-limits-at none k h = absurd (omega arith)
@@ -83,12 +72,8 @@ to-at (line.Route x i y j ∷ ls) (suc k) h = to-at ls k (le-of-suc-le-suc h)
 to-at (line.IllFormed ∷ ls) k h = to-at ls k h
 
 lines-count : (ls : List Line) → length (rRoutes ls) ≡ length (rLinesIn ls)
-unfolding rLinesIn rRoutes
-lines-count [] = refl
-lines-count (line.Message i ∷ ls) = lines-count ls
-lines-count (line.Signal m s ∷ ls) = lines-count ls
-lines-count (line.Route x i y j ∷ ls) = ap suc (lines-count ls)
-lines-count (line.IllFormed ∷ ls) = lines-count ls
+unfolding rRoutes
+lines-count ls = length-map (rLinesIn ls) lineRoute
 
 module _ (text : List ℕ) where
   abbrev fs : List ℕ

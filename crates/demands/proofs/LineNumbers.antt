@@ -5,14 +5,14 @@ use Prim.Native.Nat.{ℕ, zero, suc, _≤_, _<_}
 use native.Mathlib.Omega.{arith}
 use mathlib.Core.List.{List, [], _∷_, _++_, append-assoc, append-nil}
 use lib.ListN.{length, getD}
-use Rattle.record.specs.Place.{placeKey}
 use Rattle.line.specs.declared.Line.{Line}
 use Rattle.line.specs.declared.Line.the-variants as line
-use Rattle.books.specs.Book.{Book}
+use Rattle.books.specs.Book.{Book, route}
 use Rattle.reading.specs.Reading.{passed, withLine, linesRead, meanings}
 use Rattle.reading.specs.Taken.{froms, tos, rLinesFrom}
 use Rattle.reading.proofs.Passing.{text-kept}
 use Rattle.reading.proofs.Counts.{text-counted}
+use Rattle.demands.specs.RLines.{rLinesIn}
 use Rattle.demands.specs.Text.{rRoutes, textRoutes, RouteAt}
 
 -- the numbers of R lines from line n on are n or more
@@ -41,15 +41,15 @@ kept text e = text-counted text e .numbers
 
 -- one line more: its route, if it is an R line, comes before those of the lines after it
 routes-with : (b : Book) (l : Line) (ls : List Line) → withLine b l .routes ++ rRoutes ls ≡ b .routes ++ rRoutes (l ∷ ls)
-unfolding withLine rRoutes
+unfolding withLine rRoutes rLinesIn
 routes-with b (line.Message i) ls = refl
 routes-with b (line.Signal n s) ls = refl
-routes-with b (line.Route x i y j) ls = append-assoc (b .routes) (record { from = placeKey x i; to = placeKey y j } ∷ []) (rRoutes ls)
+routes-with b (line.Route x i y j) ls = append-assoc (b .routes) (route x i y j ∷ []) (rRoutes ls)
 routes-with b line.IllFormed ls = refl
 
 -- the routes that the reader keeps are those that the text's R lines say
 pub routes-of-text : (text : List ℕ) {b : Book} {at : List ℕ} → linesRead text ≡ passed b at → b .routes ≡ textRoutes text
-unfolding rRoutes
+unfolding rRoutes rLinesIn
 routes-of-text text {b} e =
     sym (append-nil (b .routes)) ∙ text-kept (λ c ls. c .routes ++ rRoutes ls ≡ textRoutes text) (λ c l ls r h. routes-with c l ls ∙ h) text e refl
 
@@ -69,7 +69,7 @@ later n l ls s = record {
 
 at-line : (n : ℕ) (ls : List Line) (i : ℕ) → i < length (rLinesFrom n ls)
     → RouteAt n ls (getD (rLinesFrom n ls) i 0) (getD (froms (rRoutes ls)) i 0) (getD (tos (rRoutes ls)) i 0)
-unfolding rLinesFrom rRoutes
+unfolding rLinesFrom rRoutes rLinesIn
 at-line n [] i h = absurd (omega arith)
 at-line n (line.Message m ∷ ls) i h = later n (line.Message m) ls (at-line (suc n) ls i h)
 at-line n (line.Signal m s ∷ ls) i h = later n (line.Signal m s) ls (at-line (suc n) ls i h)

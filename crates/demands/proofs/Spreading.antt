@@ -16,21 +16,21 @@ use Rattle.books.specs.Words.{wordsOf, routesOf}
 use Rattle.books.proofs.RouteColumns.{shows-routes, words-routes}
 use Rattle.books.proofs.Building.{built-good}
 use Rattle.books.proofs.Columns.{within}
-use Rattle.reading.specs.Taken.{froms, tos, Sound}
+use Rattle.reading.specs.Taken.{froms, tos, SoundRoutes}
 use Rattle.reading.proofs.Passing.{read-built}
 use Rattle.reading.proofs.Counts.{text-routed}
-use Rattle.route_tables.specs.Tables.{RoutesTaken}
+use Rattle.route_tables.specs.Tables.{RoutesTaken, LeftOf}
 use Rattle.route_tables.proofs.OneText.{text-routes-taken}
 use Rattle.routes.specs.Answers.{IsPlace, spreadAlong, SpreadBy, no-place, no-room, spreads, SpreadAnswer, not-a-book, by-routes}
 use Rattle.routes.specs.Listed.{Lists}
 use Rattle.routes.proofs.Listed.{spread-lists}
 use Rattle.book.specs.Answered.{Answered}
 use Rattle.demands.specs.Text.{textRoutes}
-use Rattle.demands.specs.RLines.{textRLines, ListsPlaces}
-use Rattle.demands.specs.Spreads.{RoomEnough, TooLittleRoom, Spreads}
+use Rattle.demands.specs.RLines.{textRLines, ListsPlaces, AllInLimits}
+use Rattle.demands.specs.Spreads.{RoomEnough, RoomForFewer, Spreads}
 use Rattle.demands.proofs.LineNumbers.{routes-of-text}
-use Rattle.demands.proofs.Keys.{AllInLimits, text-in-limits, many, keyed, unkeyed, ends}
-use Rattle.demands.proofs.Taken.{Left, left}
+use Rattle.demands.proofs.Keys.{text-in-limits, many, keyed, unkeyed, ends}
+use Rattle.demands.proofs.Taken.{left}
 
 -- what lists the places that chains of routes reach lists those that chains of R lines reach
 module _ (text : List ℕ) (limits : AllInLimits (textRLines text)) (bus identifier : ℕ) (p : IsPlace bus identifier) where
@@ -61,7 +61,7 @@ module _ (text : List ℕ) (limits : AllInLimits (textRLines text)) (bus identif
   }
 
   -- every such list is as long as the spread
-  module _ (sound : Sound (textRoutes text)) where
+  module _ (sound : SoundRoutes (textRoutes text)) where
     abbrev s : List ℕ
     s = spreadAlong (textRoutes text) bus identifier
 
@@ -84,36 +84,36 @@ module _ (text : List ℕ) (limits : AllInLimits (textRLines text)) (bus identif
         rest = drop-append-seam s (drop (length s) room);
       }
 
-      refused-short : {why n : ℕ} {after : List ℕ} → why ≡ 62 → SpreadBy (textRoutes text) bus identifier room why n after → TooLittleRoom (textRLines text) bus identifier room
+      refused-short : {why n : ℕ} {after : List ℕ} → why ≡ 62 → SpreadBy (textRoutes text) bus identifier room why n after → RoomForFewer (textRLines text) bus identifier room
       refused-short e (no-place x) = absurd (x p)
       refused-short e (no-room x l) = record { places = s; lists = lists-lines s listed; short = l }
       refused-short e (spreads x l) = absurd (omega arith)
 
-      short-refused : {why n : ℕ} {after : List ℕ} → TooLittleRoom (textRLines text) bus identifier room → SpreadBy (textRoutes text) bus identifier room why n after → why ≡ 62
+      short-refused : {why n : ℕ} {after : List ℕ} → RoomForFewer (textRLines text) bus identifier room → SpreadBy (textRoutes text) bus identifier room why n after → why ≡ 62
       short-refused t (no-place x) = absurd (x p)
       short-refused t (no-room x l) = refl
       short-refused t (spreads x l) = absurd (omega (arith, as-long (t .places) (t .lists), t .short))
 
 -- by the words that the reader left
 module _ (text : List ℕ) {m s r : ℕ} {w : List ℕ} (a : Answered text (taken m s r) w) where
-  abbrev was : Left text w
+  abbrev was : LeftOf text w
   was = left text a
 
   shows-text : routesOf w ≡ textRoutes text
   shows-text =
-      let t = was .with-book in
+      let t = was .taken in
       let l = within (was .book .messages) (built-good (read-built text (t .read))) in
       let few = text-routed text (t .read) .few in
       ap routesOf (was .words) ∙ shows-routes (wordsOf (was .book)) (was .book .routes) few (words-routes (was .book) (l .few) (l .room) few) ∙ routes-of-text text (t .read)
 
-  sound-text : Sound (textRoutes text)
-  sound-text = subst Sound (routes-of-text text (was .with-book .read)) (was .with-book .sound)
+  sound-text : SoundRoutes (textRoutes text)
+  sound-text = subst SoundRoutes (routes-of-text text (was .taken .read)) (was .taken .sound)
 
   is-taken : RoutesTaken w
-  is-taken = subst RoutesTaken (sym (was .words)) (text-routes-taken text (was .book) (was .with-book))
+  is-taken = subst RoutesTaken (sym (was .words)) (text-routes-taken text (was .book) (was .taken))
 
   limits : AllInLimits (textRLines text)
-  limits = text-in-limits text (was .with-book .read)
+  limits = text-in-limits text (was .taken .read)
 
   module _ (bus identifier : ℕ) (p : IsPlace bus identifier) (room : List ℕ) {why n : ℕ} {after : List ℕ} (x : SpreadAnswer w bus identifier room why n after) where
     by-text : SpreadBy (textRoutes text) bus identifier room why n after
@@ -128,7 +128,7 @@ module _ (text : List ℕ) {m s r : ℕ} {w : List ℕ} (a : Answered text (take
     spread-of-taken e = enough-spreads text limits bus identifier p sound-text room e by-text
 
     -- 62 exactly where there is less
-    pub refused-62 : (why ≡ 62) ↔ TooLittleRoom (textRLines text) bus identifier room
+    pub refused-62 : (why ≡ 62) ↔ RoomForFewer (textRLines text) bus identifier room
     refused-62 = (λ e. refused-short text limits bus identifier p sound-text room e by-text, λ t. short-refused text limits bus identifier p sound-text room t by-text)
 
   -- room for as many entries as there are R lines is always enough

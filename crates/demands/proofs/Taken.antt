@@ -3,29 +3,20 @@ use mathlib.Core.Path.{_≡_, refl, sym}
 use Prim.Native.Nat.{ℕ}
 use mathlib.Core.List.{List}
 use Rattle.answers.specs.Numbers.{Said, taken}
-use Rattle.books.specs.Book.{Book}
-use Rattle.books.specs.Words.{wordsOf}
 use Rattle.book.specs.Answered.{Answered, too-long, bad-line, closed-chain, two-chains, taken-with}
-use Rattle.route_tables.specs.Tables.{OfTakenText}
-use Rattle.reading.specs.Taken.{TakenWith}
+use Rattle.route_tables.specs.Tables.{LeftOf, OfTakenText}
 use Rattle.demands.proofs.LineRefusals.{not-taken}
 
--- the book with which the text is taken, and whose words were left
-pub record Left (text w : List ℕ) : Type 0 where
-  pub book : Book
-  pub with-book : TakenWith text book
-  pub words : w ≡ wordsOf book
-
-pub left : (text : List ℕ) {m s r : ℕ} {w : List ℕ} → Answered text (taken m s r) w → Left text w
+pub left : (text : List ℕ) {m s r : ℕ} {w : List ℕ} → Answered text (taken m s r) w → LeftOf text w
 left text {m} {s} {r} {w} a = from (taken m s r) w refl a
   where
-    from : (said : Said) (v : List ℕ) → said ≡ taken m s r → Answered text said v → Left text v
+    from : (said : Said) (v : List ℕ) → said ≡ taken m s r → Answered text said v → LeftOf text v
     from said v e (too-long h) = not-taken (sym e)
     from said v e (bad-line h f) = not-taken (sym e)
     from said v e (closed-chain p l) = not-taken (sym e)
     from said v e (two-chains p f l) = not-taken (sym e)
-    from said v e (taken-with {b = b} t) = record { book = b; with-book = t; words = refl }
+    from said v e (taken-with {b = b} t) = record { book = b; taken = t; words = refl }
 
 -- so the record is, word for word, that of a taken text
 pub left-of-text : (text : List ℕ) {m s r : ℕ} {w : List ℕ} → Answered text (taken m s r) w → OfTakenText w
-left-of-text text a = let l = left text a in record { text = text; book = l .book; taken = l .with-book; words = l .words }
+left-of-text text a = record { text = text; left = left text a }

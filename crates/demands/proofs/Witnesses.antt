@@ -27,7 +27,7 @@ use Rattle.reading.specs.Reading.{passed, onward, readFrom, refusalOf, withLine
 use Rattle.book.specs.Answered.{Answered, closed-chain, two-chains, taken-with}
 use Rattle.book.proofs.Once.{answered-once}
 use Rattle.demands.specs.Examples.{firstText, loopText, doublingText, firstBook, loopBook, doublingBook}
-use Rattle.demands.specs.Loops.{RefusedWith, IsTaken}
+use Rattle.demands.specs.Loops.{LinesPass, RefusedWith, IsTaken}
 
 -- the three places of the books: 18FF21F3 on buses 0 and 1, 18FF21D0 on bus 2
 abbrev a : ℕ
@@ -91,16 +91,16 @@ no-11-1 = two-chains (record { short = omega arith; read = reads .2 }) free-twic
 said-of : {text : List ℕ} {s t : Said} {v w : List ℕ} → Answered text s v → Answered text t w → s ≡ t
 said-of x y = ap (λ (p : Said × List ℕ). p .0) (answered-once x y)
 
-pub one-refusal : (why : ℕ) → ((text : List ℕ) → (s : Said) × (w : List ℕ) × Answered text s w × RefusedWith why s) → ⊥
+pub one-refusal : (why : ℕ) → ((text : List ℕ) → LinesPass text → (s : Said) × (w : List ℕ) × Answered text s w × RefusedWith why s) → ⊥
 one-refusal why all =
-    let x = all firstText in
+    let x = all firstText (record { book = firstBook; at = 4 ∷ 5 ∷ []; passes = record { short = omega arith; read = reads .0 } }) in
     let e = said-of ok-1-2-2 (x .2) in
     let f = x .3 .is in
     (let z : _≡_ {A = ℕ} 0 1 = cc (e, f) in omega arith)
 
-pub all-taken : ((text : List ℕ) → (s : Said) × (w : List ℕ) × Answered text s w × IsTaken s) → ⊥
+pub all-taken : ((text : List ℕ) → LinesPass text → (s : Said) × (w : List ℕ) × Answered text s w × IsTaken s) → ⊥
 all-taken all =
-    let x = all loopText in
+    let x = all loopText (record { book = loopBook; at = 4 ∷ 5 ∷ 6 ∷ []; passes = record { short = omega arith; read = reads .1 } }) in
     let e = said-of no-10-4 (x .2) in
     let f = x .3 .is in
     (let z : _≡_ {A = ℕ} 0 1 = cc (e, f) in omega arith)

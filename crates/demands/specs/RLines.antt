@@ -11,6 +11,7 @@ use Rattle.chains.specs.Spread.{Distinct}
 use Rattle.line.specs.declared.Line.{Line}
 use Rattle.line.specs.declared.Line.the-variants as line
 use Rattle.reading.specs.Reading.{meanings}
+use Rattle.record.specs.Limits.{busLimit, identifierLimit}
 
 -- "bus, identifier, bus, identifier: from place, to place"
 pub record RLine : Type 0 where
@@ -18,6 +19,18 @@ pub record RLine : Type 0 where
   pub identifier : ℕ
   pub to-bus : ℕ
   pub to-identifier : ℕ
+
+-- an R line whose buses and identifiers are within their limits
+pub record InLimits (l : RLine) : Type 0 where
+  pub on-bus : l .bus < busLimit
+  pub identified : l .identifier < identifierLimit
+  pub to-on-bus : l .to-bus < busLimit
+  pub to-identified : l .to-identifier < identifierLimit
+
+-- all of them are
+pub data AllInLimits : List RLine → Type 0 where
+  none : AllInLimits []
+  more : {l : RLine} {ls : List RLine} → InLimits l → AllInLimits ls → AllInLimits (l ∷ ls)
 
 -- the R lines of a text, in their order
 unfoldable pub rLinesIn : List Line → List RLine

@@ -14,7 +14,7 @@ module _ (ls : List RLine) (bus identifier : ℕ) (room : List ℕ) where
     pub fits : length places ≤ length room
 
   -- room for fewer
-  pub record TooLittleRoom : Type 0 where
+  pub record RoomForFewer : Type 0 where
     pub places : List ℕ
     pub lists : ListsPlaces ls bus identifier places
     pub short : length room < length places

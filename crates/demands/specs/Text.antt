@@ -2,7 +2,7 @@
 -- definitions.
 use mathlib.Core.Path.{_≡_}
 use Prim.Native.Nat.{ℕ, _+_, _≤_}
-use mathlib.Core.List.{List, [], _∷_}
+use mathlib.Core.List.{List, [], _∷_, map}
 use lib.ListN.{getD}
 use Rattle.record.specs.Place.{placeKey}
 use Rattle.line.specs.declared.Line.{Line}
@@ -10,6 +10,7 @@ use Rattle.line.specs.declared.Line.the-variants as line
 use Rattle.books.specs.Book.{Placement, Message, Route, placement, route}
 use Rattle.reading.specs.Reading.{meanings}
 use Rattle.reading.specs.Taken.{rLinesFrom}
+use Rattle.demands.specs.RLines.{RLine, rLinesIn}
 
 -- the signals of the S lines up to the next M line, in the order of the lines
 unfoldable pub sPlacements : List Line → List Placement
@@ -27,13 +28,13 @@ mMessages (line.Signal n s ∷ ls) = mMessages ls
 mMessages (line.Route a i b j ∷ ls) = mMessages ls
 mMessages (line.IllFormed ∷ ls) = mMessages ls
 
--- the routes that R lines say, in the order of the lines: each from the place of its first bus and identifier to that of its second
+-- the route that an R line says: from the place of its first bus and identifier to that of its second
+abbrev pub lineRoute : RLine → Route
+lineRoute l = route (l .bus) (l .identifier) (l .to-bus) (l .to-identifier)
+
+-- the routes that R lines say, in the order of the lines
 unfoldable pub rRoutes : List Line → List Route
-rRoutes [] = []
-rRoutes (line.Message i ∷ ls) = rRoutes ls
-rRoutes (line.Signal n s ∷ ls) = rRoutes ls
-rRoutes (line.Route a i b j ∷ ls) = route a i b j ∷ rRoutes ls
-rRoutes (line.IllFormed ∷ ls) = rRoutes ls
+rRoutes ls = map lineRoute (rLinesIn ls)
 
 -- the messages and the routes of a text
 abbrev pub textMessages : List ℕ → List Message

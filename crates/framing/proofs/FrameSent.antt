@@ -22,7 +22,7 @@ use Rattle.framing.specs.declared.Packing.the-variants.{Packed, NotABook
 use Rattle.framing.specs.Messages.{checksumNumber, checksumStart, checksumBits, placesChecksum}
 use Rattle.framing.specs.Packing.{judgedValues, packedFrame, packedOr}
 use Rattle.framing.specs.Putting.{allOnes, put, withChecksum, putFrame}
-use Rattle.framing.specs.Packed.{CarriesValues, Summed, Unplaced, IsPacked}
+use Rattle.framing.specs.Packed.{CarriesValues, HasChecksum, Unplaced, IsPacked}
 use Rattle.framing.proofs.WellPlaced.{WellPlaced}
 use Rattle.framing.proofs.Putting.{Accepted, accepted, accepted-many, Off, put-keeps, put-lt, Has, put-has}
 use Rattle.framing.proofs.Summing.{check-bits, clear, placed-there, summed-lt, summed-keeps, summed-sum, summed-has}
@@ -45,8 +45,8 @@ places-more p ps e = go (eqb checksumNumber (p .number)) (isIn checksumNumber (n
     go false b e = e
 
 -- where the field at 503's place is this sum, each placement of 503 has it
-pub sum-placed : (f : List ℕ) (sum : ℕ) {ps : List Placement} → WellPlaced ps → (placesChecksum ps ≡ true → countAt f checksumStart checksumBits ≡ sum) → Summed f sum ps
-unfolding Summed
+pub sum-placed : (f : List ℕ) (sum : ℕ) {ps : List Placement} → WellPlaced ps → (placesChecksum ps ≡ true → countAt f checksumStart checksumBits ≡ sum) → HasChecksum f sum ps
+unfolding HasChecksum
 sum-placed f sum WellPlaced.none h = tt
 sum-placed f sum (WellPlaced.more {p} {ps} sits b s) h = (
   λ e. ap (λ (k : ℕ). countAt f k (bitsOf (p .number))) (sits .check e) ∙ ap (countAt f checksumStart) (check-bits p e) ∙ h (placed-there p ps e),
@@ -76,25 +76,25 @@ unplaced-check k (WellPlaced.more {p} {ps} sits b s) u h = go (eqb checksumNumbe
     go false e h rest = rest h
 
 module _ (m : Message) (vs : List ℕ) (s : WellPlaced (m .placements)) (a : Accepted (m .placements) vs) where
-  abbrev Filled : ℕ
-  Filled = put allOnes (m .placements) vs
+  abbrev Carrying : ℕ
+  Carrying = put allOnes (m .placements) vs
 
   abbrev Whole : ℕ
-  Whole = withChecksum (m .identifier) (m .placements) Filled
+  Whole = withChecksum (m .identifier) (m .placements) Carrying
 
   whole-lt : Whole < 2 ^ frameBits
-  whole-lt = summed-lt (m .identifier) Filled (m .placements) (put-lt allOnes s a (lit< tt))
+  whole-lt = summed-lt (m .identifier) Carrying (m .placements) (put-lt allOnes s a (lit< tt))
 
   bit-one : (k : ℕ) → k < frameBits → Unplaced k (m .placements) → frameBit (bytesOf Whole) k ≡ 1
   bit-one k h u =
       bytes-bit Whole k whole-lt h
-      ∙ summed-keeps (m .identifier) Filled (m .placements) k 1 (unplaced-check k s u)
+      ∙ summed-keeps (m .identifier) Carrying (m .placements) k 1 (unplaced-check k s u)
       ∙ put-keeps allOnes k 1 a (unplaced-off k (m .placements) u)
       ∙ ones k 1 (omega arith)
 
   put-checksum : placesChecksum (m .placements) ≡ true → countAt (putFrame m vs) checksumStart checksumBits ≡ checksumOf (m .identifier) (putFrame m vs)
   unfolding putFrame
-  put-checksum e = read-bytes Whole checksumStart checksumBits whole-lt (lit≤ tt) ∙ summed-sum (m .identifier) Filled (m .placements) e
+  put-checksum e = read-bytes Whole checksumStart checksumBits whole-lt (lit≤ tt) ∙ summed-sum (m .identifier) Carrying (m .placements) e
 
   put-packed : IsPacked m vs (putFrame m vs)
   unfolding putFrame
@@ -102,7 +102,7 @@ module _ (m : Message) (vs : List ℕ) (s : WellPlaced (m .placements)) (a : Acc
       record {
         bytes = of-bytes Whole .many;
         small = of-bytes Whole .small;
-        counts = carries Whole whole-lt s (summed-has (m .identifier) Filled (m .placements) (clear s) (put-has allOnes s a));
+        counts = carries Whole whole-lt s (summed-has (m .identifier) Carrying (m .placements) (clear s) (put-has allOnes s a));
         checksum = sum-placed (bytesOf Whole) (checksumOf (m .identifier) (bytesOf Whole)) s put-checksum;
         ones = bit-one;
       }

@@ -17,7 +17,7 @@ use Rattle.books.specs.Lines.{frameBits}
 use Rattle.catalogue.specs.Find.{bitsOf}
 use Rattle.framing.specs.Messages.{checksumNumber, checksumStart, countOf}
 use Rattle.framing.specs.Packing.{bitSent, frameSent, packedFrame}
-use Rattle.framing.specs.Packed.{CarriesValues, Summed, Unplaced, IsPacked}
+use Rattle.framing.specs.Packed.{CarriesValues, HasChecksum, Unplaced, IsPacked}
 use Rattle.framing.proofs.WellPlaced.{Sits, WellPlaced}
 use Rattle.framing.proofs.FrameBits.{frame-same, sum-same, own-bits}
 
@@ -33,9 +33,9 @@ module _ (f : List ℕ) (F : Bytes frameBytes f) (sum k : ℕ) where
       ∙ sym (count-bit f (F .small) (p .start) (bitsOf (p .number)) j (s .fits .inside) (omega arith))
       ∙ ap (λ (n : ℕ). n / 2 ^ j % 2) e
 
-  bit-sent : {ps : List Placement} (vs : List ℕ) → WellPlaced ps → length vs ≡ length ps → CarriesValues f ps vs → Summed f sum ps → (Unplaced k ps → frameBit f k ≡ 1)
+  bit-sent : {ps : List Placement} (vs : List ℕ) → WellPlaced ps → length vs ≡ length ps → CarriesValues f ps vs → HasChecksum f sum ps → (Unplaced k ps → frameBit f k ≡ 1)
       → frameBit f k ≡ bitSent sum ps vs k
-  unfolding CarriesValues Summed Unplaced bitSent inRun
+  unfolding CarriesValues HasChecksum Unplaced bitSent inRun
   bit-sent vs WellPlaced.none n c d free = free tt
   bit-sent [] (WellPlaced.more s z r) n c d free = absurd (omega arith)
   bit-sent (v ∷ vs) (WellPlaced.more {p} {ps} s z r) n c d free =

@@ -18,7 +18,7 @@ use Rattle.framing.specs.declared.Packing.the-variants.{Packed}
 use Rattle.framing.specs.Messages.{checksumNumber, messageWith}
 use Rattle.framing.specs.Reading.{Slices, classCode, room, reading}
 use Rattle.framing.specs.Packing.{packing}
-use Rattle.framing.specs.Packed.{Summed, OnesElsewhere, IsPacked}
+use Rattle.framing.specs.Packed.{HasChecksum, OnesElsewhere, IsPacked}
 
 -- a frame is packed of these values: it carries them as the message with the identifier asks, and no other frame does
 pub record PackedBy (words : List ℕ) (identifier : ℕ) (vs frame : List ℕ) : Type 0 where
@@ -65,7 +65,7 @@ NoneBarred n out = (i : ℕ) → i < n → (getD (out .classes) i 0 ≡ reserved
 pub record Renewed (m : Message) (old new : List ℕ) : Type 0 where
   pub kept : (i : ℕ) → i < length (m .placements) → Counted m i → (j : ℕ) → j < bitsOf (placementAt m i .number)
       → frameBit new (placementAt m i .start + j) ≡ frameBit old (placementAt m i .start + j)
-  pub checksum : Summed new (checksumOf (m .identifier) new) (m .placements)
+  pub checksum : HasChecksum new (checksumOf (m .identifier) new) (m .placements)
   pub ones : OnesElsewhere m new
 
 -- a frame packs again from n counts that were read of it, into any lent frame of 8 bytes

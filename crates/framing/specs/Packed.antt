@@ -18,9 +18,9 @@ CarriesValues frame (p ∷ ps) [] = Unit
 CarriesValues frame (p ∷ ps) (v ∷ vs) = ((p .number ≡ checksumNumber → ⊥) → countOf frame p ≡ v) × CarriesValues frame ps vs
 
 -- each placement of 503 has this count in the frame
-unfoldable pub Summed : List ℕ → ℕ → List Placement → Type 0
-Summed frame sum [] = Unit
-Summed frame sum (p ∷ ps) = (p .number ≡ checksumNumber → countOf frame p ≡ sum) × Summed frame sum ps
+unfoldable pub HasChecksum : List ℕ → ℕ → List Placement → Type 0
+HasChecksum frame sum [] = Unit
+HasChecksum frame sum (p ∷ ps) = (p .number ≡ checksumNumber → countOf frame p ≡ sum) × HasChecksum frame sum ps
 
 -- frame bit k belongs to no placement
 unfoldable pub Unplaced : ℕ → List Placement → Type 0
@@ -36,5 +36,5 @@ pub record IsPacked (m : Message) (vs : List ℕ) (frame : List ℕ) : Type 0 wh
   pub bytes : length frame ≡ frameBytes
   pub small : (k : ℕ) → getD frame k 0 < 256
   pub counts : CarriesValues frame (m .placements) vs
-  pub checksum : Summed frame (checksumOf (m .identifier) frame) (m .placements)
+  pub checksum : HasChecksum frame (checksumOf (m .identifier) frame) (m .placements)
   pub ones : OnesElsewhere m frame

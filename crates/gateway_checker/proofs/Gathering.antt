@@ -13,7 +13,7 @@ use lib.Dec.{eqb}
 use borrow.Author.Tests.{eqb-true, eq-eqb}
 use Rattle.masks.specs.Bit.{width, bit, meeting}
 use Rattle.masks.proofs.Bits.{bit-zero, meeting-some}
-use Rattle.chains.specs.Tests.{Tells}
+use Rattle.chains.specs.Tells.{Tells}
 use Rattle.chains.proofs.Bools.{or-cases, or-left, or-right, test-tells}
 use Rattle.reach.specs.Led.{turn}
 use Rattle.gateway_checker.specs.Searches.{ForksEarlier}

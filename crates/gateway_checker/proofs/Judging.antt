@@ -7,7 +7,8 @@ use mathlib.Core.List.{List}
 use lib.ListN.{length}
 use Rattle.masks.specs.Bit.{bit}
 use Rattle.chains.specs.Chain.{LoopFree}
-use Rattle.chains.specs.Tests.{Tells, FirstPassing}
+use Rattle.chains.specs.Tells.{Tells}
+use Rattle.chains.specs.Tests.{FirstPassing}
 use Rattle.chains.proofs.Loops.{comesBack}
 use Rattle.chains.proofs.Tests.{begins}
 use Rattle.reach.specs.Led.{Numbers, Led}

@@ -13,7 +13,8 @@ use Rattle.masks.specs.Bit.{width, bit, meeting}
 use Rattle.masks.proofs.Bits.{bit-zero, meeting-some}
 use Rattle.masks.proofs.Told.{more-bits}
 use Rattle.chains.specs.Chain.{LeadsOn}
-use Rattle.chains.specs.Tests.{Tells, any, FirstPassing}
+use Rattle.chains.specs.Tells.{Tells}
+use Rattle.chains.specs.Tests.{any, FirstPassing}
 use Rattle.chains.proofs.Bools.{or-cases, or-left, or-right, same-test, told-yes, told-of, told-same}
 use Rattle.chains.proofs.Reach.{reach, reach-leads, leads-reach, reach-tells}
 use Rattle.chains.proofs.Walks.{walk-last}

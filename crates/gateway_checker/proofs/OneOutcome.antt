@@ -16,7 +16,7 @@ use denote.Ref.{RefT, now}
 use denote.Triple.Clauses.{AtExit}
 use Rattle.only.specs.Only.{Only}
 use Rattle.chains.specs.Chain.{IsSound}
-use Rattle.chains.specs.Tests.{Tells}
+use Rattle.chains.specs.Tells.{Tells}
 use Rattle.chains.proofs.Bools.{told-same}
 use Rattle.verdict.specs.Verdicts.{Judged}
 use Rattle.verdict.specs.declared.Verdict.{Verdict}

@@ -11,7 +11,7 @@ use lib.Dec.{eqb}
 use borrow.Author.Tests.{eqb-true, eq-eqb}
 use Rattle.masks.specs.Bit.{width, bit}
 use Rattle.masks.proofs.Bits.{bit-zero}
-use Rattle.chains.specs.Tests.{Tells}
+use Rattle.chains.specs.Tells.{Tells}
 use Rattle.chains.proofs.Bools.{or-cases, or-left, or-right, test-tells}
 use Rattle.gateway_checker.specs.Searches.{StartsAt}
 

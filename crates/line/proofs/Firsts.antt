@@ -10,22 +10,14 @@ use lib.Dec.{ltb}
 use lib.ListN.{length, take, drop, length-drop, drop-of-length-le}
 use lib.Seq.{drop-drop}
 use borrow.Author.Tests.{lt-ltb, le-ltb, ltb-true, ltb-false}
-use Rattle.parts.specs.Parts.{indexOf, TextLine, ended, unended, lines}
+use Rattle.parts.specs.Parts.{indexOf, ended, unended, lines}
 use Rattle.parts.proofs.LineEnds.{lines-none, lines-more, lines-last}
 use Rattle.parts.proofs.Seek.{indexOf-le}
 use Rattle.line.specs.declared.Line.the-variants.{IllFormed}
 use Rattle.line.specs.declared.ReadLine.{ReadLine}
 use Rattle.line.specs.Meaning.{lineMeaning, meaningOf}
-use Rattle.line.specs.LineAt.{readLine, firstLine, lineAt}
+use Rattle.line.specs.LineAt.{readLine, firstLine, lineAt, PassesLine}
 use Rattle.line.specs.First.{illFormed}
-
--- what is left of a text at a place is one line, which says what was read, and what is left at the next place
-pub record PassesLine (text : List ℕ) (at : ℕ) (r : ReadLine) : Type 0 where
-  pub first : TextLine
-  pub parted : lines (drop at text) ≡ first ∷ lines (drop (r .next) text)
-  pub says : r .line ≡ meaningOf first
-  pub further : at < r .next
-  pub within : r .next ≤ length text
 
 module _ (text : List ℕ) (at : ℕ) where
   pub passes-line : at < length text → PassesLine text at (lineAt text at)

@@ -15,12 +15,12 @@ use Rattle.parts.proofs.Joins.{index-after}
 use Rattle.line.specs.declared.Line.{Line}
 use Rattle.line.specs.declared.Line.the-variants.{IllFormed}
 use Rattle.line.specs.Meaning.{lineMeaning}
-use Rattle.line.specs.Written.{lineText, Writable}
+use Rattle.line.specs.Written.{lineText, Writable, Canonical}
 use Rattle.line.specs.declared.ReadLine.{ReadLine}
 use Rattle.line.specs.LineAt.{readLine, firstLine}
 use Rattle.line.specs.First.{illFormed}
 use Rattle.line.proofs.ReadBack.{read-back, text-free}
-use Rattle.line.proofs.Canonical.{Canonical, canonical}
+use Rattle.line.proofs.Canonical.{canonical}
 
 pub record Starts (text : List ℕ) (l : Line) (rest : List ℕ) : Type 0 where
   pub writable : Writable l

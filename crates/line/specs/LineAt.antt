@@ -1,15 +1,16 @@
 -- "Lines end with a newline": the line that begins at a place of a text, and where the next one begins. Assumes nothing: these are
 -- definitions.
-use Prim.Native.Nat.{ℕ, _+_}
+use Prim.Native.Nat.{ℕ, _+_, _≤_, _<_}
 use mathlib.Core.Bool.{cond}
-use mathlib.Core.List.{List}
+use mathlib.Core.List.{List, _∷_}
 use lib.Dec.{ltb}
 use lib.ListN.{length, take, drop}
-use Rattle.parts.specs.Parts.{newline, indexOf}
+use Rattle.parts.specs.Parts.{newline, indexOf, TextLine, lines}
 use Rattle.line.specs.declared.Line.{Line}
 use Rattle.line.specs.declared.Line.the-variants.{IllFormed}
 use Rattle.line.specs.declared.ReadLine.{ReadLine}
-use Rattle.line.specs.Meaning.{lineMeaning}
+use Rattle.line.specs.Meaning.{lineMeaning, meaningOf}
+use mathlib.Core.Path.{_≡_}
 
 -- a line that says this, and where the next one begins
 abbrev pub readLine : Line → ℕ → ReadLine
@@ -26,3 +27,11 @@ firstLine text =
 -- place stays
 unfoldable pub lineAt : List ℕ → ℕ → ReadLine
 lineAt text place = readLine (firstLine (drop place text) .line) (place + firstLine (drop place text) .next)
+
+-- what is left of a text at a place is one line, which says what was read, and what is left at the next place
+pub record PassesLine (text : List ℕ) (at : ℕ) (r : ReadLine) : Type 0 where
+  pub first : TextLine
+  pub parted : lines (drop at text) ≡ first ∷ lines (drop (r .next) text)
+  pub says : r .line ≡ meaningOf first
+  pub further : at < r .next
+  pub within : r .next ≤ length text

@@ -7,6 +7,7 @@ use Rattle.parts.specs.Joined.{join}
 use Rattle.line.specs.declared.Line.{Line}
 use Rattle.line.specs.declared.Line.the-variants.{Message, Signal, Route, IllFormed}
 use Rattle.line.specs.Meaning.{letterM, letterS, letterR}
+use mathlib.Core.Path.{_≡_}
 
 -- the fields of a line: its kind, and its numbers
 unfoldable pub fieldsOf : Line → List (List ℕ)
@@ -27,3 +28,8 @@ Writable (Signal n s) = (n < decimalLimit) × (s < decimalLimit)
 Writable (Route a i b j) =
     ((a < decimalLimit) × (i < hexadecimalLimit)) × ((b < decimalLimit) × (j < hexadecimalLimit))
 Writable IllFormed = ⊥
+
+-- what a well formed line says can be written, and the line is that text
+pub record Canonical (l : List ℕ) (m : Line) : Type 0 where
+  pub writable : Writable m
+  pub text : l ≡ lineText m

@@ -9,8 +9,8 @@ use Rattle.parts.specs.Parts.{TextLine, lines}
 use Rattle.line.specs.declared.Line.{Line}
 use Rattle.line.specs.declared.Line.the-variants.{IllFormed}
 use Rattle.line.specs.Meaning.{meaningOf}
-use Rattle.line.specs.LineAt.{readLine, lineAt}
-use Rattle.line.proofs.Firsts.{PassesLine, passes-line, no-line}
+use Rattle.line.specs.LineAt.{readLine, lineAt, PassesLine}
+use Rattle.line.proofs.Firsts.{passes-line, no-line}
 use Rattle.line_reader.specs.declared.LineReader.{LineReader}
 use Rattle.line_reader.specs.Reader.{readerAt, nextLine}
 

@@ -10,7 +10,7 @@ use lib.ListN.{length, getD}
 use borrow.Author.Tests.{eq-eqb, ne-eqb, lt-ltb, le-ltb, ltb-true, ltb-false}
 use Rattle.numerals.specs.declared.Number.the-variants.{Is, Not}
 use Rattle.numerals.specs.Numeral.{numeralFrom, needlessZero, decimalDigits, decimal}
-use Rattle.numerals.specs.Written.{digitByte, digitsOf, decimalWidth, decimalLimit, decimalText}
+use Rattle.numerals.specs.Written.{digitByte, digitsOf, decimalWidth, decimalLimit, decimalText, DecimalWritten}
 use Rattle.numerals.proofs.Digits.{length-digits, numeral-read, NumeralText, numeral-written}
 
 -- n has k + 1 decimal digits: it is below the next power, and not below its own unless it has one digit
@@ -43,7 +43,7 @@ pub record Some (n : ℕ) : Type 0 where
   pub k : ℕ
   pub wide : Wide n k
 
-some-width : (n : ℕ) → n < decimalLimit → Some n
+pub some-width : (n : ℕ) → n < decimalLimit → Some n
 some-width n h = go (ltb n 10) (ltb n 100) (ltb n 1000) (ltb n 10000) refl refl refl refl
   where
     go : (a b c d : Bool) → ltb n 10 ≡ a → ltb n 100 ≡ b → ltb n 1000 ≡ c → ltb n 10000 ≡ d → Some n
@@ -92,11 +92,6 @@ not-less b t n z e h = go (ltb n (10 ^ length t)) refl
         let y : true ≡ false = sym (rw (lt-ltb _ _ o, eq-eqb _ _ f)) ∙ z in
         absurd (let x : _≡_ {A = ℕ} 0 1 = cc in omega arith)
     go false q = ltb-false _ _ q
-
--- what is read as n is what is written for n
-pub record DecimalWritten (l : List ℕ) (n : ℕ) : Type 0 where
-  pub small : n < decimalLimit
-  pub text : l ≡ decimalText n
 
 of-wide : (l : List ℕ) (n k : ℕ) → Wide n k → l ≡ digitsOf 10 (suc k) n → DecimalWritten l n
 unfolding decimalText

@@ -9,7 +9,7 @@ use lib.ListN.{length}
 use borrow.Author.Tests.{eq-eqb, eqb-true}
 use Rattle.numerals.specs.declared.Number.the-variants.{Is, Not}
 use Rattle.numerals.specs.Numeral.{numeralFrom, identifier}
-use Rattle.numerals.specs.Written.{hexadecimalLimit, identifierText}
+use Rattle.numerals.specs.Written.{hexadecimalLimit, identifierText, IdentifierWritten}
 use Rattle.numerals.proofs.Digits.{length-digits, numeral-read, NumeralText, numeral-written}
 
 pub length-identifier : (n : ℕ) → length (identifierText n) ≡ 8
@@ -19,11 +19,6 @@ length-identifier n = length-digits 16 8 n
 pub identifier-read : (n : ℕ) → n < hexadecimalLimit → identifier (identifierText n) ≡ Is n
 unfolding identifier identifierText
 identifier-read n h = rw (eq-eqb _ _ (length-digits 16 8 n)) (numeral-read 16 (omega arith) (omega arith) 8 n h)
-
--- what is read as n is what is written for n
-pub record IdentifierWritten (l : List ℕ) (n : ℕ) : Type 0 where
-  pub small : n < hexadecimalLimit
-  pub text : l ≡ identifierText n
 
 pub identifier-written : (l : List ℕ) (n : ℕ) → identifier l ≡ Is n → IdentifierWritten l n
 unfolding identifier identifierText

@@ -1,9 +1,10 @@
 -- The numbers of a route book as they are written: the one text that is read as each. Assumes nothing.
-use Prim.Native.Nat.{ℕ, zero, suc, _+_, _/_, _%_, _^_}
+use Prim.Native.Nat.{ℕ, zero, suc, _+_, _/_, _%_, _^_, _<_}
 use mathlib.Core.Bool.{cond}
 use mathlib.Core.List.{List, [], _∷_}
 use lib.Dec.{ltb}
 use Rattle.numerals.specs.Numeral.{identifierDigits}
+use mathlib.Core.Path.{_≡_}
 
 -- the byte of a digit below 16
 unfoldable pub digitByte : ℕ → ℕ
@@ -33,3 +34,13 @@ decimalLimit = 100000
 -- another number: its decimal digits, none needless
 unfoldable pub decimalText : ℕ → List ℕ
 decimalText n = digitsOf 10 (decimalWidth n) n
+
+-- what is read as n is what is written for n
+pub record DecimalWritten (l : List ℕ) (n : ℕ) : Type 0 where
+  pub small : n < decimalLimit
+  pub text : l ≡ decimalText n
+
+-- what is read as n is what is written for n
+pub record IdentifierWritten (l : List ℕ) (n : ℕ) : Type 0 where
+  pub small : n < hexadecimalLimit
+  pub text : l ≡ identifierText n

@@ -12,22 +12,10 @@ use Rattle.power.specs.declared.State.the-variants.{Off, Rising, Prechar
 use Rattle.power.specs.Observed.{allOpen, commanded, urgent}
 use Rattle.power.specs.Pictures.{picture}
 use Rattle.power.specs.States.{stateNumber, sameState}
-use Rattle.power.specs.Rules.{PowerStep, rule3, rule4, steps, firstStep, byRules, nextState}
+use Rattle.power.specs.Rules.{PowerStep, rule3, rule4, steps, firstStep, byRules, nextState, ByStep, Leads}
 use Rattle.power.specs.Refusals.{powerRefusal, stepOf}
 use Rattle.power.proofs.Numbers.{number-tells}
 use Rattle.power.proofs.Answers.{kept-or-next}
-
--- a step of the list leads from the state to the next, its picture shows and its condition holds
-pub record ByStep (list : List PowerStep) (state : State) (seen : Observation) (next : State) : Type 0 where
-  pub step : PowerStep
-  pub listed : List·Memᴰ step list
-  pub from : step .from ≡ state
-  pub to : step .to ≡ next
-  pub shown : picture (step .to) seen ≡ true
-  pub allowed : step .when seen ≡ true
-
-abbrev pub Leads : State → Observation → State → Type 0
-Leads state seen next = (next ≡ state) ⊎ ((next ≡ Off) ⊎ ((next ≡ Fault) ⊎ ByStep steps state seen next))
 
 first-step : (list : List PowerStep) (state : State) (seen : Observation) → (firstStep list state seen ≡ Fault) ⊎ ByStep list state seen (firstStep list state seen)
 unfolding firstStep

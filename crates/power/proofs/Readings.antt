@@ -10,20 +10,15 @@ use lib.Dec.{leb, ltb}
 use lib.IntN.{ℤ, pos, _+ℤ_}
 use Rattle.rows.specs.declared.Row.{Row}
 use Rattle.catalogue.specs.declared.Raw.{Raw}
-use Rattle.catalogue.specs.declared.Class.{Class}
 use Rattle.catalogue.specs.declared.Class.the-variants.{Value, Invalid, TooWide}
 use Rattle.rows.specs.Rows.{rows, row, plus, minus, invalid, unmarked}
 use Rattle.catalogue.specs.Find.{rowOf}
 use Rattle.catalogue.specs.Class.{classOf, classFor, between}
-use Rattle.power.specs.Observed.{highestReading, invalidVoltage, valid}
+use Rattle.power.specs.Observed.{highestReading, invalidVoltage, measuredClass}
 
 -- the rows of the three but for number and offset: 16 bits of 0.1 V or 0.1 A each, and 65,535 the mark invalid
 abbrev measured : ℕ → ℤ → Row
 measured n offset = row n 16 100 offset 0 highestReading (invalid invalidVoltage invalidVoltage) unmarked unmarked
-
--- what a count of such a signal stands for
-abbrev pub measuredClass : ℤ → Raw → Class
-measuredClass offset raw = cond (valid raw) (Value (record { 0 = pos (raw .0 * 100) +ℤ offset })) (cond (leb 65536 (raw .0)) TooWide (Invalid raw))
 
 no-mark : (raw : ℕ) → leb 1 raw && leb raw 0 ≡ false
 no-mark raw = go (leb 1 raw) refl

@@ -1,9 +1,12 @@
 -- What an observation says. Assumes nothing.
 use Prim.Native.Nat.{ℕ, _*_}
-use mathlib.Core.Bool.{Bool, _&&_, _||_}
+use mathlib.Core.Bool.{Bool, _&&_, _||_, cond}
 use lib.Dec.{eqb, leb, ltb}
 use Rattle.catalogue.specs.declared.Raw.{Raw}
 use Rattle.power.specs.declared.Observation.{Observation}
+use lib.IntN.{ℤ, pos, _+ℤ_}
+use Rattle.catalogue.specs.declared.Class.{Class}
+use Rattle.catalogue.specs.declared.Class.the-variants.{Value, Invalid, TooWide}
 
 -- "relay counts .. (1 open, 2 closed)"
 abbrev pub openRelay : ℕ
@@ -54,3 +57,7 @@ prechargeComplete inside outside = valid inside && valid outside && ltb 0 (insid
 -- "current raw 19,901 to 20,099 (under 10 A either way)"
 abbrev pub under10A : Raw → Bool
 under10A current = leb 19901 (current .0) && leb (current .0) 20099
+
+-- what a count of such a signal stands for
+abbrev pub measuredClass : ℤ → Raw → Class
+measuredClass offset raw = cond (valid raw) (Value (record { 0 = pos (raw .0 * 100) +ℤ offset })) (cond (leb 65536 (raw .0)) TooWide (Invalid raw))

@@ -1,12 +1,14 @@
 -- Document 01's rules of the power monitor: where it starts, and the state that follows an observation. Assumes nothing.
 use mathlib.Core.Bool.{Bool, true, cond, _&&_, _||_}
-use mathlib.Core.List.{List, [], _∷_, _++_}
+use mathlib.Core.List.{List, [], _∷_, _++_, List·Memᴰ}
 use Rattle.power.specs.declared.Observation.{Observation}
 use Rattle.power.specs.declared.State.{State}
 use Rattle.power.specs.declared.State.the-variants.{Off, Rising, Precharge, Both, On, Falling, Fault}
 use Rattle.power.specs.Observed.{allOpen, commanded, urgent, prechargeComplete, under10A}
 use Rattle.power.specs.Pictures.{picture}
 use Rattle.power.specs.States.{sameState}
+use mathlib.Core.Path.{_≡_}
+use mathlib.Core.Logic.{_⊎_}
 
 -- "A monitor starts off"
 abbrev pub startsAs : State
@@ -68,3 +70,15 @@ nextState Both = byRules Both
 nextState On = byRules On
 nextState Falling = byRules Falling
 nextState Fault = fromFault
+
+-- a step of the list leads from the state to the next, its picture shows and its condition holds
+pub record ByStep (list : List PowerStep) (state : State) (seen : Observation) (next : State) : Type 0 where
+  pub step : PowerStep
+  pub listed : List·Memᴰ step list
+  pub from : step .from ≡ state
+  pub to : step .to ≡ next
+  pub shown : picture (step .to) seen ≡ true
+  pub allowed : step .when seen ≡ true
+
+abbrev pub Leads : State → Observation → State → Type 0
+Leads state seen next = (next ≡ state) ⊎ ((next ≡ Off) ⊎ ((next ≡ Fault) ⊎ ByStep steps state seen next))

@@ -14,7 +14,7 @@ use Rattle.zeros.proofs.Gathering.{zero-at}
 use Rattle.masks.specs.Bit.{bit}
 use Rattle.masks.proofs.Bits.{bit-zero}
 use Rattle.chains.specs.Chain.{Walk, LeadsOn}
-use Rattle.chains.specs.Tests.{Tells}
+use Rattle.chains.specs.Tells.{Tells}
 use Rattle.chains.proofs.Bools.{or-cases, or-left, or-right, test-tells}
 use Rattle.reach.specs.Led.{Led, OnwardFilled}
 use Rattle.reach.specs.Handing.{Real, Settled}

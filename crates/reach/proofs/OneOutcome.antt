@@ -22,7 +22,7 @@ use Rattle.masks.specs.Bit.{width, bit}
 use Rattle.masks.proofs.Told.{same-bits}
 use Rattle.masks.proofs.Made.{maskOf, mask-passes, passes-mask}
 use Rattle.chains.specs.Chain.{LeadsOn}
-use Rattle.chains.specs.Tests.{Tells}
+use Rattle.chains.specs.Tells.{Tells}
 use Rattle.chains.proofs.Bools.{told-same, test-tells}
 use Rattle.chains.proofs.Walks.{walk-last}
 use Rattle.chains.proofs.Reach.{reach, reach-leads, leads-reach}

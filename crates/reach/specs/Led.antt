@@ -8,7 +8,7 @@ use mathlib.Core.List.{List}
 use lib.ListN.{length, getD}
 use Rattle.masks.specs.Bit.{width, bit}
 use Rattle.chains.specs.Chain.{LeadsOn}
-use Rattle.chains.specs.Tests.{Tells}
+use Rattle.chains.specs.Tells.{Tells}
 
 -- numbers where routes start: of at most 64 routes, and as each route has two places, every number is below twice that
 pub record Starts (starts : List ℕ) : Type 0 where

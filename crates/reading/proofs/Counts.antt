@@ -1,6 +1,6 @@
 -- What lines that pass are counted to: the book's counts are counts of lines, and the line numbers kept are those of the R lines. Assumes nothing.
 use mathlib.Core.Path.{_≡_, ap, _∙_}
-use Prim.Native.Nat.{ℕ, suc, _+_, _≤_, _<_}
+use Prim.Native.Nat.{ℕ, suc, _+_, _<_}
 use native.Mathlib.Omega.{arith}
 use native.Mathlib.Nat.{add-suc, pos-of-ne-zero}
 use mathlib.Core.Bool.{_||_}
@@ -18,20 +18,13 @@ use Rattle.books.proofs.Tests.{not-refused, both-false}
 use Rattle.books.proofs.Ends.{count-last, length-more, one-more}
 use Rattle.books.proofs.Building.{signal-taken}
 use Rattle.reading.specs.Reading.{passed, refusalOf, withLine, numberedWith, readFrom, meanings, linesRead}
-use Rattle.reading.specs.Written.{Places, no-route, route}
-use Rattle.reading.specs.Taken.{mLines, sLines, rLinesFrom}
+use Rattle.reading.specs.Written.{BetweenPlaces, no-route, route, Routed}
+use Rattle.reading.specs.Taken.{mLines, sLines, rLinesFrom, CountedOn}
 use Rattle.reading.proofs.Passing.{went, same-book, text-kept}
-
--- what is counted of a book that lines give after the book b: each count grows by the lines of its kind
-pub record Counted (n : ℕ) (b : Book) (at : List ℕ) (ls : List Line) (c : Book) (to : List ℕ) : Type 0 where
-  pub messages : length (c .messages) ≡ length (b .messages) + mLines ls
-  pub signals : length (allPlacements (c .messages)) ≡ length (allPlacements (b .messages)) + sLines ls
-  pub routes : length (c .routes) ≡ length (b .routes) + length (rLinesFrom n ls)
-  pub numbers : to ≡ at ++ rLinesFrom n ls
 
 -- what follows a line is counted on from it
 module _ (n : ℕ) (b : Book) (at : List ℕ) (ls : List Line) {c : Book} {to : List ℕ} where
-  after : (l : Line) → refusalOf b l ≡ 0 → Counted (suc n) (withLine b l) (numberedWith at n l) ls c to → Counted n b at (l ∷ ls) c to
+  after : (l : Line) → refusalOf b l ≡ 0 → CountedOn (suc n) (withLine b l) (numberedWith at n l) ls c to → CountedOn n b at (l ∷ ls) c to
   unfolding refusalOf withLine numberedWith mLines sLines rLinesFrom
   after (line.Message i) e k = record {
     messages = omega (arith, k .messages, length-more (b .messages) (fresh i), add-suc (length (b .messages)) (mLines ls));
@@ -56,7 +49,7 @@ module _ (n : ℕ) (b : Book) (at : List ℕ) (ls : List Line) {c : Book} {to : 
   }
   after line.IllFormed e k = let z : _≡_ {A = ℕ} 2 0 = e in absurd (omega arith)
 
-pub counted : (n : ℕ) (b : Book) (at : List ℕ) (ls : List Line) {c : Book} {to : List ℕ} → readFrom n b at ls ≡ passed c to → Counted n b at ls c to
+pub counted : (n : ℕ) (b : Book) (at : List ℕ) (ls : List Line) {c : Book} {to : List ℕ} → readFrom n b at ls ≡ passed c to → CountedOn n b at ls c to
 unfolding readFrom mLines sLines rLinesFrom
 counted n b at [] e =
     let f = same-book e in
@@ -70,12 +63,7 @@ counted n b at (l ∷ ls) e =
     let w = went (refusalOf b l) n (readFrom (suc n) (withLine b l) (numberedWith at n l) ls) e in
     after n b at ls l (w .taken) (counted (suc n) (withLine b l) (numberedWith at n l) ls (w .after))
 
--- the routes of lines that pass: few enough, and their places are places
-pub record Routed (rs : List Route) : Type 0 where
-  pub few : length rs ≤ routeLimit
-  pub places : Places rs
-
-places-more : {rs : List Route} (r : Route) → Places rs → r .from < placeLimit → r .to < placeLimit → Places (rs ++ (r ∷ []))
+places-more : {rs : List Route} (r : Route) → BetweenPlaces rs → r .from < placeLimit → r .to < placeLimit → BetweenPlaces (rs ++ (r ∷ []))
 places-more r no-route f t = route f t no-route
 places-more r (route g u p) f t = route g u (places-more r p f t)
 
@@ -102,7 +90,7 @@ routed-with b (line.Route x i y j) h e = routed-route (b .routes) x i y j h e
 routed-with b line.IllFormed h e = h
 
 -- of a text
-pub text-counted : (text : List ℕ) {c : Book} {to : List ℕ} → linesRead text ≡ passed c to → Counted 1 noBook [] (meanings text) c to
+pub text-counted : (text : List ℕ) {c : Book} {to : List ℕ} → linesRead text ≡ passed c to → CountedOn 1 noBook [] (meanings text) c to
 unfolding linesRead
 text-counted text e = counted 1 noBook [] (meanings text) e
 

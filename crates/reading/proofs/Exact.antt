@@ -5,19 +5,19 @@ use native.Mathlib.Omega.{arith}
 use mathlib.Core.Bool.{true}
 use mathlib.Core.List.{List, [], _∷_}
 use Rattle.chains.specs.Chain.{Chain}
-use Rattle.books.specs.Book.{Book, Route}
+use Rattle.books.specs.Book.{Book}
 use Rattle.books.specs.Built.{Built, none}
-use Rattle.books.specs.Words.{messagesTaken, messagesOf, RoutesStand}
+use Rattle.books.specs.Words.{messagesTaken, messagesOf}
 use Rattle.books.proofs.Building.{good-built, built-good}
 use Rattle.books.proofs.Columns.{taken-stands, stands-taken}
-use Rattle.reading.specs.Written.{bookText, no-route}
-use Rattle.reading.specs.Taken.{Sound, TakenWith, MessagesFrom, RoutesFrom}
+use Rattle.reading.specs.Written.{bookText, no-route, Routed}
+use Rattle.reading.specs.Taken.{SoundRoutes, TakenWith, MessagesFrom, RoutesFrom, RoutesIn}
 use Rattle.reading.proofs.Passing.{read-built}
 use Rattle.reading.proofs.Texts.{text-read, text-short}
-use Rattle.reading.proofs.Counts.{Routed, text-routed}
+use Rattle.reading.proofs.Counts.{text-routed}
 
 -- a book that lines build, with sound routes, is that of a taken text: its own
-pub has-text : (b : Book) → Built (b .messages) → Routed (b .routes) → Sound (b .routes) → TakenWith (bookText b) b
+pub has-text : (b : Book) → Built (b .messages) → Routed (b .routes) → SoundRoutes (b .routes) → TakenWith (bookText b) b
 has-text b h r s = record {
   short = text-short b h (r .places) (r .few);
   at = _;
@@ -29,7 +29,7 @@ no-chain : (p q : ℕ) (c : List ℕ) → Chain [] [] p c q → ⊥
 no-chain p q [] h = h
 no-chain p q (i ∷ c) h = let z : i < 0 = h .0 in omega arith
 
-pub no-routes-sound : Sound []
+pub no-routes-sound : SoundRoutes []
 no-routes-sound = record { loop-free = λ p c h. no-chain p p c h; single = λ p q c d h. no-chain p q c (h .one) }
 
 pub from-messages : (w : List ℕ) → messagesTaken w ≡ true → MessagesFrom w
@@ -45,13 +45,6 @@ from-messages w e =
 
 pub messages-from : (w : List ℕ) → MessagesFrom w → messagesTaken w ≡ true
 messages-from w m = stands-taken w (m .book .messages) (m .stand) (built-good (read-built (m .text) (m .taken .read)))
-
--- routes that stand in the words, few enough, between places, and sound
-pub record RoutesIn (w : List ℕ) : Type 0 where
-  pub routes : List Route
-  pub routed : Routed routes
-  pub sound : Sound routes
-  pub stand : RoutesStand w routes
 
 pub from-routes : (w : List ℕ) → RoutesIn w → RoutesFrom w
 from-routes w r =

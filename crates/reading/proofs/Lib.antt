@@ -4,3 +4,4 @@ pub mod Writes
 pub mod Texts
 pub mod Counts
 pub mod Exact
+pub mod Bytes

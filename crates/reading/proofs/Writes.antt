@@ -15,7 +15,7 @@ use Rattle.books.proofs.Tests.{not-refused, no-refusal, nor}
 use Rattle.books.specs.Built.{Built, none, message, signal}
 use Rattle.books.proofs.Ends.{map-append, in-last, Last, last}
 use Rattle.reading.specs.Reading.{passed, refusalOf, withLine, numberedWith, readFrom}
-use Rattle.reading.specs.Written.{signalLine, routeLine, messageLines, bookLines, Places, route, countUp}
+use Rattle.reading.specs.Written.{signalLine, routeLine, messageLines, bookLines, BetweenPlaces, route, countUp}
 use Rattle.reading.proofs.Passing.{goes-on, read-append}
 
 lines-append : (ms ns : List Message) → messageLines (ms ++ ns) ≡ messageLines ms ++ messageLines ns
@@ -85,7 +85,7 @@ route-back r f t =
 abbrev withRoutes : List Message → List Route → Book
 withRoutes ms rs = record { messages = ms; routes = rs }
 
-routes-read : (n : ℕ) (ms : List Message) (before : List Route) (at : List ℕ) (rs : List Route) → Places rs → length before + length rs ≤ routeLimit
+routes-read : (n : ℕ) (ms : List Message) (before : List Route) (at : List ℕ) (rs : List Route) → BetweenPlaces rs → length before + length rs ≤ routeLimit
     → readFrom n (withRoutes ms before) at (map routeLine rs) ≡ passed (withRoutes ms (before ++ rs)) (at ++ countUp n (length rs))
 unfolding readFrom refusalOf withLine numberedWith countUp
 routes-read n ms before at [] p h = let a = append-nil before in let b = append-nil at in (cc)
@@ -98,7 +98,7 @@ routes-read n ms before at (r ∷ rs) (route f t p) h =
     (cc)
 
 -- the lines of a book whose messages are built line by line and whose routes are few enough
-pub book-read : (b : Book) → Built (b .messages) → Places (b .routes) → length (b .routes) ≤ routeLimit
+pub book-read : (b : Book) → Built (b .messages) → BetweenPlaces (b .routes) → length (b .routes) ≤ routeLimit
     → readFrom 1 noBook [] (bookLines b) ≡ passed b (countUp (1 + length (messageLines (b .messages))) (length (b .routes)))
 unfolding bookLines
 book-read b h p l =

@@ -1,5 +1,5 @@
 -- The text of a book: each M line with its S lines, in book order, then the R lines in book order. Assumes nothing: these are definitions.
-use Prim.Native.Nat.{ℕ, zero, suc, _<_, _/_, _%_}
+use Prim.Native.Nat.{ℕ, zero, suc, _<_, _/_, _%_, _≤_}
 use mathlib.Core.List.{List, [], _∷_, _++_, map}
 use Rattle.record.specs.Limits.{identifierLimit}
 use Rattle.record.specs.Place.{placeLimit}
@@ -8,6 +8,8 @@ use Rattle.line.specs.Written.{lineText}
 use Rattle.line.specs.declared.Line.{Line}
 use Rattle.line.specs.declared.Line.the-variants as line
 use Rattle.books.specs.Book.{Book, Message, Placement, Route}
+use lib.ListN.{length}
+use Rattle.books.specs.Lines.{routeLimit}
 
 abbrev pub signalLine : Placement → Line
 signalLine p = line.Signal (p .number) (p .start)
@@ -28,11 +30,16 @@ unfoldable pub bookText : Book → List ℕ
 bookText b = textOfLines (map lineText (bookLines b))
 
 -- the places of routes are places: each has a bus and an identifier within their limits
-pub data Places : List Route → Type 0 where
-  no-route : Places []
-  route : {r : Route} {rs : List Route} → r .from < placeLimit → r .to < placeLimit → Places rs → Places (r ∷ rs)
+pub data BetweenPlaces : List Route → Type 0 where
+  no-route : BetweenPlaces []
+  route : {r : Route} {rs : List Route} → r .from < placeLimit → r .to < placeLimit → BetweenPlaces rs → BetweenPlaces (r ∷ rs)
 
 -- the line numbers of k lines from n on
 unfoldable pub countUp : ℕ → ℕ → List ℕ
 countUp n zero = []
 countUp n (suc k) = n ∷ countUp (suc n) k
+
+-- the routes of lines that pass: few enough, and their places are places
+pub record Routed (rs : List Route) : Type 0 where
+  pub few : length rs ≤ routeLimit
+  pub places : BetweenPlaces rs

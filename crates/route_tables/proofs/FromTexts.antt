@@ -12,9 +12,8 @@ use Rattle.record.specs.Columns.{fromsAt, tosAt, routeCountOf, fromsOf, tosOf, 
 use Rattle.books.specs.Book.{Route}
 use Rattle.books.specs.Words.{RoutesStand, routesSideBySide, routesOf}
 use Rattle.books.proofs.RouteColumns.{shows-routes}
-use Rattle.reading.specs.Written.{Places, no-route, route}
-use Rattle.reading.specs.Taken.{Sound, RoutesFrom}
-use Rattle.reading.proofs.Counts.{Routed}
+use Rattle.reading.specs.Written.{BetweenPlaces, no-route, route, Routed}
+use Rattle.reading.specs.Taken.{SoundRoutes, RoutesFrom}
 use Rattle.reading.proofs.Exact.{from-routes, routes-from}
 use Rattle.route_tables.specs.Tables.{RoutesTaken}
 use Rattle.route_tables.proofs.Shown.{few-shown}
@@ -23,7 +22,7 @@ use Rattle.route_tables.proofs.Shown.{few-shown}
 Small : List ℕ → Type 0
 Small l = (k : ℕ) → getD l k 0 < placeLimit
 
-side-places : (fs ts : List ℕ) → Small fs → Small ts → Places (routesSideBySide fs ts)
+side-places : (fs ts : List ℕ) → Small fs → Small ts → BetweenPlaces (routesSideBySide fs ts)
 unfolding routesSideBySide Small
 side-places [] ts a b = no-route
 side-places (f ∷ fs) [] a b = no-route
@@ -56,10 +55,10 @@ pub routes-from-text : (w : List ℕ) → IsRecord w → RoutesTaken w → Route
 routes-from-text w r t = from-routes w (record { routes = routesOf w; routed = routed-shown w r; sound = t .sound; stand = t .stand })
 
 -- sound routes that stand in the words
-pub stand-taken : (w : List ℕ) {rs : List Route} → Routed rs → RoutesStand w rs → Sound rs → RoutesTaken w
+pub stand-taken : (w : List ℕ) {rs : List Route} → Routed rs → RoutesStand w rs → SoundRoutes rs → RoutesTaken w
 stand-taken w {rs} few s h =
     let e = shows-routes w rs (few .few) s in
-    record { stand = subst (RoutesStand w) (sym e) s; sound = subst Sound (sym e) h }
+    record { stand = subst (RoutesStand w) (sym e) s; sound = subst SoundRoutes (sym e) h }
 
 pub text-to-routes : (w : List ℕ) → RoutesFrom w → RoutesTaken w
 text-to-routes w f = let i = routes-from w f in stand-taken w (i .routed) (i .stand) (i .sound)

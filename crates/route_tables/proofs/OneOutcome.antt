@@ -16,7 +16,7 @@ use denote.Ref.{RefT, now, at-last}
 use denote.Triple.Clauses.{AtExit}
 use Rattle.only.specs.Only.{Only, only-this}
 use Rattle.books.specs.Words.{froms, tos, routesOf}
-use Rattle.chains.specs.Tests.{Tells}
+use Rattle.chains.specs.Tells.{Tells}
 use Rattle.chains.proofs.Bools.{told-same}
 use Rattle.route_tables.specs.Tables.{RoutesTaken}
 use Rattle.route_tables.proofs.Decided.{taken-or-not}

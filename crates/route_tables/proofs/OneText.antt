@@ -53,9 +53,11 @@ of-taken-text w r m t =
     let b : Book = record { messages = messagesOf w; routes = routesOf w } in
     record {
       text = bookText b;
-      book = b;
-      taken = has-text b (good-built (messagesOf w) (s .1)) (routed-shown w r) (t .sound);
-      words = stand-words w b r (s .0) (t .stand);
+      left = record {
+        book = b;
+        taken = has-text b (good-built (messagesOf w) (s .1)) (routed-shown w r) (t .sound);
+        words = stand-words w b r (s .0) (t .stand);
+      };
     }
 
 -- and the words of a taken text pass both

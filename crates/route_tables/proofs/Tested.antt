@@ -10,7 +10,7 @@ use Rattle.record.specs.Columns.{routeCountOf, fromsOf, tosOf}
 use Rattle.zeros.specs.Zeros.{zeros}
 use Rattle.zeros.proofs.Gathering.{zeros-are, are-zeros}
 use Rattle.chains.specs.Chain.{IsSound}
-use Rattle.chains.specs.Tests.{Tells}
+use Rattle.chains.specs.Tells.{Tells}
 use Rattle.books.specs.Words.{froms, tos, routesOf}
 use Rattle.route_tables.specs.Tables.{RoutesTaken}
 use Rattle.books.proofs.RouteColumns.{froms-are, tos-are}

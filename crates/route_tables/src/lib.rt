@@ -4,7 +4,7 @@
 ghost use mathlib.Core.Path.{_≡_};
 ghost use Rattle.record.specs.Columns.{routeCountOf};
 ghost use Rattle.books.specs.Words.{froms, tos, routesOf};
-ghost use Rattle.chains.specs.Tests.{Tells};
+ghost use Rattle.chains.specs.Tells.{Tells};
 ghost use Rattle.route_tables.specs.Tables.{RoutesTaken};
 use record::BOOK_WORDS;
 use record::ROUTES;

@@ -1,32 +1,30 @@
 -- The raw limits of every row are those of its printed limits: one equation over the whole table, which is computed, and a law to each row.
 -- Assumes nothing.
 use mathlib.Core.Path.{_≡_, refl, sym, ap, _∙_, subst}
-use mathlib.Core.Bool.{Bool, true, false, cond, _&&_, and-eq-true-iff}
+use mathlib.Core.Bool.{Bool, true, false, cond, and-eq-true-iff}
 use mathlib.Core.List.{List, [], _∷_, map}
 use mathlib.Core.Option.{Option, none, some}
 use Prim.Native.Nat.{ℕ, zero, suc, _*_, _<_}
 use native.Mathlib.Nat.{le-of-suc-le-suc, not-suc-le-zero, mul-div-cancel, mul-mod-left}
 use lib.Dec.{leb}
-use lib.IntN.{ℤ, pos, _+ℤ_, _-ℤ_, +ℤ-negℤ-cancel}
+use lib.IntN.{ℤ, pos, _-ℤ_, +ℤ-negℤ-cancel}
 use lib.ListN.{length, getD}
 use lib.Signed.{quotZ, remZ}
 use borrow.Author.Tests.{leb-true}
 use Rattle.rows.specs.declared.Row.{Row}
 use Rattle.rows.specs.Rows.{rows, blank}
 use Rattle.rows.specs.PrintedLimits.{PrintedLimits, prints, printedLimits}
-use Rattle.rows.specs.RawLimits.{limitsOf, IsRawLimit, RawLimits}
+use Rattle.rows.specs.RawLimits.{limitsOf, rawReading, isVersionRow, limitReadings, IsRawLimit, RawLimits}
 use Rattle.rows.proofs.Whole.{count, rule-at}
-
--- raw x resolution + offset
-abbrev reading : Row → ℕ → ℤ
-reading r raw = pos (raw * r .resolution) +ℤ r .offset
-
-abbrev isVersion : ℕ → Bool
-isVersion n = leb 1301 n && leb n 1304
 
 -- the readings of a row's raw limits; none for 1301 to 1304
 abbrev readings : Row → Option PrintedLimits
-readings r = cond (isVersion (r .number)) none (some (prints (r .number) (reading r (r .lowest)) (reading r (r .highest))))
+readings r = cond (isVersionRow r) none (some (prints (r .number) (rawReading r (r .lowest)) (rawReading r (r .highest))))
+
+-- the list of what is printed is whole, and has nothing else: the readings of the raw limits of every row but those four
+pub whole-list : printedLimits ≡ limitReadings rows
+unfolding rows printedLimits limitReadings
+whole-list = refl
 
 -- what is printed for each row are the readings of its raw limits
 all-printed : map (λ (r : Row). limitsOf (r .number)) rows ≡ map readings rows
@@ -35,9 +33,9 @@ all-printed = refl
 
 -- ---- from a reading back to the count
 
-raw-limit : (r : Row) (raw : ℕ) → 0 < r .resolution → IsRawLimit r (reading r raw) raw
+raw-limit : (r : Row) (raw : ℕ) → 0 < r .resolution → IsRawLimit r (rawReading r raw) raw
 raw-limit r raw h =
-    let less : reading r raw -ℤ r .offset ≡ pos (raw * r .resolution) = +ℤ-negℤ-cancel (pos (raw * r .resolution)) (r .offset) in
+    let less : rawReading r raw -ℤ r .offset ≡ pos (raw * r .resolution) = +ℤ-negℤ-cancel (pos (raw * r .resolution)) (r .offset) in
     record {
       quotient = ap (λ (z : ℤ). quotZ z (pos (r .resolution))) less ∙ ap pos (mul-div-cancel raw h);
       exact = ap (λ (z : ℤ). remZ z (pos (r .resolution))) less ∙ ap pos (mul-mod-left raw (r .resolution));
@@ -45,9 +43,9 @@ raw-limit r raw h =
     }
 
 raw-limits-by : (r : Row) → 0 < r .resolution → RawLimits r (readings r)
-raw-limits-by r h = go (isVersion (r .number)) refl
+raw-limits-by r h = go (isVersionRow r) refl
   where
-    go : (b : Bool) → isVersion (r .number) ≡ b → RawLimits r (cond b none (some (prints (r .number) (reading r (r .lowest)) (reading r (r .highest)))))
+    go : (b : Bool) → isVersionRow r ≡ b → RawLimits r (cond b none (some (prints (r .number) (rawReading r (r .lowest)) (rawReading r (r .highest)))))
     go true e =
         let both = and-eq-true-iff (leb 1301 (r .number)) (leb (r .number) 1304) .0 e in
         (leb-true 1301 (r .number) (both .0), leb-true (r .number) 1304 (both .1))

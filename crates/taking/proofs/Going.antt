@@ -13,8 +13,8 @@ use Rattle.parts.proofs.LineEnds.{lines-none}
 use Rattle.line.specs.declared.Line.{Line}
 use Rattle.line.specs.declared.ReadLine.{ReadLine}
 use Rattle.line.specs.Meaning.{meaningOf}
-use Rattle.line.specs.LineAt.{lineAt}
-use Rattle.line.proofs.Firsts.{PassesLine, passes-line}
+use Rattle.line.specs.LineAt.{lineAt, PassesLine}
+use Rattle.line.proofs.Firsts.{passes-line}
 use Rattle.books.specs.Book.{Book, noBook, lastPlacements, allPlacements}
 use Rattle.books.specs.Words.{column, endsAfter, messageColumns, routeColumns, wordsOf}
 use Rattle.reading.specs.Reading.{Outcome, refused, onward, refusalOf, withLine, numberedWith, readFrom, meanings, linesRead}

@@ -8,7 +8,7 @@ use native.Mathlib.Omega.{arith}
 use native.Mathlib.Decide.{decLe}
 use mathlib.Core.List.{List, _∷_}
 use lib.ListN.{length}
-use Rattle.chains.specs.Chain.{Walk, OnClosed, LoopFree, Doubling, BeginsDoubling, Single, IsSound}
+use Rattle.chains.specs.Chain.{Walk, OnClosed, LoopFree, BeginsDoubling, Single, IsSound}
 use Rattle.chains.proofs.Walks.{chain-walk}
 use Rattle.chains.specs.Tests.{FirstPassing}
 use Rattle.chains.proofs.Loops.{comesBack, closed-back, back-closed, loop-free}

@@ -4,7 +4,7 @@ use Prim.Native.Nat.{ℕ, _<_}
 use native.Mathlib.Omega.{arith}
 use mathlib.Core.List.{List, [], _∷_}
 use lib.ListN.{length, getD}
-use Rattle.chains.specs.Chain.{Walk, Chain, OnClosed, Doubling, BeginsDoubling, LoopFree, Single}
+use Rattle.chains.specs.Chain.{Walk, Chain, OnClosed, JoinedTwice, BeginsDoubling, LoopFree, Single}
 use Rattle.verdict.specs.Verdicts.{Judged}
 use Rattle.verdict.specs.declared.Verdict.{Verdict}
 use Rattle.verdict.specs.declared.Verdict.the-variants as verdict
@@ -26,7 +26,7 @@ module _ (fs ts gs us : List ℕ) (f : ℕ → ℕ) (r : Renames fs ts gs us f) 
   closed-on : (i : ℕ) → OnClosed fs ts i → OnClosed gs us i
   closed-on i (p, c, w, m) = (f p, c, chain p c p w, m)
 
-  doubling-on : (p q : ℕ) (c d : List ℕ) → Doubling fs ts p q c d → Doubling gs us (f p) (f q) c d
+  doubling-on : (p q : ℕ) (c d : List ℕ) → JoinedTwice fs ts p q c d → JoinedTwice gs us (f p) (f q) c d
   doubling-on p q c d two = record { one = chain p c q (two .one); other = chain p d q (two .other); different = two .different }
 
   begins-on : (i : ℕ) → BeginsDoubling fs ts i → BeginsDoubling gs us i

@@ -7,7 +7,7 @@ use mathlib.Core.List.{List}
 use native.Mathlib.Omega.{arith}
 use borrow.Author.Tests.{not-true, not-false}
 use Rattle.chains.specs.Chain.{IsSound}
-use Rattle.chains.specs.Tests.{Tells}
+use Rattle.chains.specs.Tells.{Tells}
 use Rattle.route_tables.proofs.Tested.{few-taken, froms-past, tos-past, tells}
 use borrow.Author.Needs.{needs}
 use Rattle.route_tables.proofs.routes_taken.Statement.{statement}
