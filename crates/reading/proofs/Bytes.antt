@@ -8,7 +8,7 @@ use Prim.Native.Nat.{ℕ, zero, suc, _+_, _/_, _%_, _^_, _≤_, _<_}
 use native.Mathlib.Nat.{one-le-pow, pow-succ', div-lt-iff-lt-mul, mod-lt}
 use native.Mathlib.Omega.{arith}
 use lib.Dec.{eqb, ltb}
-use borrow.Author.Tests.{eqb-true, ltb-true, ltb-false}
+use borrow.Author.Tests.{eqb-true}
 use Rattle.numerals.specs.Written.{digitByte, digitsOf, hexadecimalLimit, identifierText, decimalLimit, decimalText}
 use Rattle.numerals.proofs.Decimals.{some-width}
 use Rattle.parts.specs.Parts.{tab, newline, onFirst, split, linesOf, lines}
@@ -66,12 +66,15 @@ join-bytes s h no-part = no-byte
 join-bytes s h (part f no-part) = f
 join-bytes s h (part f (part g more)) = bytes-append f (byte h (join-bytes s h (part g more)))
 
+letter-byte : (b : ℕ) → b < 256 → OfBytes (b ∷ [])
+letter-byte b h = byte h no-byte
+
 fields-bytes : (l : Line) → Writable l → AllBytes (fieldsOf l)
 unfolding fieldsOf
-fields-bytes (line.Message i) w = part (byte (omega arith) no-byte) (part (identifier-bytes i w) no-part)
-fields-bytes (line.Signal n s) (x, y) = part (byte (omega arith) no-byte) (part (decimal-bytes n x) (part (decimal-bytes s y) no-part))
+fields-bytes (line.Message i) w = part (letter-byte 77 (omega arith)) (part (identifier-bytes i w) no-part)
+fields-bytes (line.Signal n s) (x, y) = part (letter-byte 83 (omega arith)) (part (decimal-bytes n x) (part (decimal-bytes s y) no-part))
 fields-bytes (line.Route a i b j) ((x, y), (z, w)) =
-    part (byte (omega arith) no-byte)
+    part (letter-byte 82 (omega arith))
     (part (decimal-bytes a x) (part (identifier-bytes i y) (part (decimal-bytes b z) (part (identifier-bytes j w) no-part))))
 fields-bytes line.IllFormed w = absurd w
 
@@ -80,12 +83,15 @@ unfolding lineText
 line-bytes l w = join-bytes tab (omega arith) (fields-bytes l w)
 
 -- a line that is not refused is well formed
-well-formed : (b : Book) (l : List ℕ) → refusalOf b (lineMeaning l) ≡ 0 → OfBytes l
+ill-passes : {A : Type 0} (b : Book) → refusalOf b line.IllFormed ≡ 0 → A
 unfolding refusalOf
+ill-passes b e = let z : _≡_ {A = ℕ} 2 0 = e in absurd (omega arith)
+
+well-formed : (b : Book) (l : List ℕ) → refusalOf b (lineMeaning l) ≡ 0 → OfBytes l
 well-formed b l e = by (canonical l)
   where
     by : (lineMeaning l ≡ line.IllFormed) ⊎ Canonical l (lineMeaning l) → OfBytes l
-    by (inl ill) = absurd (let z : refusalOf b line.IllFormed ≡ 0 = rw ill at e in omega arith)
+    by (inl ill) = ill-passes b (subst (λ (m : Line). refusalOf b m ≡ 0) ill e)
     by (inr c) = subst OfBytes (sym (c .text)) (line-bytes (lineMeaning l) (c .writable))
 
 -- parts between newlines, all of them lines that pass
@@ -95,11 +101,7 @@ parts-bytes n b at [] e = no-part
 parts-bytes n b at ([] ∷ []) e = part no-byte no-part
 parts-bytes n b at ((x ∷ l) ∷ []) e =
     let w = went (refusalOf b line.IllFormed) n (readFrom (suc n) (withLine b line.IllFormed) (numberedWith at n line.IllFormed) []) e in
-    absurd (ill (w .taken))
-  where
-    ill : refusalOf b line.IllFormed ≡ 0 → ⊥
-    unfolding refusalOf
-    ill z = omega arith
+    ill-passes b (w .taken)
 parts-bytes n b at (l ∷ p ∷ ps) e =
     let w = went (refusalOf b (lineMeaning l)) n (readFrom (suc n) (withLine b (lineMeaning l)) (numberedWith at n (lineMeaning l)) (map meaningOf (linesOf (p ∷ ps)))) e in
     part (well-formed b l (w .taken)) (parts-bytes (suc n) (withLine b (lineMeaning l)) (numberedWith at n (lineMeaning l)) (p ∷ ps) (w .after))
@@ -113,11 +115,11 @@ first-bytes b (p ∷ ps) (part (byte h f) more) = (h, part f more)
 split-bytes : (s : ℕ) → s < 256 → (l : List ℕ) → AllBytes (split s l) → OfBytes l
 unfolding split
 split-bytes s h [] a = no-byte
-split-bytes s h (b ∷ t) a = go (eqb b s) refl a
+split-bytes s h (b ∷ t) a = go (eqb b s) refl a (split-bytes s h t)
   where
-    go : (q : Bool) → eqb b s ≡ q → AllBytes (cond q ([] ∷ split s t) (onFirst b (split s t))) → OfBytes (b ∷ t)
-    go true e (part f more) = byte (subst (λ (x : ℕ). x < 256) (sym (eqb-true _ _ e)) h) (split-bytes s h t more)
-    go false e a = let f = first-bytes b (split s t) a in byte (f .0) (split-bytes s h t (f .1))
+    go : (q : Bool) → eqb b s ≡ q → AllBytes (cond q ([] ∷ split s t) (onFirst b (split s t))) → (AllBytes (split s t) → OfBytes t) → OfBytes (b ∷ t)
+    go true e (part f more) rest = byte (subst (λ (x : ℕ). x < 256) (sym (eqb-true _ _ e)) h) (rest more)
+    go false e a rest = let f = first-bytes b (split s t) a in byte (f .0) (rest (f .1))
 
 pub taken-bytes : {text : List ℕ} {b : Book} → TakenWith text b → OfBytes text
 unfolding linesRead meanings lines
