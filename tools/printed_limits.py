@@ -7,7 +7,7 @@ from itertools import groupby
 from catalogue import load
 
 HEAD = """-- The limits that document 001 prints for each signal, lowest and highest, in thousandths of the printed unit. The 0~5 of 707, 708 and
--- 709 is taken as volts; 1301 to 1304 have none. tools/printed_limits.py writes this file from the printed tables. Assumes nothing.
+-- 709 is taken as volts; 1301 to 1304 are excepted. tools/printed_limits.py writes this file from the printed tables. Assumes nothing.
 use mathlib.Core.List.{List, [], _∷_}
 use Prim.Native.Nat.{ℕ}
 use lib.IntN.{ℤ}

@@ -10,7 +10,7 @@ use lib.Pow.{shr-shr, mod-pow-add, field, mod-mod-pow}
 use lib.Arith.{digits-lt}
 use lib.ListN.{getD, length, drop}
 use lib.Seq.{sets, sets-eq, drop-length}
-use Rattle.bits.specs.Frame.{frameBit, countAt}
+use Rattle.bits.specs.Frame.{frameBit, countAt, Bytes}
 use Rattle.bits.specs.Word.{wordFrom, wordOf, bytesFrom, bytesOf, fieldOf}
 
 -- ---- the word's bits are the frame's
@@ -109,11 +109,6 @@ sets-all vs l e =
     ∙ ap (λ (n : ℕ). vs ++ drop n l) (zero-add (length vs) ∙ e)
     ∙ ap (λ (r : List ℕ). vs ++ r) (drop-length l)
     ∙ append-nil vs
-
--- ---- a frame of bytes, and its word
-pub record Bytes (n : ℕ) (frame : List ℕ) : Type 0 where
-  pub many : length frame ≡ n
-  pub small : (k : ℕ) → getD frame k 0 < 256
 
 -- the bytes of the word are the frame again
 back : (n : ℕ) (frame : List ℕ) → Bytes n frame → bytesFrom n (wordFrom frame 0 n) ≡ frame

@@ -1,7 +1,8 @@
 -- Bits in a frame, in document 01's words. A frame is a list of bytes, byte 0 first. Assumes nothing.
 use mathlib.Core.List.{List}
-use Prim.Native.Nat.{ℕ, zero, suc, _+_, _*_, _/_, _%_, _^_}
-use lib.ListN.{getD}
+use Prim.Native.Nat.{ℕ, zero, suc, _+_, _*_, _/_, _%_, _^_, _<_}
+use lib.ListN.{getD, length}
+use mathlib.Core.Path.{_≡_}
 
 -- "Bytes are 0 to 7"
 abbrev pub frameBytes : ℕ
@@ -19,3 +20,8 @@ frameBit frame k = getD frame (k / 8) 0 / 2 ^ (k % 8) % 2
 unfoldable pub countAt : List ℕ → ℕ → ℕ → ℕ
 countAt frame s zero = 0
 countAt frame s (suc j) = countAt frame s j + frameBit frame (s + j) * 2 ^ j
+
+-- ---- a frame of bytes, and its word
+pub record Bytes (n : ℕ) (frame : List ℕ) : Type 0 where
+  pub many : length frame ≡ n
+  pub small : (k : ℕ) → getD frame k 0 < 256

@@ -26,7 +26,7 @@ misplaced p =
     ((eqb (p .number) checksumNumber && not (eqb (p .start) checksumStart)) ||
     (eqb (p .number) counterNumber && not (eqb (p .start) counterStart)))
 
--- the two have a frame bit in common: each starts before the other ends
+-- two signals of the catalogue have a frame bit in common: each starts before the other ends
 unfoldable pub meets : Placement → Placement → Bool
 meets p q = ltb (p .start) (q .start + bitsOf (q .number)) && ltb (q .start) (p .start + bitsOf (p .number))
 

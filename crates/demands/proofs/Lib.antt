@@ -12,3 +12,4 @@ pub mod FirstBad
 pub mod Witnesses
 pub mod OneRoute
 pub mod StandIns
+pub mod TooLong

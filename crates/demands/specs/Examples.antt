@@ -1,5 +1,5 @@
--- Three texts, in bytes, a line's text above its bytes: document 01's book, the same with its sixth line, and a repeated R line. Assumes
--- nothing: these are definitions.
+-- Four texts, in bytes, a line's text above its bytes: document 01's book, the same with its sixth line, a repeated R line, and two R
+-- lines from one place. Assumes nothing: these are definitions.
 use Prim.Native.Nat.{ℕ}
 use mathlib.Core.List.{List, [], _∷_}
 use Rattle.books.specs.Book.{Book, Message, placement, route}
@@ -41,6 +41,14 @@ doublingText =
     -- R·0·18FF21F3·1·18FF21F3
     82 ∷ 9 ∷ 48 ∷ 9 ∷ 49 ∷ 56 ∷ 70 ∷ 70 ∷ 50 ∷ 49 ∷ 70 ∷ 51 ∷ 9 ∷ 49 ∷ 9 ∷ 49 ∷ 56 ∷ 70 ∷ 70 ∷ 50 ∷ 49 ∷ 70 ∷ 51 ∷ 10 ∷ []
 
+-- two R lines from one place
+abbrev pub forkText : List ℕ
+forkText =
+    -- R·0·18FF21F3·1·18FF21F3
+    82 ∷ 9 ∷ 48 ∷ 9 ∷ 49 ∷ 56 ∷ 70 ∷ 70 ∷ 50 ∷ 49 ∷ 70 ∷ 51 ∷ 9 ∷ 49 ∷ 9 ∷ 49 ∷ 56 ∷ 70 ∷ 70 ∷ 50 ∷ 49 ∷ 70 ∷ 51 ∷ 10 ∷
+    -- R·0·18FF21F3·2·18FF21D0
+    82 ∷ 9 ∷ 48 ∷ 9 ∷ 49 ∷ 56 ∷ 70 ∷ 70 ∷ 50 ∷ 49 ∷ 70 ∷ 51 ∷ 9 ∷ 50 ∷ 9 ∷ 49 ∷ 56 ∷ 70 ∷ 70 ∷ 50 ∷ 49 ∷ 68 ∷ 48 ∷ 10 ∷ []
+
 -- the books that their lines give
 abbrev pub oneMessage : List Message
 oneMessage = record { identifier = 419373555; placements = placement 203 0 ∷ placement 204 16 ∷ [] } ∷ []
@@ -57,3 +65,6 @@ loopBook =
 
 abbrev pub doublingBook : Book
 doublingBook = record { messages = []; routes = route 0 419373555 1 419373555 ∷ route 0 419373555 1 419373555 ∷ [] }
+
+abbrev pub forkBook : Book
+forkBook = record { messages = []; routes = route 0 419373555 1 419373555 ∷ route 0 419373555 2 419373520 ∷ [] }

@@ -8,10 +8,10 @@ use native.Mathlib.Omega.{arith}
 use lib.Dec.{lit<, lit≤}
 use lib.Pow.{mod-pow-add}
 use lib.ListN.{getD}
-use Rattle.bits.specs.Frame.{frameBytes, frameBit}
+use Rattle.bits.specs.Frame.{frameBytes, frameBit, Bytes}
 use Rattle.bits.specs.Word.{bytesFrom, bytesOf, wordOf}
 use Rattle.bits.specs.Checksum.{checksumOf, identifierAdded, folded}
-use Rattle.bits.proofs.Weights.{Bytes, of-bytes, word-bytes}
+use Rattle.bits.proofs.Weights.{of-bytes, word-bytes}
 use Rattle.books.specs.Lines.{frameBits}
 use Rattle.framing.specs.Messages.{checksumStart}
 use Rattle.framing.specs.Packing.{weighed, byteOf, frameOf}

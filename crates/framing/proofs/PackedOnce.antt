@@ -8,9 +8,9 @@ use native.Mathlib.Omega.{arith}
 use lib.Dec.{eqb, leb, ltb, lit≤}
 use lib.ListN.{length}
 use borrow.Author.Tests.{leb-true, leb-false, ltb-true, ltb-false, eqb-true, eqb-false}
-use Rattle.bits.specs.Frame.{frameBytes, frameBit}
+use Rattle.bits.specs.Frame.{frameBytes, frameBit, Bytes}
 use Rattle.bits.specs.Checksum.{checksumOf}
-use Rattle.bits.proofs.Weights.{Bytes, count-bit}
+use Rattle.bits.proofs.Weights.{count-bit}
 use Rattle.books.specs.Belonging.{inRun}
 use Rattle.books.specs.Book.{Placement, Message}
 use Rattle.books.specs.Lines.{frameBits}

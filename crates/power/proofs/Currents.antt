@@ -6,25 +6,12 @@ use Prim.Native.Nat.{ℕ, suc, _*_, _-_}
 use native.Mathlib.Omega.{arith}
 use borrow.Author.Tests.{leb-true, leb-false, ltb-true, ltb-false, lt-ltb, le-ltb}
 use lib.Dec.{leb, ltb}
-use lib.IntN.{pos, negsuc, negℤ}
-use lib.Signed.{ltZ}
+use lib.IntN.{pos, negsuc}
 use Rattle.catalogue.specs.declared.Raw.{Raw}
-use Rattle.catalogue.specs.declared.Class.{Class}
-use Rattle.catalogue.specs.declared.Class.the-variants.{Value, Invalid, Absent, Error, Reserved, Outside, NotInCatalogue, TooWide}
+use Rattle.catalogue.specs.declared.Class.the-variants.{Value, Invalid, TooWide}
 use Rattle.catalogue.specs.Class.{classOf}
-use Rattle.power.specs.Observed.{under10A}
+use Rattle.power.specs.Observed.{under10A, valueUnder10A}
 use Rattle.power.proofs.Readings.{current-203}
-
--- the class is a value, of more than -10 A and less than 10 A
-abbrev pub valueUnder10A : Class → Bool
-valueUnder10A (Value t) = ltZ (negℤ (pos 10000)) (t .0) && ltZ (t .0) (pos 10000)
-valueUnder10A (Invalid raw) = false
-valueUnder10A (Absent raw) = false
-valueUnder10A (Error raw) = false
-valueUnder10A (Reserved raw) = false
-valueUnder10A (Outside raw) = false
-valueUnder10A NotInCatalogue = false
-valueUnder10A TooWide = false
 
 module _ (raw : Raw) where
   abbrev count : ℕ

@@ -12,13 +12,13 @@ use Rattle.power.specs.declared.State.the-variants.{Off, Rising, Prechar
 use Rattle.power.specs.Observed.{allOpen, commanded, urgent}
 use Rattle.power.specs.Pictures.{picture}
 use Rattle.power.specs.States.{stateNumber, sameState}
-use Rattle.power.specs.Rules.{PowerStep, rule3, rule4, steps, firstStep, byRules, nextState, ByStep, Leads}
+use Rattle.power.specs.Rules.{PowerStep, rule3, rule4, steps, stepElse, firstStep, byRules, nextState, ByStep, Leads}
 use Rattle.power.specs.Refusals.{powerRefusal, stepOf}
 use Rattle.power.proofs.Numbers.{number-tells}
 use Rattle.power.proofs.Answers.{kept-or-next}
 
 first-step : (list : List PowerStep) (state : State) (seen : Observation) → (firstStep list state seen ≡ Fault) ⊎ ByStep list state seen (firstStep list state seen)
-unfolding firstStep
+unfolding stepElse
 first-step [] state seen = inl refl
 first-step (t ∷ more) state seen = go (sameState (t .from) state) (picture (t .to) seen) (t .when seen) refl refl refl (firstStep more state seen) (first-step more state seen)
   where

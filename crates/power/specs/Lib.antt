@@ -3,3 +3,4 @@ pub mod Pictures
 pub mod States
 pub mod Rules
 pub mod Refusals
+pub mod Precharges

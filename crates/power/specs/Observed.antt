@@ -1,12 +1,13 @@
 -- What an observation says. Assumes nothing.
 use Prim.Native.Nat.{ℕ, _*_}
-use mathlib.Core.Bool.{Bool, _&&_, _||_, cond}
+use mathlib.Core.Bool.{Bool, _&&_, _||_, cond, false}
 use lib.Dec.{eqb, leb, ltb}
 use Rattle.catalogue.specs.declared.Raw.{Raw}
 use Rattle.power.specs.declared.Observation.{Observation}
-use lib.IntN.{ℤ, pos, _+ℤ_}
+use lib.IntN.{ℤ, pos, _+ℤ_, negℤ}
 use Rattle.catalogue.specs.declared.Class.{Class}
-use Rattle.catalogue.specs.declared.Class.the-variants.{Value, Invalid, TooWide}
+use Rattle.catalogue.specs.declared.Class.the-variants.{Value, Invalid, TooWide, Absent, Error, Reserved, Outside, NotInCatalogue}
+use lib.Signed.{ltZ}
 
 -- "relay counts .. (1 open, 2 closed)"
 abbrev pub openRelay : ℕ
@@ -61,3 +62,14 @@ under10A current = leb 19901 (current .0) && leb (current .0) 20099
 -- what a count of such a signal stands for
 abbrev pub measuredClass : ℤ → Raw → Class
 measuredClass offset raw = cond (valid raw) (Value (record { 0 = pos (raw .0 * 100) +ℤ offset })) (cond (leb 65536 (raw .0)) TooWide (Invalid raw))
+
+-- the class is a value, of more than -10 A and less than 10 A
+abbrev pub valueUnder10A : Class → Bool
+valueUnder10A (Value t) = ltZ (negℤ (pos 10000)) (t .0) && ltZ (t .0) (pos 10000)
+valueUnder10A (Invalid raw) = false
+valueUnder10A (Absent raw) = false
+valueUnder10A (Error raw) = false
+valueUnder10A (Reserved raw) = false
+valueUnder10A (Outside raw) = false
+valueUnder10A NotInCatalogue = false
+valueUnder10A TooWide = false

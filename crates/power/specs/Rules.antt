@@ -48,10 +48,15 @@ rule4 =
 abbrev pub steps : List PowerStep
 steps = rule3 ++ rule4
 
--- "the first that applies, where a step in 3 or 4 needs its new state's picture"; 5. "else fault"
-unfoldable pub firstStep : List PowerStep → State → Observation → State
-firstStep [] state seen = Fault
-firstStep (s ∷ more) state seen = cond (sameState (s .from) state && (picture (s .to) seen && s .when seen)) (s .to) (firstStep more state seen)
+-- "the first that applies, where a step in 3 or 4 needs its new state's picture", else another state
+unfoldable pub stepElse : State → List PowerStep → State → Observation → State
+stepElse other [] state seen = other
+stepElse other (s ∷ more) state seen =
+    cond (sameState (s .from) state && (picture (s .to) seen && s .when seen)) (s .to) (stepElse other more state seen)
+
+-- 5. "else fault"
+abbrev pub firstStep : List PowerStep → State → Observation → State
+firstStep = stepElse Fault
 
 -- 1. "the state's own picture: stays"; 2. "urgent and ooo: off"; else 3 to 5
 abbrev pub byRules : State → Observation → State

@@ -23,7 +23,7 @@ limitsOf n = limitsIn n printedLimits
 abbrev pub rawReading : Row → ℕ → ℤ
 rawReading r raw = pos (raw * r .resolution) +ℤ r .offset
 
--- 1301 to 1304, for which no limits are printed
+-- 1301 to 1304, which document 01 excepts
 abbrev pub isVersionRow : Row → Bool
 isVersionRow r = leb 1301 (r .number) && leb (r .number) 1304
 
@@ -39,7 +39,7 @@ pub record IsRawLimit (r : Row) (limit : ℤ) (raw : ℕ) : Type 0 where
   pub exact : remZ (limit -ℤ r .offset) (pos (r .resolution)) ≡ pos 0
   pub reads : rawReading r raw ≡ limit
 
--- a row and what is printed for it: its lowest and highest raw count are those of the printed limits; none are printed for 1301 to 1304
+-- a row and what is printed for it: its lowest and highest raw count are those of the printed limits; 1301 to 1304 are excepted
 abbrev pub RawLimits : Row → Option PrintedLimits → Type 0
 RawLimits r (some p) = IsRawLimit r (p .lowest) (r .lowest) × IsRawLimit r (p .highest) (r .highest)
 RawLimits r none = (1301 ≤ r .number) × (r .number ≤ 1304)

@@ -1,41 +1,9 @@
--- Ages 9,999 and 10,000, at the circle's seam too; a clock that went back, awake and asleep; wake on. Assumes nothing.
+-- The worked calls are answered so. Assumes nothing.
 use mathlib.Core.Path.{_≡_, refl}
-use mathlib.Core.Bool.{Bool, true, false}
-use mathlib.Core.List.{List, [], _∷_, map}
-use Prim.Native.Nat.{ℕ}
-use Rattle.sleep.specs.declared.Watch.{Watch}
-use Rattle.sleep.specs.declared.SleepAnswer.{SleepAnswer}
-use Rattle.sleep.specs.declared.SleepAnswer.the-variants.{Taken, ClockWentBack}
-use Rattle.sleep.specs.declared.Updated.{Updated}
-use Rattle.sleep.specs.Watching.{awakeAt, watchOf, watchAndAnswer, afterCall}
+use mathlib.Core.List.{map}
+use Rattle.sleep.specs.Watching.{afterCall}
+use Rattle.sleep.specs.WorkedCalls.{WorkedCall, workedCalls}
 
-pub record Worked : Type 0 where
-  pub before : Watch
-  pub time : ℕ
-  pub wake : Bool
-  pub after : Updated
-
-abbrev call : Watch → ℕ → Bool → Watch → SleepAnswer → Worked
-call w t b x a = record { before = w; time = t; wake = b; after = watchAndAnswer x a }
-
-abbrev asleepSince : ℕ → Watch
-asleepSince time = watchOf time true
-
-pub worked : List Worked
-worked =
-    call (awakeAt 5) 10004 false (awakeAt 5) Taken
-    ∷ call (awakeAt 5) 10005 false (asleepSince 5) Taken
-    ∷ call (awakeAt 4294967295) 9998 false (awakeAt 4294967295) Taken
-    ∷ call (awakeAt 4294967295) 9999 false (asleepSince 4294967295) Taken
-    ∷ call (awakeAt 1000) 999 true (awakeAt 1000) ClockWentBack
-    ∷ call (awakeAt 0) 2147483648 true (awakeAt 0) ClockWentBack
-    ∷ call (awakeAt 0) 2147483648 false (awakeAt 0) ClockWentBack
-    ∷ call (awakeAt 0) 2147483647 true (awakeAt 2147483647) Taken
-    ∷ call (awakeAt 0) 2147483647 false (asleepSince 0) Taken
-    ∷ call (asleepSince 1000) 999 false (asleepSince 1000) Taken
-    ∷ call (asleepSince 1000) 999 true (awakeAt 999) Taken
-    ∷ []
-
-pub all-right : map (λ (w : Worked). afterCall (w .before) (w .time) (w .wake)) worked ≡ map (λ (w : Worked). w .after) worked
-unfolding worked afterCall
+pub all-right : map (λ (w : WorkedCall). afterCall (w .before) (w .time) (w .wake)) workedCalls ≡ map (λ (w : WorkedCall). w .after) workedCalls
+unfolding workedCalls afterCall
 all-right = refl

@@ -1,2 +1,3 @@
 pub mod Watching
 pub mod History
+pub mod WorkedCalls

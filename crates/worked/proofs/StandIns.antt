@@ -17,9 +17,9 @@ unfolding classOf rowOf rows between
 outside-204 = refl
 
 -- no class is that of every count that is not refused: 204 has 250 as a value and 251 outside
-pub one-class : (k : Kind) → ((n : ℕ) (raw : Raw) → classNumber (classOf n raw) ≡ 0 → kindOf (classOf n raw) ≡ k) → ⊥
+pub one-class-for-all : (k : Kind) → ((n : ℕ) (raw : Raw) → classNumber (classOf n raw) ≡ 0 → kindOf (classOf n raw) ≡ k) → ⊥
 unfolding classOf rowOf rows between
-one-class k same =
+one-class-for-all k same =
     let e : value ≡ outside = sym value-204 ∙ same 204 (record { 0 = 250 }) refl ∙ sym (same 204 (record { 0 = 251 }) refl) ∙ outside-204 in
     let z : _≡_ {A = ℕ} 0 1 = cc in
     omega arith

@@ -1,8 +1,8 @@
 -- The worked examples of document 01 ("Proved table"): what is asked of the definitions, and what they have to answer. Assumes nothing.
-use mathlib.Core.Bool.{Bool}
+use mathlib.Core.Bool.{Bool, true, false}
 use mathlib.Core.List.{List, [], _∷_}
 use Prim.Native.Nat.{ℕ}
-use lib.IntN.{ℤ}
+use lib.IntN.{ℤ, pos, negℤ}
 use Rattle.catalogue.specs.declared.Class.{Class}
 use Rattle.catalogue.specs.declared.Class.the-variants as class
 use Rattle.catalogue.specs.Class.{classOf}
@@ -56,3 +56,23 @@ asks q a = record { asked = q; given = a }
 -- the identifier 18FFFAF3
 abbrev pub workedIdentifier : ℕ
 workedIdentifier = 419429107
+
+-- the 15 of them
+unfoldable pub worked : List Worked
+worked =
+    asks (count 203 19999) (value (negℤ (pos 100)))
+    ∷ asks (count 203 65535) invalid
+    ∷ asks (count 204 250) (value (pos 100000))
+    ∷ asks (count 204 251) outside
+    ∷ asks (count 505 0) (value (negℤ (pos 40000)))
+    ∷ asks (count 505 253) absent
+    ∷ asks (count 505 251) outside
+    ∷ asks (count 710 65535) (value (pos 65535))
+    ∷ asks (count 1306 48) (value (pos 12000))
+    ∷ asks (count 1306 49) outside
+    ∷ asks (count 1705 2) invalid
+    ∷ asks (checksum workedIdentifier 0 0) (check 4)
+    ∷ asks (checksum workedIdentifier 255 15) (check 5)
+    ∷ asks (precharge 6000 5700) (complete true)
+    ∷ asks (precharge 6000 5699) (complete false)
+    ∷ []
