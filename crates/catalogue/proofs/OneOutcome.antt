@@ -33,6 +33,7 @@ use Rattle.catalogue.proofs.shapes.shape_of as shape-of
 use Rattle.catalogue.proofs.widths.bits_at as bits-at
 use Rattle.catalogue.proofs.widths.bits_of as bits-of
 use Rattle.catalogue.proofs.widths.bits_shaped as bits-shaped
+use Rattle.catalogue.proofs.widths.known_bits as known-bits
 
 module _ {M : Type 1} (𝓤 : URA M) (H : Heap 𝓤) (A : Atoms 𝓤) (mem : Memory → SProp 𝓤) (run : Routine → Fun 𝓤) where
   pub one-class-of : (number : ℕ) (raw : Raw) (e : AtExit class-of.ended tt) → Only 𝓤 (λ r. class-of.clauses 𝓤 H A mem run tt (number, (raw, tt)) .ensures tt r e)
@@ -44,6 +45,10 @@ module _ {M : Type 1} (𝓤 : URA M) (H : Heap 𝓤) (A : Atoms 𝓤) (mem : Mem
   pub one-bits-at : (κs : Lfts 3) (number : ℕ) (widths above ends : RefT (List ℕ)) (e : AtExit bits-at.ended κs)
       → Only 𝓤 (λ r. bits-at.clauses 𝓤 H A mem run κs (number, (widths, (above, (ends, tt)))) .ensures tt r e)
   one-bits-at κs number widths above ends e = only-this 𝓤 _ codedℕ (bitsOf number) (λ r. refl)
+
+  pub one-known-bits : (κs : Lfts 2) (number : ℕ) (widths above : RefT (List ℕ)) (e : AtExit known-bits.ended κs)
+      → Only 𝓤 (λ r. known-bits.clauses 𝓤 H A mem run κs (number, (widths, (above, tt))) .ensures tt r e)
+  one-known-bits κs number widths above e = only-this 𝓤 _ codedℕ (bitsOf number) (λ r. refl)
 
   -- by the shape
 

@@ -21,6 +21,7 @@ pub use shapes::shape_of;
 pub use widths::bits_at;
 pub use widths::bits_of;
 pub use widths::bits_shaped;
+pub use widths::known_bits;
 
 // A raw count, as a frame carries it.
 pub struct Raw(pub u32);

@@ -1,13 +1,15 @@
 // The bits of a signal: from the constant table's own column, which the caller holds, by the signal's place; or by its shape, which the
 // class goes by too.
 use crate::places::Place;
+use crate::places::bounds;
+use crate::places::known_place;
 use crate::places::place_of;
+use crate::places::surpluses;
 use crate::shapes::shape_of;
 ghost use mathlib.Core.Path.{_≡_};
-ghost use Rattle.rows.specs.Rows.{rows};
-ghost use Rattle.rows.specs.Widths.{widthsOf};
+ghost use Prim.Native.Nat.{_<_};
 ghost use Rattle.catalogue.specs.Find.{bitsIn, bitsOf};
-ghost use Rattle.catalogue.specs.Places.{surpluses, bounds};
+ghost use Rattle.catalogue.specs.Places.{TableColumns, WidthColumns};
 ghost use Rattle.catalogue.specs.Shapes.{rowShaped};
 
 // The bits of a shape, each an arm: 0 where there is no such shape.
@@ -65,7 +67,7 @@ fn wide(bits: u8) -> u32
 // The bits of a signal, from the table's column and by the columns of its place, which the caller holds; 0 where the catalogue has
 // no such signal.
 pub fn bits_at(number: u32, widths: &[u8], above: &[usize], ends: &[u8]) -> u32
-    requires { ⌜ ((now above ≡ surpluses) × (now ends ≡ bounds)) × (now widths ≡ widthsOf rows) ⌝ }
+    requires { ⌜ TableColumns (now above) (now ends) (now widths) ⌝ }
     ensures { λ r. ⌜ r ≡ bitsOf number ⌝ }
 {
     let Place::At(place) = place_of(number, above, ends) else {
@@ -78,5 +80,16 @@ pub fn bits_at(number: u32, widths: &[u8], above: &[usize], ends: &[u8]) -> u32
 pub fn bits_of(number: u32) -> u32
     ensures { λ r. ⌜ r ≡ bitsOf number ⌝ }
 {
-    bits_shaped(shape_of(number))
+    let above = surpluses();
+    let ends = bounds();
+    let widths = rows::widths();
+    bits_at(number, &widths, &above, &ends)
+}
+
+// The bits of a signal that the catalogue has, as those of a taken book are: its place is not tested again.
+pub fn known_bits(number: u32, widths: &[u8], above: &[usize]) -> u32
+    requires { ⌜ WidthColumns (now above) (now widths) × (0 < bitsOf number) ⌝ }
+    ensures { λ r. ⌜ r ≡ bitsOf number ⌝ }
+{
+    wide(widths[known_place(number, above)])
 }
