@@ -16,23 +16,20 @@ use denote.Triple.Clauses.{AtExit}
 use lib.Dec.{leb}
 use Rattle.only.specs.Only.{Only, only-this}
 use Rattle.catalogue.specs.declared.Raw.{Raw}
-use Rattle.catalogue.specs.Find.{bitsIn, bitsOf}
-use Rattle.catalogue.specs.Class.{classFor, classOf}
+use Rattle.catalogue.specs.Find.{bitsOf}
+use Rattle.catalogue.specs.Class.{classOf}
 use Rattle.catalogue.specs.Places.{surpluses, bounds, Placed}
-use Rattle.catalogue.specs.Shapes.{shapeOf, rowShaped}
 use Rattle.catalogue.proofs.Placed.{found-place, one-place}
 use Rattle.catalogue.proofs.Class as the-class
 use Rattle.catalogue.proofs.places.Place as the-place
 use Rattle.catalogue.proofs.classes.class_of as class-of
-use Rattle.catalogue.proofs.classes.class_shaped as class-shaped
 use Rattle.catalogue.proofs.classes.is_too_wide as is-too-wide
 use Rattle.catalogue.proofs.places.bounds as bounds-fn
 use Rattle.catalogue.proofs.places.place_of as place-of
 use Rattle.catalogue.proofs.places.surpluses as surpluses-fn
-use Rattle.catalogue.proofs.shapes.shape_of as shape-of
 use Rattle.catalogue.proofs.widths.bits_at as bits-at
 use Rattle.catalogue.proofs.widths.bits_of as bits-of
-use Rattle.catalogue.proofs.widths.bits_shaped as bits-shaped
+use Rattle.catalogue.proofs.widths.known_bits as known-bits
 
 module _ {M : Type 1} (𝓤 : URA M) (H : Heap 𝓤) (A : Atoms 𝓤) (mem : Memory → SProp 𝓤) (run : Routine → Fun 𝓤) where
   pub one-class-of : (number : ℕ) (raw : Raw) (e : AtExit class-of.ended tt) → Only 𝓤 (λ r. class-of.clauses 𝓤 H A mem run tt (number, (raw, tt)) .ensures tt r e)
@@ -45,16 +42,9 @@ module _ {M : Type 1} (𝓤 : URA M) (H : Heap 𝓤) (A : Atoms 𝓤) (mem : Mem
       → Only 𝓤 (λ r. bits-at.clauses 𝓤 H A mem run κs (number, (widths, (above, (ends, tt)))) .ensures tt r e)
   one-bits-at κs number widths above ends e = only-this 𝓤 _ codedℕ (bitsOf number) (λ r. refl)
 
-  -- by the shape
-
-  pub one-shape-of : (number : ℕ) (e : AtExit shape-of.ended tt) → Only 𝓤 (λ r. shape-of.clauses 𝓤 H A mem run tt (number, tt) .ensures tt r e)
-  one-shape-of number e = only-this 𝓤 _ codedℕ (shapeOf number) (λ r. refl)
-
-  pub one-bits-shaped : (shape : ℕ) (e : AtExit bits-shaped.ended tt) → Only 𝓤 (λ r. bits-shaped.clauses 𝓤 H A mem run tt (shape, tt) .ensures tt r e)
-  one-bits-shaped shape e = only-this 𝓤 _ codedℕ (bitsIn (rowShaped shape)) (λ r. refl)
-
-  pub one-class-shaped : (shape : ℕ) (raw : Raw) (e : AtExit class-shaped.ended tt) → Only 𝓤 (λ r. class-shaped.clauses 𝓤 H A mem run tt (shape, (raw, tt)) .ensures tt r e)
-  one-class-shaped shape raw e = only-this 𝓤 _ (the-class.the-row .coded) (classFor (rowShaped shape) raw) (λ r. refl)
+  pub one-known-bits : (κs : Lfts 2) (number : ℕ) (widths above : RefT (List ℕ)) (e : AtExit known-bits.ended κs)
+      → Only 𝓤 (λ r. known-bits.clauses 𝓤 H A mem run κs (number, (widths, (above, tt))) .ensures tt r e)
+  one-known-bits κs number widths above e = only-this 𝓤 _ codedℕ (bitsOf number) (λ r. refl)
 
   pub one-is-too-wide : (bits count : ℕ) (e : AtExit is-too-wide.ended tt) → Only 𝓤 (λ r. is-too-wide.clauses 𝓤 H A mem run tt (bits, (count, tt)) .ensures tt r e)
   one-is-too-wide bits count e = only-this 𝓤 _ codedBool (leb (2 ^ bits) count) (λ r. refl)

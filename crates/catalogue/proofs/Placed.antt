@@ -3,7 +3,7 @@ use mathlib.Core.Path.{_≡_, refl, sym, ap, _∙_, subst}
 use mathlib.Core.Bool.{Bool, true, false, cond, _&&_, and-eq-true-iff}
 use mathlib.Core.List.{List, [], _∷_, map}
 use mathlib.Core.Option.{some}
-use Prim.Native.Nat.{ℕ, zero, suc, _*_, _/_, _-_, _≤_, _<_}
+use Prim.Native.Nat.{ℕ, zero, suc, _-_, _≤_, _<_}
 use native.Mathlib.Omega.{arith}
 use lib.Arith.{lt-of-le-ne}
 use lib.Dec.{eqb, leb, ltb}
@@ -13,7 +13,7 @@ use Rattle.rows.specs.declared.Row.{Row}
 use Rattle.rows.specs.Rows.{rows}
 use Rattle.rows.specs.Widths.{widthsOf}
 use Rattle.catalogue.specs.Find.{rowIn, rowOf, bitsIn, bitsOf}
-use Rattle.catalogue.specs.Places.{placeIn, placeOf, noPlace, numberLimit, surpluses, bounds, Placed}
+use Rattle.catalogue.specs.Places.{placeIn, placeOf, noPlace, numberLimit, hundred, surpluses, bounds, Placed}
 use Rattle.catalogue.specs.declared.places.Place.{Place}
 use Rattle.catalogue.specs.declared.places.Place.the-variants.{At, Nowhere}
 
@@ -21,10 +21,6 @@ use Rattle.catalogue.specs.declared.places.Place.the-variants.{At, Nowhe
 allBelow : ℕ → (ℕ → Bool) → Bool
 allBelow zero p = true
 allBelow (suc k) p = p k && allBelow k p
-
--- the hundred of a number, one for each of 1 to 100, 101 to 200 and so on
-abbrev pub hundred : ℕ → ℕ
-hundred n = n * 5242 / 524288
 
 abbrev pub computed : ℕ → ℕ
 computed n = cond (leb (getD bounds (hundred n) 0) (n - getD surpluses (hundred n) 0)) noPlace (n - getD surpluses (hundred n) 0)
@@ -119,30 +115,42 @@ one-number n m e h =
     sym (number-there n g) ∙ ap (λ (p : ℕ). getD (map (λ (r : Row). r .number) rows) p 0) e ∙ number-there m h
 
 -- ---- what the code does with the columns lent to it
-module _ (above ends : List ℕ) (number n : ℕ) (columns : (above ≡ surpluses) × (ends ≡ bounds)) (h : number < numberLimit) (e : n ≡ number) where
-  few : hundred n < 20
-  few = let k : n < 2000 = omega (arith, h, e) in omega arith
+not-past : (b : Bool) (p q : ℕ) → cond b noPlace p ≡ q → q < noPlace → p ≡ q
+not-past true p q e l = absurd (omega (arith, e, l))
+not-past false p q e l = e
 
-  pub in-above : hundred n < length above
-  in-above = rw (columns .0) few
+module _ (above : List ℕ) (number n k : ℕ) (column : above ≡ surpluses) (h : number < numberLimit) (e : n ≡ number) (at : k ≡ hundred number) where
+  few : k < 20
+  few = let below : number < 2000 = h in omega (arith, at, below)
 
-  pub in-ends : hundred n < length ends
-  in-ends = rw (columns .1) few
+  pub in-above : k < length above
+  in-above = rw column few
 
-  pub no-less : getD above (hundred n) 0 ≤ n
-  no-less = rw (columns .0, e) (surplus-within number h)
+  pub no-less : getD above k 0 ≤ n
+  no-less = rw (column, e, at) (surplus-within number h)
 
-  module _ (bound : ℕ) (b : bound ≡ getD ends (hundred n) 0) where
-    told : cond (leb bound (n - getD above (hundred n) 0)) noPlace (n - getD above (hundred n) 0) ≡ placeOf number
-    told = rw (b, columns .0, columns .1, e) (computed-place number h)
+  -- of a signal that the catalogue has
+  pub known-there : placeOf number < noPlace → n - getD above k 0 ≡ placeOf number
+  known-there known =
+      rw (column, e, at)
+      (not-past (leb (getD bounds (hundred number) 0) (number - getD surpluses (hundred number) 0)) (number - getD surpluses (hundred number) 0) (placeOf number)
+      (computed-place number h) known)
 
-    pub past-it : bound ≤ n - getD above (hundred n) 0 → placeOf number ≡ noPlace
-    past-it p = sym told ∙ ap (λ (t : Bool). cond t noPlace (n - getD above (hundred n) 0)) (le-leb bound (n - getD above (hundred n) 0) p)
+  module _ (ends : List ℕ) (ends-column : ends ≡ bounds) where
+    pub in-ends : k < length ends
+    in-ends = rw ends-column few
 
-    pub there : n - getD above (hundred n) 0 < bound → (n - getD above (hundred n) 0 ≡ placeOf number) × (n - getD above (hundred n) 0 < noPlace)
-    there p =
-        let most : bound ≤ noPlace = rw (b, columns .1, e) (bound-within number h) in
-        (ap (λ (t : Bool). cond t noPlace (n - getD above (hundred n) 0)) (sym (lt-leb bound (n - getD above (hundred n) 0) p)) ∙ told, omega (arith, p, most))
+    module _ (bound : ℕ) (b : bound ≡ getD ends k 0) where
+      told : cond (leb bound (n - getD above k 0)) noPlace (n - getD above k 0) ≡ placeOf number
+      told = rw (b, column, ends-column, e, at) (computed-place number h)
+
+      pub past-it : bound ≤ n - getD above k 0 → placeOf number ≡ noPlace
+      past-it p = sym told ∙ ap (λ (t : Bool). cond t noPlace (n - getD above k 0)) (le-leb bound (n - getD above k 0) p)
+
+      pub there : n - getD above k 0 < bound → (n - getD above k 0 ≡ placeOf number) × (n - getD above k 0 < noPlace)
+      there p =
+          let most : bound ≤ noPlace = rw (b, ends-column, at) (bound-within number h) in
+          (ap (λ (t : Bool). cond t noPlace (n - getD above k 0)) (sym (lt-leb bound (n - getD above k 0) p)) ∙ told, omega (arith, p, most))
 
 -- ---- what is found
 pub at-place : (n : ℕ) (r : Place) (p : ℕ) → Placed n r → r ≡ At p → (p ≡ placeOf n) × (p < noPlace)
@@ -195,6 +203,27 @@ wide-at (r ∷ rs) (suc p) t h = wide-at rs p (and-eq-true-iff (ltb 0 (r .bits))
 all-wide : allWide rows ≡ true
 unfolding allWide rows
 all-wide = refl
+
+-- a signal that has bits has a place, and a number below the limit
+pub has-place : (n : ℕ) → 0 < bitsOf n → placeOf n < noPlace
+has-place n h = go (ltb (placeOf n) noPlace) refl
+  where
+    go : (b : Bool) → ltb (placeOf n) noPlace ≡ b → placeOf n < noPlace
+    go true e = ltb-true _ _ e
+    go false e =
+        let past = ltb-false (placeOf n) noPlace e in
+        let none = no-bits n (omega (arith, past, place-most n)) in
+        absurd (omega (arith, h, none))
+
+pub known-at : (n p : ℕ) → 0 < bitsOf n → p ≡ placeOf n → (p ≡ placeOf n) × (p < noPlace)
+known-at n p h e = (e, subst (λ (x : ℕ). x < noPlace) (sym e) (has-place n h))
+
+pub known-below : (n : ℕ) → placeOf n < noPlace → n < numberLimit
+known-below n h = go (ltb n numberLimit) refl
+  where
+    go : (b : Bool) → ltb n numberLimit ≡ b → n < numberLimit
+    go true e = ltb-true _ _ e
+    go false e = let none = place-above n (ltb-false n numberLimit e) in absurd (omega (arith, h, none))
 
 -- what is read there is the signal's bits, and there are some
 module _ (widths : List ℕ) (n p : ℕ) (column : widths ≡ widthsOf rows) (place : (p ≡ placeOf n) × (p < noPlace)) where

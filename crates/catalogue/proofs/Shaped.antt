@@ -10,7 +10,7 @@ use lib.Ieee.Fits.{and-l, and-r}
 use lib.ListN.{getD, List·getD-map}
 use Rattle.rows.specs.declared.Row.{Row}
 use Rattle.rows.specs.Rows.{rows, row, blank}
-use Rattle.catalogue.specs.Find.{rowIn, rowOf, bitsIn, bitsOf}
+use Rattle.catalogue.specs.Find.{rowIn, rowOf}
 use Rattle.catalogue.specs.Shapes.{shapes, noShape, signals, shapeIn, shapeOf, rowShaped}
 use Rattle.catalogue.proofs.Arms.{within}
 
@@ -53,17 +53,3 @@ in-signals n (p ∷ ps) t =
 pub by-shape : (n : ℕ) → forget (rowOf n) ≡ rowShaped (shapeOf n)
 unfolding rowOf
 by-shape n = ap (λ (rs : List Row). forget (rowIn n rs)) all ∙ in-signals n signals tt
-
--- ---- its bits
-
-same-bits : (o : Option Row) → bitsIn o ≡ bitsIn (forget o)
-same-bits none = refl
-same-bits (some r) = refl
-
-bits-by-shape : (n : ℕ) → bitsIn (rowShaped (shapeOf n)) ≡ bitsOf n
-unfolding bitsOf
-bits-by-shape n = sym (same-bits (rowOf n) ∙ ap bitsIn (by-shape n))
-
--- the bits of a signal's shape are its own
-pub shaped-bits : (n s : ℕ) {b : ℕ} → s ≡ shapeOf n → b ≡ bitsIn (rowShaped s) → b ≡ bitsOf n
-shaped-bits n s e h = h ∙ ap (λ (m : ℕ). bitsIn (rowShaped m)) e ∙ bits-by-shape n

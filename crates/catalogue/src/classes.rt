@@ -181,7 +181,7 @@ fn no_mark(bits: u32, resolution: u16, offset: i32, lowest: u32, highest: u32, r
 }
 
 // The class of a count by the signal's shape. Each arm is a shape of specs/Shapes.antt.
-pub fn class_shaped(shape: usize, raw: Raw) -> Class
+fn class_shaped(shape: usize, raw: Raw) -> Class
     ensures { λ r. ⌜ r ≡ classFor (rowShaped shape) raw ⌝ }
 {
     match shape {

@@ -1,15 +1,14 @@
 // The signal catalogue of the 199 signals of QC/T 1201.5-2023: by a signal's number, how many bits it has and what a raw
-// count of it stands for. A number that no signal has is answered too. Who asks for both takes the signal's shape once and goes on
-// by that; who asks for the bits of many signals, as the test of a book does, holds the constant table's column and goes by the
-// signal's place in it. Of the public functions only `is_too_wide`, which is for `messages`, and `place_of` and `bits_at`, which are
-// lent columns, have a `requires`.
+// count of it stands for. A number that no signal has is answered too. The bits come from the constant table's column, by the signal's
+// place in it: who asks for those of many signals, as every call on a book or a frame does, binds the column once and lends it. The
+// class goes by the signal's shape. Of the public functions only `is_too_wide`, which is for `messages`, and `place_of`, `bits_at` and
+// `known_bits`, which are lent columns, have a `requires`.
 mod classes;
 mod places;
 mod shapes;
 mod widths;
 
 pub use classes::class_of;
-pub use classes::class_shaped;
 pub use classes::is_too_wide;
 pub use places::HUNDREDS;
 pub use places::PLACES;
@@ -17,10 +16,9 @@ pub use places::Place;
 pub use places::bounds;
 pub use places::place_of;
 pub use places::surpluses;
-pub use shapes::shape_of;
 pub use widths::bits_at;
 pub use widths::bits_of;
-pub use widths::bits_shaped;
+pub use widths::known_bits;
 
 // A raw count, as a frame carries it.
 pub struct Raw(pub u32);

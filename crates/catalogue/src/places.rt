@@ -1,7 +1,8 @@
 // The place of a signal in the constant table, from its number: numbers go by the hundred, a hundred for each table of the standard.
 // A const array is built anew at every read, so a caller that asks for many signals holds the columns and lends them.
 ghost use mathlib.Core.Path.{_≡_};
-ghost use Rattle.catalogue.specs.Places.{surpluses, bounds, Placed};
+ghost use Prim.Native.Nat.{_<_};
+ghost use Rattle.catalogue.specs.Places.{placeOf, noPlace, hundred, surpluses, bounds, Placed};
 
 // How many hundreds there are with signals in them, or below one that has.
 pub const HUNDREDS: usize = 20;
@@ -89,7 +90,14 @@ pub enum Place {
     Nowhere,
 }
 
-// The place of a signal in the table. Of 1 to 100, 101 to 200 and so on, the number is in the hundred that a product and a shift tell.
+// Of 1 to 100, 101 to 200 and so on, the hundred that a number is in: below the limit a product and a shift tell it.
+fn hundred_of(number: u32) -> usize
+    ensures { λ r. ⌜ r ≡ hundred number ⌝ }
+{
+    wide(number) * 5242 / 524288
+}
+
+// The place of a signal in the table.
 pub fn place_of(number: u32, above: &[usize], ends: &[u8]) -> Place
     requires { ⌜ (now above ≡ surpluses) × (now ends ≡ bounds) ⌝ }
     ensures { λ r. ⌜ Placed number r ⌝ }
@@ -97,11 +105,18 @@ pub fn place_of(number: u32, above: &[usize], ends: &[u8]) -> Place
     if number >= NUMBER_LIMIT {
         return Place::Nowhere;
     }
-    let n = wide(number);
-    let hundred = n * 5242 / 524288;
-    let place = n - above[hundred];
+    let hundred = hundred_of(number);
+    let place = wide(number) - above[hundred];
     if place >= size(ends[hundred]) {
         return Place::Nowhere;
     }
     Place::At(place)
+}
+
+// The place of a signal that the catalogue has.
+pub fn known_place(number: u32, above: &[usize]) -> usize
+    requires { ⌜ (now above ≡ surpluses) × (placeOf number < noPlace) ⌝ }
+    ensures { λ r. ⌜ r ≡ placeOf number ⌝ }
+{
+    wide(number) - above[hundred_of(number)]
 }

@@ -1,6 +1,5 @@
-// The shape of a signal: rows that differ in the number alone have the same. A const array is built anew at every read,
-// so what is asked for each signal of a frame goes by `match`, which becomes a jump; the contracts tie it to the catalogue. Class and
-// bits go by the shape.
+// The shape of a signal: rows that differ in the number alone have the same. A const array is built anew at every read, and a row
+// is fifteen of them, so the class goes by the shape, found by a `match`, which becomes a jump; the contracts tie it to the catalogue.
 ghost use mathlib.Core.Path.{_≡_};
 ghost use Rattle.catalogue.specs.Shapes.{shapeOf};
 

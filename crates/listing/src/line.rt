@@ -1,9 +1,10 @@
-// One frame line, printed where its printout fits what is left of the room.
+// One frame line, printed where its printout fits what is left of the room. The catalogue's columns are lent.
 ghost use mathlib.Core.Path.{_≡_};
 ghost use mathlib.Core.Bool.{true};
 ghost use Prim.Native.Nat.{_≤_};
 ghost use lib.ListN.{length};
 ghost use Rattle.books.specs.Words.{messagesOf, messagesTaken};
+ghost use Rattle.catalogue.specs.Places.{WidthColumns};
 ghost use Rattle.listing.specs.Printout.{printout};
 ghost use Rattle.listing.specs.Working.{wordListing, PutIfFits};
 use crate::Fitted;
@@ -26,29 +27,55 @@ fn list_frame(
     book: &[u32; BOOK_WORDS],
     identifier: u32,
     word: u64,
+    widths: &[u8],
+    above: &[usize],
     out: &mut [u8],
     at: usize,
 ) -> Fitted
-    requires { ⌜ (messagesTaken (now book) ≡ true) × (at ≤ length (now out)) ⌝ }
+    requires { ⌜ WidthColumns (now above) (now widths) × (messagesTaken (now book) ≡ true) × (at ≤ length (now out)) ⌝ }
     ensures { λ r. ⌜ PutIfFits (now (out .entry)) at (wordListing (now (book .entry)) identifier word) (now (out .exit)) r ⌝ }
 {
     match find_message(book, identifier) {
         Found::Signals(from, to) => {
             let numbers = part(record::numbers(book), from, to);
             let starts = part(record::starts(book), from, to);
-            list_message(&mut *out, at, identifier, word, numbers, starts)
+            list_message(
+                &mut *out,
+                at,
+                identifier,
+                word,
+                numbers,
+                starts,
+                widths,
+                above,
+            )
         }
         Found::Nothing => list_refused(&mut *out, at, identifier, UNKNOWN_IDENTIFIER),
     }
 }
 
 // What a frame line, without its newline, prints.
-pub fn list_line(book: &[u32; BOOK_WORDS], line: &[u8], out: &mut [u8], at: usize) -> Fitted
-    requires { ⌜ (messagesTaken (now book) ≡ true) × (at ≤ length (now out)) ⌝ }
+pub fn list_line(
+    book: &[u32; BOOK_WORDS],
+    line: &[u8],
+    widths: &[u8],
+    above: &[usize],
+    out: &mut [u8],
+    at: usize,
+) -> Fitted
+    requires { ⌜ WidthColumns (now above) (now widths) × (messagesTaken (now book) ≡ true) × (at ≤ length (now out)) ⌝ }
     ensures { λ r. ⌜ PutIfFits (now (out .entry)) at (printout (messagesOf (now (book .entry))) (now (line .entry))) (now (out .exit)) r ⌝ }
 {
     match read_frame_line(line) {
-        FrameLine::Frame(identifier, word) => list_frame(book, identifier, word, &mut *out, at),
+        FrameLine::Frame(identifier, word) => list_frame(
+            book,
+            identifier,
+            word,
+            widths,
+            above,
+            &mut *out,
+            at,
+        ),
         FrameLine::NotEightBytes(identifier) => list_refused(
             &mut *out,
             at,

@@ -1,5 +1,7 @@
-// A frame by its message, whose signals' numbers and starts stand in two slices, side by side.
+// A frame by its message, whose signals' numbers and starts stand in two slices, side by side. The signals' bits come from the
+// catalogue's columns, which are lent.
 ghost use Rattle.books.specs.Words.{sideBySide};
+ghost use Rattle.catalogue.specs.Places.{WidthColumns};
 ghost use Rattle.listing.specs.Working.{wordLines, messageText, Roomy, Listable, SignalsPut, PutIfFits};
 use crate::Fitted;
 use crate::room::fit;
@@ -22,17 +24,19 @@ fn put_signals(
     word: u64,
     numbers: &[u32],
     starts: &[u32],
+    widths: &[u8],
+    above: &[usize],
 ) -> usize
-    requires { ⌜ Roomy (now out) at (now numbers) (now starts) ⌝ }
+    requires { ⌜ WidthColumns (now above) (now widths) × Roomy (now out) at (now numbers) (now starts) ⌝ }
     ensures { λ r. ⌜ SignalsPut (now (out .entry)) at identifier word (now (numbers .entry)) (now (starts .entry)) (now (out .exit)) r ⌝ }
 {
     let mut next: usize = at;
     let mut i: usize = 0;
     while i < numbers.len() {
         let number = numbers[i];
-        let shape = catalogue::shape_of(number);
-        let raw = bits::take(word, starts[i], catalogue::bits_shaped(shape));
-        let class = catalogue::class_shaped(shape, Raw(raw));
+        let bits = catalogue::known_bits(number, widths, above);
+        let raw = bits::take(word, starts[i], bits);
+        let class = catalogue::class_of(number, Raw(raw));
         next = put_reading(&mut *out, next, identifier, number, class);
         i += 1;
     }
@@ -47,15 +51,35 @@ fn list_signals(
     word: u64,
     numbers: &[u32],
     starts: &[u32],
+    widths: &[u8],
+    above: &[usize],
 ) -> Fitted
-    requires { ⌜ Listable (now out) at (now numbers) (now starts) ⌝ }
+    requires { ⌜ WidthColumns (now above) (now widths) × Listable (now out) at (now numbers) (now starts) ⌝ }
     ensures { λ r. ⌜ PutIfFits (now (out .entry)) at (wordLines identifier word (sideBySide (now (numbers .entry)) (now (starts .entry)))) (now (out .exit)) r ⌝ }
 {
     if LISTED_LINE_ROOM * numbers.len() <= out.len() - at {
-        return Fitted::Next(put_signals(&mut *out, at, identifier, word, numbers, starts));
+        return Fitted::Next(put_signals(
+            &mut *out,
+            at,
+            identifier,
+            word,
+            numbers,
+            starts,
+            widths,
+            above,
+        ));
     }
     let mut aside = [0u8; LONGEST];
-    let length = put_signals(&mut aside, 0, identifier, word, numbers, starts);
+    let length = put_signals(
+        &mut aside,
+        0,
+        identifier,
+        word,
+        numbers,
+        starts,
+        widths,
+        above,
+    );
     fit(&mut *out, at, &aside[..length])
 }
 
@@ -67,12 +91,23 @@ pub fn list_message(
     word: u64,
     numbers: &[u32],
     starts: &[u32],
+    widths: &[u8],
+    above: &[usize],
 ) -> Fitted
-    requires { ⌜ Listable (now out) at (now numbers) (now starts) ⌝ }
+    requires { ⌜ WidthColumns (now above) (now widths) × Listable (now out) at (now numbers) (now starts) ⌝ }
     ensures { λ r. ⌜ PutIfFits (now (out .entry)) at (messageText identifier word (now (numbers .entry)) (now (starts .entry))) (now (out .exit)) r ⌝ }
 {
     if checked(identifier, word, numbers) {
-        return list_signals(&mut *out, at, identifier, word, numbers, starts);
+        return list_signals(
+            &mut *out,
+            at,
+            identifier,
+            word,
+            numbers,
+            starts,
+            widths,
+            above,
+        );
     }
     list_refused(&mut *out, at, identifier, WRONG_CHECKSUM)
 }

@@ -5,6 +5,7 @@ ghost use Rattle.bits.specs.Frame.{frameBytes};
 ghost use Rattle.bits.specs.Word.{Fits};
 ghost use Rattle.books.specs.Words.{sideBySide};
 ghost use Rattle.catalogue.specs.Find.{bitsOf};
+ghost use Rattle.catalogue.specs.Places.{WidthColumns};
 ghost use Rattle.framing.specs.Lending.{PacksInto};
 ghost use Rattle.framing.specs.Packing.{packable};
 ghost use Rattle.framing.specs.Putting.{allOnes};
@@ -38,34 +39,46 @@ fn is_packable(class: Class) -> bool
     }
 }
 
-// The word with one more value at its place; 503 is skipped.
-fn put_one(word: u64, number: u32, start: u32, value: u32) -> PutWord
-    requires { ⌜ Fits start (bitsOf number) ⌝ }
+// The word with one more value at its place; 503 is skipped. The bits come from the catalogue's columns, which are lent.
+fn put_one(
+    word: u64,
+    number: u32,
+    start: u32,
+    value: u32,
+    widths: &[u8],
+    above: &[usize],
+) -> PutWord
+    requires { ⌜ WidthColumns (now above) (now widths) × Fits start (bitsOf number) ⌝ }
     ensures { λ r. ⌜ r ≡ putOne word (record { number = number; start = start }) value ⌝ }
 {
     if number == CHECKSUM {
         return PutWord::Word(word);
     }
-    let shape = catalogue::shape_of(number);
-    let bits = catalogue::bits_shaped(shape);
+    let bits = catalogue::known_bits(number, widths, above);
     if catalogue::is_too_wide(bits, value) {
         return PutWord::TooWide;
     }
-    if is_packable(catalogue::class_shaped(shape, Raw(value))) {
+    if is_packable(catalogue::class_of(number, Raw(value))) {
         return PutWord::Word(bits::place(word, start, bits, value));
     }
     PutWord::ReservedOrOutside
 }
 
 // A word of ones with each value but that of 503 at its place.
-fn put_all(numbers: &[u32], starts: &[u32], values: &[u32]) -> PutWord
-    requires { ⌜ Packable (now numbers) (now starts) (now values) ⌝ }
+fn put_all(
+    numbers: &[u32],
+    starts: &[u32],
+    values: &[u32],
+    widths: &[u8],
+    above: &[usize],
+) -> PutWord
+    requires { ⌜ WidthColumns (now above) (now widths) × Packable (now numbers) (now starts) (now values) ⌝ }
     ensures { λ r. ⌜ r ≡ putAll (PutWord.Word allOnes) (sideBySide (now (numbers .entry)) (now (starts .entry))) (now (values .entry)) ⌝ }
 {
     let mut word: u64 = 0xffff_ffff_ffff_ffff;
     let mut i: usize = 0;
     while i < numbers.len() {
-        match put_one(word, numbers[i], starts[i], values[i]) {
+        match put_one(word, numbers[i], starts[i], values[i], widths, above) {
             PutWord::Word(next) => {
                 word = next;
                 i += 1;
@@ -88,7 +101,9 @@ pub fn pack_message(
     requires { ⌜ Packable (now numbers) (now starts) (now values) × (length (now frame) ≡ frameBytes) ⌝ }
     ensures { λ r. ⌜ PacksInto (packInto (messageFrom identifier (now (numbers .entry)) (now (starts .entry))) (now (values .entry))) r frame ⌝ }
 {
-    match put_all(numbers, starts, values) {
+    let above = catalogue::surpluses();
+    let widths = rows::widths();
+    match put_all(numbers, starts, values, &widths, &above) {
         PutWord::Word(word) => {
             bits::store(summed(identifier, word, numbers), frame);
             Packing::Packed

@@ -5,6 +5,7 @@ ghost use Prim.Native.Nat.{min};
 ghost use lib.ListN.{length};
 ghost use Rattle.bits.specs.Word.{bytesOf};
 ghost use Rattle.books.specs.Words.{sideBySide};
+ghost use Rattle.catalogue.specs.Places.{WidthColumns};
 ghost use Rattle.framing.specs.Lending.{ReadsInto};
 ghost use Rattle.framing.specs.Reading.{readByMessage};
 ghost use Rattle.messages.specs.Signals.{InStep, SignalsRead, messageFrom, Readable};
@@ -14,23 +15,27 @@ use crate::classes::thousandths_of;
 use catalogue::Raw;
 use framing::Reading;
 
-// The raw count, class code and thousandths of each signal, from the front of three slices that have room for them.
+// The raw count, class code and thousandths of each signal, from the front of three slices that have room for them. The bits come from
+// the catalogue's columns, which are lent.
 pub fn read_signals(
     word: u64,
     numbers: &[u32],
     starts: &[u32],
+    widths: &[u8],
+    above: &[usize],
     raws: &mut [u32],
     classes: &mut [u8],
     thousandths: &mut [i64],
 )
-    requires { ⌜ InStep (now numbers) (now starts) (length (now raws)) (length (now classes)) (length (now thousandths)) ⌝ }
+    requires { ⌜ WidthColumns (now above) (now widths) × InStep (now numbers) (now starts) (length (now raws)) (length (now classes)) (length (now thousandths)) ⌝ }
     ensures { λ _. ⌜ SignalsRead word (sideBySide (now (numbers .entry)) (now (starts .entry))) raws classes thousandths ⌝ }
 {
     let mut i: usize = 0;
     while i < numbers.len() {
-        let shape = catalogue::shape_of(numbers[i]);
-        let raw = bits::take(word, starts[i], catalogue::bits_shaped(shape));
-        let class = catalogue::class_shaped(shape, Raw(raw));
+        let number = numbers[i];
+        let bits = catalogue::known_bits(number, widths, above);
+        let raw = bits::take(word, starts[i], bits);
+        let class = catalogue::class_of(number, Raw(raw));
         raws[i] = raw;
         classes[i] = code_of(class);
         thousandths[i] = thousandths_of(class);
@@ -64,6 +69,17 @@ pub fn read_message(
     if least(raws.len(), least(classes.len(), thousandths.len())) < count {
         return Reading::TooLittleRoom;
     }
-    read_signals(word, numbers, starts, raws, classes, thousandths);
+    let above = catalogue::surpluses();
+    let widths = rows::widths();
+    read_signals(
+        word,
+        numbers,
+        starts,
+        &widths,
+        &above,
+        raws,
+        classes,
+        thousandths,
+    );
     Reading::Read(count)
 }

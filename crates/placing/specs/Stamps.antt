@@ -6,17 +6,14 @@ use mathlib.Core.List.{List, [], _∷_, _++_}
 use Prim.Native.Nat.{ℕ, _<_}
 use lib.Dec.{eqb}
 use lib.ListN.{length, getD, set}
-use Rattle.rows.specs.Rows.{rows}
-use Rattle.rows.specs.Widths.{widthsOf}
-use Rattle.catalogue.specs.Places.{placeOf, noPlace, surpluses, bounds}
+use Rattle.catalogue.specs.Places.{placeOf, noPlace, TableColumns}
 use Rattle.books.specs.Book.{Placement}
 use Rattle.books.specs.Lines.{isIn}
 use Rattle.books.specs.Good.{fitsAfter, goodAfter}
 
 -- the columns by which a signal's place and bits are found
-pub record Columns (above ends widths : List ℕ) : Type 0 where
-  pub places : (above ≡ surpluses) × (ends ≡ bounds)
-  pub bits : widths ≡ widthsOf rows
+abbrev pub Columns : List ℕ → List ℕ → List ℕ → Type 0
+Columns above ends widths = TableColumns above ends widths
 
 -- each place has a stamp, and all are below s
 pub record Below (stamps : List ℕ) (s : ℕ) : Type 0 where

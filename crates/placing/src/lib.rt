@@ -6,6 +6,7 @@ ghost use Prim.Native.Nat.{ℕ, _+_, _≤_, _<_};
 ghost use lib.ListN.{length};
 ghost use Rattle.rows.specs.Rule.{mostBits};
 ghost use Rattle.catalogue.specs.Find.{bitsOf};
+ghost use Rattle.catalogue.specs.Places.{TableColumns};
 ghost use Rattle.books.specs.Belonging.{inRun};
 ghost use Rattle.books.specs.Book.{placement};
 ghost use Rattle.books.specs.Lines.{isIn, misplaced};
@@ -13,7 +14,7 @@ ghost use Rattle.books.specs.Words.{sideBySide};
 ghost use Rattle.masks.specs.Bit.{bit};
 ghost use Rattle.placing.specs.Placing.{standsAlone, FrameRoom};
 ghost use Rattle.placing.specs.Filling.{Marks, FilledMore};
-ghost use Rattle.placing.specs.Stamps.{Columns, Below, stampedTest};
+ghost use Rattle.placing.specs.Stamps.{Below, stampedTest};
 ghost use Rattle.record.specs.Limits.{startLimit};
 use catalogue::Place;
 use record::CHECKSUM;
@@ -136,7 +137,7 @@ pub fn well_placed(
     stamps: &mut [u8],
     stamp: u8,
 ) -> bool
-    requires { ⌜ (length (now starts) ≡ length (now numbers)) × Columns (now above) (now ends) (now widths) × Below (now stamps) stamp ⌝ }
+    requires { ⌜ (length (now starts) ≡ length (now numbers)) × TableColumns (now above) (now ends) (now widths) × Below (now stamps) stamp ⌝ }
     ensures { λ r. ⌜ _≡_ {A = Bool × List ℕ} (r, now (stamps .exit)) (stampedTest (sideBySide (now (numbers .entry)) (now (starts .entry))) stamp (now (stamps .entry))) ⌝ }
 {
     let mut filled: u64 = 0;

@@ -5,46 +5,47 @@ use Rattle.catalogue.proofs.places.place_of.Statement.{statement}
 use Rattle.catalogue.proofs.places.place_of.Tie as tie
 use Rattle.catalogue.proofs.places.place_of.Reads as reads
 use Rattle.catalogue.proofs.places.place_of.Lts as lts
+use Rattle.catalogue.proofs.places.hundred_of.Reads as hundred-of-reads
 use Rattle.catalogue.proofs.places.size.Reads as size-reads
 use Rattle.catalogue.proofs.places.wide.Reads as wide-reads
 
 returns : tie.Need-returns
 returns c = place-above _ (c .if1 .taken)
 
+hundred-of-requires : tie.Need-hundred-of-requires
+hundred-of-requires c κs = search needs
+
 wide-requires : tie.Need-wide-requires
 wide-requires c κs = search needs
-
-mul-hundred : tie.Need-mul-hundred
-mul-hundred c = search needs
 
 mul-place : tie.Need-mul-place
 mul-place c = search needs
 
 shared-slice-read-place : tie.Need-shared-slice-read-place
-shared-slice-read-place c = in-above _ _ _ _ (c .before .before .before .before .before .pre) (c .before .before .if1 .left) (c .before .wide .ensures)
+shared-slice-read-place c = in-above _ _ _ _ (c .before .before .before .before .before .before .pre .0) (c .before .before .before .if1 .left) (c .before .wide .ensures) (c .before .before .hundred-of .ensures)
 
 sub-place : tie.Need-sub-place
-sub-place c = no-less _ _ _ _ (c .before .before .before .before .before .pre) (c .before .before .if1 .left) (c .before .wide .ensures)
+sub-place c = no-less _ _ _ _ (c .before .before .before .before .before .before .pre .0) (c .before .before .before .if1 .left) (c .before .wide .ensures) (c .before .before .hundred-of .ensures)
 
 shared-slice-read-size : tie.Need-shared-slice-read-size
-shared-slice-read-size c = in-ends _ _ _ _ (c .before .before .before .before .before .before .pre) (c .before .before .before .if1 .left) (c .before .before .wide .ensures)
+shared-slice-read-size c = in-ends _ _ _ _ (c .before .before .before .before .before .before .before .pre .0) (c .before .before .before .before .if1 .left) (c .before .before .wide .ensures) (c .before .before .before .hundred-of .ensures) _ (c .before .before .before .before .before .before .before .pre .1)
 
 size-requires : tie.Need-size-requires
 size-requires c κs = search needs
 
 returns-2 : tie.Need-returns-2
-returns-2 c = past-it _ _ _ _ (c .before .before .before .before .before .before .before .before .pre) (c .before .before .before .before .before .if1 .left) (c .before .before .before .before .wide .ensures) _ (c .before .size .ensures) (c .if2 .taken)
+returns-2 c = past-it _ _ _ _ (c .before .before .before .before .before .before .before .before .before .pre .0) (c .before .before .before .before .before .before .if1 .left) (c .before .before .before .before .wide .ensures) (c .before .before .before .before .before .hundred-of .ensures) _ (c .before .before .before .before .before .before .before .before .before .pre .1) _ (c .before .size .ensures) (c .if2 .taken)
 
 returns-3 : tie.Need-returns-3
-returns-3 c = there _ _ _ _ (c .before .before .before .before .before .before .before .before .pre) (c .before .before .before .before .before .if1 .left) (c .before .before .before .before .wide .ensures) _ (c .before .size .ensures) (c .if2 .left)
+returns-3 c = there _ _ _ _ (c .before .before .before .before .before .before .before .before .before .pre .0) (c .before .before .before .before .before .before .if1 .left) (c .before .before .before .before .wide .ensures) (c .before .before .before .before .before .hundred-of .ensures) _ (c .before .before .before .before .before .before .before .before .before .pre .1) _ (c .before .size .ensures) (c .if2 .left)
 
 pub place-of-spec : {M : Type 1} → statement M
 place-of-spec =
     tie.close
     (tie.spec
     returns
+    hundred-of-requires
     wide-requires
-    mul-hundred
     mul-place
     shared-slice-read-place
     sub-place

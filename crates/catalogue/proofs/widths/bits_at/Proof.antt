@@ -19,7 +19,7 @@ returns c = sym (no-bits _ (nowhere _ _ (c .before .before .place-of .ensures) (
 
 shared-slice-read-wide : tie.Need-shared-slice-read-wide
 shared-slice-read-wide c =
-    in-widths _ _ _ (c .before .before .before .before .before .before .before .before .pre .1)
+    in-widths _ _ _ (c .before .before .before .before .before .before .before .before .pre .bits)
     (at-place _ _ _ (c .before .before .before .before .place-of .ensures) (c .before .before .place .given .1))
 
 wide-requires : tie.Need-wide-requires
@@ -27,7 +27,7 @@ wide-requires c κs = search needs
 
 returns-2 : tie.Need-returns-2
 returns-2 c =
-    its-bits _ _ _ (c .before .before .before .before .before .before .before .before .before .pre .1)
+    its-bits _ _ _ (c .before .before .before .before .before .before .before .before .before .pre .bits)
     (at-place _ _ _ (c .before .before .before .before .before .place-of .ensures) (c .before .before .before .place .given .1))
     _ (c .wide .ensures)
 

@@ -5,20 +5,18 @@ use native.Mathlib.Omega.{arith}
 use borrow.Author.Needs.{needs}
 use lib.ListN.{length, getD}
 use Rattle.bits.specs.Word.{Fits}
-use Rattle.catalogue.proofs.Shaped.{shaped-bits}
-use Rattle.catalogue.proofs.Classing.{shaped-class}
 use Rattle.listing.proofs.Walking.{Walked, none-walked, signal-walked, all-walked, room-left, fits-next, class-is}
 use Rattle.listing.proofs.message.put_signals.Statement.{statement}
 use Rattle.listing.proofs.message.put_signals.Tie as tie
 
 abbrev Inv-loop : tie.InvT-loop
-Inv-loop out₀ at identifier word numbers starts next₀ i₀ out next i = Walked out₀ at identifier word numbers starts out next i
+Inv-loop out₀ at identifier word numbers starts widths above next₀ i₀ out next i = Walked out₀ at identifier word numbers starts out next i
 
 abbrev μ-loop : tie.MeasureT-loop
-μ-loop out₀ at identifier word numbers starts next₀ i₀ out next i = length numbers - i
+μ-loop out₀ at identifier word numbers starts widths above next₀ i₀ out next i = length numbers - i
 
 loop-holds : tie.Need-loop-holds Inv-loop μ-loop
-loop-holds c = none-walked _ _ _ _ _ _ (c .before .before .before .pre)
+loop-holds c = none-walked _ _ _ _ _ _ (c .before .before .before .before .before .pre .1)
 
 mul-number : tie.Need-mul-number Inv-loop μ-loop
 mul-number c = omega arith
@@ -26,26 +24,23 @@ mul-number c = omega arith
 shared-slice-read-number : tie.Need-shared-slice-read-number Inv-loop μ-loop
 shared-slice-read-number c = omega arith
 
-shape-of-requires : tie.Need-shape-of-requires Inv-loop μ-loop
-shape-of-requires c κs = search needs
+known-bits-requires : tie.Need-known-bits-requires Inv-loop μ-loop
+known-bits-requires c κs = (c .before .before .before .before .before .before .before .before .pre .0, fits-next (c .before .before .loop .inv) (c .before .before .before .before .before .before .before .before .pre .1) (c .before .loop-test .taken) .some)
 
 mul-take : tie.Need-mul-take Inv-loop μ-loop
 mul-take c = omega arith
 
 shared-slice-read-take : tie.Need-shared-slice-read-take Inv-loop μ-loop
-shared-slice-read-take c = omega (arith, c .before .before .before .before .before .before .before .before .pre .same)
-
-bits-shaped-requires : tie.Need-bits-shaped-requires Inv-loop μ-loop
-bits-shaped-requires c κs = search needs
+shared-slice-read-take c = omega (arith, c .before .before .before .before .before .before .before .before .before .before .pre .1 .same)
 
 take-requires : tie.Need-take-requires Inv-loop μ-loop
-take-requires c κs = subst⁻¹ (λ (b : ℕ). Fits (getD (c .before .before .before .before .before .before .before .before .before .args .starts .now) (c .before .before .before .before .before .loop .i) 0) b) (shaped-bits _ _ (c .before .before .shape-of .ensures) (c .bits-shaped .ensures)) (fits-next (c .before .before .before .before .before .loop .inv) (c .before .before .before .before .before .before .before .before .before .pre) (c .before .before .before .before .loop-test .taken))
+take-requires c κs = subst⁻¹ (λ (b : ℕ). Fits (getD (c .before .before .before .before .before .before .before .before .before .before .args .starts .now) (c .before .before .before .before .loop .i) 0) b) (c .before .known-bits .ensures) (fits-next (c .before .before .before .before .loop .inv) (c .before .before .before .before .before .before .before .before .before .before .pre .1) (c .before .before .before .loop-test .taken))
 
-class-shaped-requires : tie.Need-class-shaped-requires Inv-loop μ-loop
-class-shaped-requires c κs = search needs
+class-of-requires : tie.Need-class-of-requires Inv-loop μ-loop
+class-of-requires c κs = search needs
 
 put-reading-requires : tie.Need-put-reading-requires Inv-loop μ-loop
-put-reading-requires c κs = room-left (c .before .before .before .before .before .before .before .before .loop .inv) (c .before .before .before .before .before .before .before .before .before .before .before .before .pre) (c .before .before .before .before .before .before .before .loop-test .taken)
+put-reading-requires c κs = room-left (c .before .before .before .before .before .before .before .loop .inv) (c .before .before .before .before .before .before .before .before .before .before .before .before .before .pre .1) (c .before .before .before .before .before .before .loop-test .taken)
 
 add-i : tie.Need-add-i Inv-loop μ-loop
 add-i c = omega arith
@@ -54,7 +49,7 @@ loop-less : tie.Need-loop-less Inv-loop μ-loop
 loop-less c = omega arith
 
 loop-again : tie.Need-loop-again Inv-loop μ-loop
-loop-again c = signal-walked (c .before .before .before .before .before .before .before .before .before .before .before .loop .inv) (c .before .before .before .before .before .before .before .before .before .before .before .before .before .before .before .pre) (c .before .before .before .before .before .before .before .before .before .before .loop-test .taken) (class-is _ _ _ (shaped-bits _ _ (c .before .before .before .before .before .before .before .before .shape-of .ensures) (c .before .before .before .before .before .before .bits-shaped .ensures)) (c .before .before .before .before .before .take .ensures) (shaped-class _ _ _ (c .before .before .before .before .before .before .before .before .shape-of .ensures) (c .before .before .before .before .class-shaped .ensures))) (c .before .before .put-reading .ensures)
+loop-again c = signal-walked (c .before .before .before .before .before .before .before .before .before .before .loop .inv) (c .before .before .before .before .before .before .before .before .before .before .before .before .before .before .before .before .pre .1) (c .before .before .before .before .before .before .before .before .before .loop-test .taken) (class-is _ _ _ (c .before .before .before .before .before .before .before .known-bits .ensures) (c .before .before .before .before .before .take .ensures) (c .before .before .before .before .class-of .ensures)) (c .before .before .put-reading .ensures)
 
 same-length : tie.Need-same-length Inv-loop μ-loop
 same-length c = c .before .loop .inv .size
@@ -71,12 +66,11 @@ put-signals-spec =
     loop-holds
     mul-number
     shared-slice-read-number
-    shape-of-requires
+    known-bits-requires
     mul-take
     shared-slice-read-take
-    bits-shaped-requires
     take-requires
-    class-shaped-requires
+    class-of-requires
     put-reading-requires
     add-i
     loop-less

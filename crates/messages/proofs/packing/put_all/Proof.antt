@@ -23,13 +23,13 @@ record Inv (numbers starts values : List ℕ) (word i : ℕ) : Type 0 where
   puts : putAll (Word word) (rest numbers starts i) (drop i values) ≡ putAll (Word allOnes) (sideBySide numbers starts) values
 
 abbrev Inv-loop : tie.InvT-loop
-Inv-loop numbers starts values word₀ i₀ word i = Inv numbers starts values word i
+Inv-loop numbers starts values widths above word₀ i₀ word i = Inv numbers starts values word i
 
 abbrev μ-loop : tie.MeasureT-loop
-μ-loop numbers starts values word₀ i₀ word i = length numbers - i
+μ-loop numbers starts values widths above word₀ i₀ word i = length numbers - i
 
 loop-holds : tie.Need-loop-holds Inv-loop μ-loop
-loop-holds c = record { bound = omega arith; fit = c .before .before .before .pre .fit; puts = refl }
+loop-holds c = record { bound = omega arith; fit = c .before .before .before .before .before .pre .1 .fit; puts = refl }
 
 mul-put-one : tie.Need-mul-put-one Inv-loop μ-loop
 mul-put-one c = search needs
@@ -50,7 +50,7 @@ shared-slice-read-put-one-3 : tie.Need-shared-slice-read-put-one-3 Inv-loop μ-l
 shared-slice-read-put-one-3 c = omega arith
 
 put-one-requires : tie.Need-put-one-requires Inv-loop μ-loop
-put-one-requires c κs = fits-at (c .before .before .before .before .before .before .before .before .args .numbers .now) (c .before .before .before .before .before .before .before .before .args .starts .now) (c .before .before .before .before .loop .i) (c .before .before .before .loop-test .taken) (c .before .before .before .before .before .before .before .before .pre .same) (c .before .before .before .before .loop .inv .fit)
+put-one-requires c κs = (c .before .before .before .before .before .before .before .before .before .before .pre .0, fits-at (c .before .before .before .before .before .before .before .before .before .before .args .numbers .now) (c .before .before .before .before .before .before .before .before .before .before .args .starts .now) (c .before .before .before .before .loop .i) (c .before .before .before .loop-test .taken) (c .before .before .before .before .before .before .before .before .before .before .pre .1 .same) (c .before .before .before .before .loop .inv .fit))
 
 enum-known-next : tie.Need-enum-known-next Inv-loop μ-loop
 enum-known-next c = search needs
@@ -62,35 +62,35 @@ loop-less : tie.Need-loop-less Inv-loop μ-loop
 loop-less c = omega arith
 
 loop-again : tie.Need-loop-again Inv-loop μ-loop
-loop-again c = let a = c .before .before .before .before .before .before .before .before .before .before .before .before .args in
+loop-again c = let a = c .before .before .before .before .before .before .before .before .before .before .before .before .before .before .args in
     let l = c .before .before .before .before .before .before .before .before .loop in
     let put-on : PutWord → PutWord = λ x. putAll x (rest (a .numbers .now) (a .starts .now) (l .i + 1)) (drop (l .i + 1) (a .values .now)) in
     record {
       bound = omega arith;
-      fit = fits-on (a .numbers .now) (a .starts .now) (l .i) (c .before .before .before .before .before .before .before .loop-test .taken) (c .before .before .before .before .before .before .before .before .before .before .before .before .pre .same) (l .inv .fit);
-      puts = sym (ap put-on (sym (c .before .before .before .put-one .ensures) ∙ c .before .next .given .1)) ∙ sym (put-more (a .numbers .now) (a .starts .now) (a .values .now) (l .word) (l .i) (c .before .before .before .before .before .before .before .before .before .before .before .before .pre) (c .before .before .before .before .before .before .before .loop-test .taken)) ∙ l .inv .puts;
+      fit = fits-on (a .numbers .now) (a .starts .now) (l .i) (c .before .before .before .before .before .before .before .loop-test .taken) (c .before .before .before .before .before .before .before .before .before .before .before .before .before .before .pre .1 .same) (l .inv .fit);
+      puts = sym (ap put-on (sym (c .before .before .before .put-one .ensures) ∙ c .before .next .given .1)) ∙ sym (put-more (a .numbers .now) (a .starts .now) (a .values .now) (l .word) (l .i) (c .before .before .before .before .before .before .before .before .before .before .before .before .before .before .pre .1) (c .before .before .before .before .before .before .before .loop-test .taken)) ∙ l .inv .puts;
     }
 
 enum-told : tie.Need-enum-told Inv-loop μ-loop
 enum-told c = search needs
 
 returns : tie.Need-returns Inv-loop μ-loop
-returns c = let a = c .before .before .before .before .before .before .before .before .before .before .before .args in
+returns c = let a = c .before .before .before .before .before .before .before .before .before .before .before .before .before .args in
     let l = c .before .before .before .before .before .before .before .loop in
     let put-on : PutWord → PutWord = λ x. putAll x (rest (a .numbers .now) (a .starts .now) (l .i + 1)) (drop (l .i + 1) (a .values .now)) in
-    sym (put-more (a .numbers .now) (a .starts .now) (a .values .now) (l .word) (l .i) (c .before .before .before .before .before .before .before .before .before .before .before .pre) (c .before .before .before .before .before .before .loop-test .taken) ∙ ap put-on (sym (c .before .before .put-one .ensures) ∙ c .enum-told .given .1) ∙ wide-stays (rest (a .numbers .now) (a .starts .now) (l .i + 1)) (drop (l .i + 1) (a .values .now))) ∙ l .inv .puts
+    sym (put-more (a .numbers .now) (a .starts .now) (a .values .now) (l .word) (l .i) (c .before .before .before .before .before .before .before .before .before .before .before .before .before .pre .1) (c .before .before .before .before .before .before .loop-test .taken) ∙ ap put-on (sym (c .before .before .put-one .ensures) ∙ c .enum-told .given .1) ∙ wide-stays (rest (a .numbers .now) (a .starts .now) (l .i + 1)) (drop (l .i + 1) (a .values .now))) ∙ l .inv .puts
 
 enum-told-2 : tie.Need-enum-told-2 Inv-loop μ-loop
 enum-told-2 c = search needs
 
 returns-2 : tie.Need-returns-2 Inv-loop μ-loop
-returns-2 c = let a = c .before .before .before .before .before .before .before .before .before .before .before .args in
+returns-2 c = let a = c .before .before .before .before .before .before .before .before .before .before .before .before .before .args in
     let l = c .before .before .before .before .before .before .before .loop in
     let put-on : PutWord → PutWord = λ x. putAll x (rest (a .numbers .now) (a .starts .now) (l .i + 1)) (drop (l .i + 1) (a .values .now)) in
-    sym (put-more (a .numbers .now) (a .starts .now) (a .values .now) (l .word) (l .i) (c .before .before .before .before .before .before .before .before .before .before .before .pre) (c .before .before .before .before .before .before .loop-test .taken) ∙ ap put-on (sym (c .before .before .put-one .ensures) ∙ c .enum-told2 .given .1) ∙ barred-stays (rest (a .numbers .now) (a .starts .now) (l .i + 1)) (drop (l .i + 1) (a .values .now))) ∙ l .inv .puts
+    sym (put-more (a .numbers .now) (a .starts .now) (a .values .now) (l .word) (l .i) (c .before .before .before .before .before .before .before .before .before .before .before .before .before .pre .1) (c .before .before .before .before .before .before .loop-test .taken) ∙ ap put-on (sym (c .before .before .put-one .ensures) ∙ c .enum-told2 .given .1) ∙ barred-stays (rest (a .numbers .now) (a .starts .now) (l .i + 1)) (drop (l .i + 1) (a .values .now))) ∙ l .inv .puts
 
 returns-3 : tie.Need-returns-3 Inv-loop μ-loop
-returns-3 c = let a = c .before .before .before .before .before .args in
+returns-3 c = let a = c .before .before .before .before .before .before .before .args in
     let l = c .before .loop in
     sym (put-none (a .numbers .now) (a .starts .now) (a .values .now) (l .word) (l .i) (c .loop-test .left)) ∙ l .inv .puts
 

@@ -29,8 +29,23 @@ returns-2 c = let a = c .before .before .before .before .before .before .before 
     let check : checkHolds (a .identifier) (a .word) (a .numbers .now) ≡ true = sym (c .before .before .before .before .checked .ensures) ∙ not-false _ (c .before .before .before .if1 .left) in
     refused-room (a .identifier) (a .word) (a .numbers .now) (a .starts .now) (omega arith) (c .before .before .before .before .before .before .before .before .before .pre) (record { raws = a .raws .now; classes = a .classes .now; thousandths = a .thousandths .now }) check (omega arith)
 
+surpluses-requires : tie.Need-surpluses-requires
+surpluses-requires c κs = search needs
+
+widths-requires : tie.Need-widths-requires
+widths-requires c κs = search needs
+
+slice-aggregate-read-signals : tie.Need-slice-aggregate-read-signals
+slice-aggregate-read-signals c = search needs
+
+slice-aggregate-read-signals-2 : tie.Need-slice-aggregate-read-signals-2
+slice-aggregate-read-signals-2 c = search needs
+
 read-signals-requires : tie.Need-read-signals-requires
-read-signals-requires c κs = search needs
+read-signals-requires c κs = (
+  record { surplus = c .before .before .before .before .before .before .surpluses .ensures; bits = c .before .before .before .before .before .widths .ensures },
+  record { same = c .before .before .before .before .before .before .before .before .before .before .before .before .before .before .before .before .pre .same; fit = c .before .before .before .before .before .before .before .before .before .before .before .before .before .before .before .before .pre .fit; raw-room = omega arith; class-room = omega arith; thousandth-room = omega arith },
+)
 
 same-length : tie.Need-same-length
 same-length c = search needs
@@ -42,9 +57,9 @@ same-length-3 : tie.Need-same-length-3
 same-length-3 c = search needs
 
 returns-3 : tie.Need-returns-3
-returns-3 c = let a = c .before .before .before .before .before .before .before .before .before .before .before .before .before .before .before .before .before .before .args in
-    let check : checkHolds (a .identifier) (a .word) (a .numbers .now) ≡ true = sym (c .before .before .before .before .before .before .before .before .before .before .before .before .before .checked .ensures) ∙ not-false _ (c .before .before .before .before .before .before .before .before .before .before .before .before .if1 .left) in
-    was-read (a .identifier) (a .word) (a .numbers .now) (a .starts .now) (omega (arith, c .before .before .before .before .before .before .before .before .before .before .before .before .before .before .before .before .before .before .fits .word)) (c .before .before .before .before .before .before .before .before .before .before .before .before .before .before .before .before .before .before .pre) (record { raws = a .raws .now; classes = a .classes .now; thousandths = a .thousandths .now }) check (omega arith) _
+returns-3 c = let a = c .before .before .before .before .before .before .before .before .before .before .before .before .before .before .before .before .before .before .before .before .before .before .args in
+    let check : checkHolds (a .identifier) (a .word) (a .numbers .now) ≡ true = sym (c .before .before .before .before .before .before .before .before .before .before .before .before .before .before .before .before .before .checked .ensures) ∙ not-false _ (c .before .before .before .before .before .before .before .before .before .before .before .before .before .before .before .before .if1 .left) in
+    was-read (a .identifier) (a .word) (a .numbers .now) (a .starts .now) (omega (arith, c .before .before .before .before .before .before .before .before .before .before .before .before .before .before .before .before .before .before .before .before .before .before .fits .word)) (c .before .before .before .before .before .before .before .before .before .before .before .before .before .before .before .before .before .before .before .before .before .before .pre) (record { raws = a .raws .now; classes = a .classes .now; thousandths = a .thousandths .now }) check (omega arith) _
     (c .before .before .before .before .before .read-signals .ensures .0) (c .before .before .before .before .before .read-signals .ensures .1) (c .before .before .before .before .before .read-signals .ensures .2)
 
 pub read-message-spec : {M : Type 1} → statement M
@@ -56,6 +71,10 @@ read-message-spec =
     least-requires
     least-requires-2
     returns-2
+    surpluses-requires
+    widths-requires
+    slice-aggregate-read-signals
+    slice-aggregate-read-signals-2
     read-signals-requires
     same-length
     same-length-2

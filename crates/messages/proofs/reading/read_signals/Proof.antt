@@ -12,8 +12,6 @@ use borrow.Author.Needs.{needs}
 use Rattle.bits.specs.Word.{Fits, fieldOf}
 use Rattle.catalogue.specs.Class.{classOf}
 use Rattle.framing.specs.Reading.{classCode, thousandthsOf}
-use Rattle.catalogue.proofs.Shaped.{shaped-bits}
-use Rattle.catalogue.proofs.Classing.{shaped-class}
 use Rattle.messages.specs.Signals.{AllFit, rawIn, classFrom, codeIn, readingIn}
 use Rattle.messages.proofs.Steps.{rest, placementAt, fits-at, fits-on, Writing, write-more, write-none, write-length}
 use Rattle.messages.proofs.reading.read_signals.Statement.{statement}
@@ -27,19 +25,19 @@ record Inv (word : ℕ) (numbers starts : List ℕ) (raws₀ classes₀ : List �
   in-thousandths : Writing (readingIn word) thousandths₀ numbers starts thousandths i
 
 abbrev Inv-loop : tie.InvT-loop
-Inv-loop word numbers starts raws₀ classes₀ thousandths₀ i₀ raws classes thousandths i = Inv word numbers starts raws₀ classes₀ thousandths₀ raws classes thousandths i
+Inv-loop word numbers starts widths above raws₀ classes₀ thousandths₀ i₀ raws classes thousandths i = Inv word numbers starts raws₀ classes₀ thousandths₀ raws classes thousandths i
 
 abbrev μ-loop : tie.MeasureT-loop
-μ-loop word numbers starts raws₀ classes₀ thousandths₀ i₀ raws classes thousandths i = length numbers - i
+μ-loop word numbers starts widths above raws₀ classes₀ thousandths₀ i₀ raws classes thousandths i = length numbers - i
 
 loop-holds : tie.Need-loop-holds Inv-loop μ-loop
-loop-holds c = record { bound = omega arith; fit = c .before .before .before .before .pre .fit; in-raws = refl; in-classes = refl; in-thousandths = refl }
+loop-holds c = record { bound = omega arith; fit = c .before .before .before .before .before .before .pre .1 .fit; in-raws = refl; in-classes = refl; in-thousandths = refl }
 
-mul-shape-of : tie.Need-mul-shape-of Inv-loop μ-loop
-mul-shape-of c = search needs
+mul-number : tie.Need-mul-number Inv-loop μ-loop
+mul-number c = search needs
 
-shared-slice-read-shape-of : tie.Need-shared-slice-read-shape-of Inv-loop μ-loop
-shared-slice-read-shape-of c = search needs
+shared-slice-read-number : tie.Need-shared-slice-read-number Inv-loop μ-loop
+shared-slice-read-number c = search needs
 
 mul-take : tie.Need-mul-take Inv-loop μ-loop
 mul-take c = search needs
@@ -47,38 +45,35 @@ mul-take c = search needs
 shared-slice-read-take : tie.Need-shared-slice-read-take Inv-loop μ-loop
 shared-slice-read-take c = omega arith
 
-shape-of-requires : tie.Need-shape-of-requires Inv-loop μ-loop
-shape-of-requires c κs = search needs
-
-bits-shaped-requires : tie.Need-bits-shaped-requires Inv-loop μ-loop
-bits-shaped-requires c κs = search needs
+known-bits-requires : tie.Need-known-bits-requires Inv-loop μ-loop
+known-bits-requires c κs = (c .before .before .before .before .before .before .before .before .before .pre .0, fits-at (c .before .before .before .before .before .before .before .before .before .args .numbers .now) (c .before .before .before .before .before .before .before .before .before .args .starts .now) (c .before .before .loop .i) (c .before .loop-test .taken) (c .before .before .before .before .before .before .before .before .before .pre .1 .same) (c .before .before .loop .inv .fit) .some)
 
 take-requires : tie.Need-take-requires Inv-loop μ-loop
-take-requires c κs = subst⁻¹ (λ (b : ℕ). Fits (getD (c .before .before .before .before .before .before .before .before .before .before .args .starts .now) (c .before .before .before .before .before .loop .i) 0) b) (shaped-bits _ _ (c .before .before .shape-of .ensures) (c .bits-shaped .ensures)) (fits-at (c .before .before .before .before .before .before .before .before .before .before .args .numbers .now) (c .before .before .before .before .before .before .before .before .before .before .args .starts .now) (c .before .before .before .before .before .loop .i) (c .before .before .before .before .loop-test .taken) (c .before .before .before .before .before .before .before .before .before .before .pre .same) (c .before .before .before .before .before .loop .inv .fit))
+take-requires c κs = subst⁻¹ (λ (b : ℕ). Fits (getD (c .before .before .before .before .before .before .before .before .before .before .before .args .starts .now) (c .before .before .before .before .loop .i) 0) b) (c .before .known-bits .ensures) (fits-at (c .before .before .before .before .before .before .before .before .before .before .before .args .numbers .now) (c .before .before .before .before .before .before .before .before .before .before .before .args .starts .now) (c .before .before .before .before .loop .i) (c .before .before .before .loop-test .taken) (c .before .before .before .before .before .before .before .before .before .before .before .pre .1 .same) (c .before .before .before .before .loop .inv .fit))
 
-class-shaped-requires : tie.Need-class-shaped-requires Inv-loop μ-loop
-class-shaped-requires c κs = search needs
+class-of-requires : tie.Need-class-of-requires Inv-loop μ-loop
+class-of-requires c κs = search needs
 
 mul-raws : tie.Need-mul-raws Inv-loop μ-loop
 mul-raws c = search needs
 
 slice-write-raws : tie.Need-slice-write-raws Inv-loop μ-loop
-slice-write-raws c = omega (arith, c .before .before .before .before .before .before .before .before .before .before .before .before .pre .raw-room, write-length (rawIn (c .before .before .before .before .before .before .before .before .before .before .before .before .args .word)) (c .before .before .before .before .before .before .before .before .before .before .before .before .args .raws .now) (c .before .before .before .before .before .before .before .before .before .before .before .before .args .numbers .now) (c .before .before .before .before .before .before .before .before .before .before .before .before .args .starts .now) (c .before .before .before .before .before .before .before .loop .raws) (c .before .before .before .before .before .before .before .loop .i) (c .before .before .before .before .before .before .before .loop .inv .in-raws))
+slice-write-raws c = omega (arith, c .before .before .before .before .before .before .before .before .before .before .before .before .before .pre .1 .raw-room, write-length (rawIn (c .before .before .before .before .before .before .before .before .before .before .before .before .before .args .word)) (c .before .before .before .before .before .before .before .before .before .before .before .before .before .args .raws .now) (c .before .before .before .before .before .before .before .before .before .before .before .before .before .args .numbers .now) (c .before .before .before .before .before .before .before .before .before .before .before .before .before .args .starts .now) (c .before .before .before .before .before .before .loop .raws) (c .before .before .before .before .before .before .loop .i) (c .before .before .before .before .before .before .loop .inv .in-raws))
 
 code-of-requires : tie.Need-code-of-requires Inv-loop μ-loop
 code-of-requires c κs = search needs
 
 slice-write-classes : tie.Need-slice-write-classes Inv-loop μ-loop
-slice-write-classes c = omega (arith, c .before .before .before .before .before .before .before .before .before .before .before .before .before .pre .class-room, write-length (codeIn (c .before .before .before .before .before .before .before .before .before .before .before .before .before .args .word)) (c .before .before .before .before .before .before .before .before .before .before .before .before .before .args .classes .now) (c .before .before .before .before .before .before .before .before .before .before .before .before .before .args .numbers .now) (c .before .before .before .before .before .before .before .before .before .before .before .before .before .args .starts .now) (c .before .before .before .before .before .before .before .before .loop .classes) (c .before .before .before .before .before .before .before .before .loop .i) (c .before .before .before .before .before .before .before .before .loop .inv .in-classes))
+slice-write-classes c = omega (arith, c .before .before .before .before .before .before .before .before .before .before .before .before .before .before .pre .1 .class-room, write-length (codeIn (c .before .before .before .before .before .before .before .before .before .before .before .before .before .before .args .word)) (c .before .before .before .before .before .before .before .before .before .before .before .before .before .before .args .classes .now) (c .before .before .before .before .before .before .before .before .before .before .before .before .before .before .args .numbers .now) (c .before .before .before .before .before .before .before .before .before .before .before .before .before .before .args .starts .now) (c .before .before .before .before .before .before .before .loop .classes) (c .before .before .before .before .before .before .before .loop .i) (c .before .before .before .before .before .before .before .loop .inv .in-classes))
 
 thousandths-of-requires : tie.Need-thousandths-of-requires Inv-loop μ-loop
 thousandths-of-requires c κs = search needs
 
-mul-t11 : tie.Need-mul-t11 Inv-loop μ-loop
-mul-t11 c = search needs
+mul-t14 : tie.Need-mul-t14 Inv-loop μ-loop
+mul-t14 c = search needs
 
 slice-set-from-thousandths : tie.Need-slice-set-from-thousandths Inv-loop μ-loop
-slice-set-from-thousandths c = omega (arith, c .before .before .before .before .before .before .before .before .before .before .before .before .before .before .pre .thousandth-room, write-length (readingIn (c .before .before .before .before .before .before .before .before .before .before .before .before .before .before .args .word)) (c .before .before .before .before .before .before .before .before .before .before .before .before .before .before .args .thousandths .now) (c .before .before .before .before .before .before .before .before .before .before .before .before .before .before .args .numbers .now) (c .before .before .before .before .before .before .before .before .before .before .before .before .before .before .args .starts .now) (c .before .before .before .before .before .before .before .before .before .loop .thousandths) (c .before .before .before .before .before .before .before .before .before .loop .i) (c .before .before .before .before .before .before .before .before .before .loop .inv .in-thousandths))
+slice-set-from-thousandths c = omega (arith, c .before .before .before .before .before .before .before .before .before .before .before .before .before .before .before .pre .1 .thousandth-room, write-length (readingIn (c .before .before .before .before .before .before .before .before .before .before .before .before .before .before .before .args .word)) (c .before .before .before .before .before .before .before .before .before .before .before .before .before .before .before .args .thousandths .now) (c .before .before .before .before .before .before .before .before .before .before .before .before .before .before .before .args .numbers .now) (c .before .before .before .before .before .before .before .before .before .before .before .before .before .before .before .args .starts .now) (c .before .before .before .before .before .before .before .before .loop .thousandths) (c .before .before .before .before .before .before .before .before .loop .i) (c .before .before .before .before .before .before .before .before .loop .inv .in-thousandths))
 
 add-i : tie.Need-add-i Inv-loop μ-loop
 add-i c = search needs
@@ -87,14 +82,14 @@ loop-less : tie.Need-loop-less Inv-loop μ-loop
 loop-less c = omega arith
 
 loop-again : tie.Need-loop-again Inv-loop μ-loop
-loop-again c = let a = c .before .before .before .before .before .before .before .before .before .before .before .before .before .before .args in
-    let l = c .before .before .before .before .before .before .before .before .before .loop in
+loop-again c = let a = c .before .before .before .before .before .before .before .before .before .before .before .before .before .before .before .args in
+    let l = c .before .before .before .before .before .before .before .before .loop in
     let ns = a .numbers .now in
     let ss = a .starts .now in
-    let h = c .before .before .before .before .before .before .before .before .loop-test .taken in
-    let e = c .before .before .before .before .before .before .before .before .before .before .before .before .before .before .pre .same in
-    let raw : c .before .before .before .take .result ≡ rawIn (a .word) (placementAt ns ss (l .i)) = c .before .before .before .take .ensures ∙ ap (λ (b : ℕ). fieldOf (a .word) (getD ss (l .i) 0) b) (shaped-bits _ _ (c .before .before .before .before .before .before .shape-of .ensures) (c .before .before .before .before .bits-shaped .ensures)) in
-    let class : c .before .before .class-shaped .result ≡ classFrom (a .word) (placementAt ns ss (l .i)) = shaped-class _ _ _ (c .before .before .before .before .before .before .shape-of .ensures) (c .before .before .class-shaped .ensures) ∙ ap (λ (x : ℕ). classOf (getD ns (l .i) 0) (record { 0 = x })) raw in
+    let h = c .before .before .before .before .before .before .before .loop-test .taken in
+    let e = c .before .before .before .before .before .before .before .before .before .before .before .before .before .before .before .pre .1 .same in
+    let raw : c .before .before .before .take .result ≡ rawIn (a .word) (placementAt ns ss (l .i)) = c .before .before .before .take .ensures ∙ ap (λ (b : ℕ). fieldOf (a .word) (getD ss (l .i) 0) b) (c .before .before .before .before .before .known-bits .ensures) in
+    let class : c .before .before .class-of .result ≡ classFrom (a .word) (placementAt ns ss (l .i)) = c .before .before .class-of .ensures ∙ ap (λ (x : ℕ). classOf (getD ns (l .i) 0) (record { 0 = x })) raw in
     record {
       bound = omega arith;
       fit = fits-on ns ss (l .i) h e (l .inv .fit);
@@ -104,19 +99,19 @@ loop-again c = let a = c .before .before .before .before .before .before .before
     }
 
 same-length : tie.Need-same-length Inv-loop μ-loop
-same-length c = write-length (rawIn (c .before .before .before .before .before .before .args .word)) (c .before .before .before .before .before .before .args .raws .now) (c .before .before .before .before .before .before .args .numbers .now) (c .before .before .before .before .before .before .args .starts .now) (c .before .loop .raws) (c .before .loop .i) (c .before .loop .inv .in-raws)
+same-length c = write-length (rawIn (c .before .before .before .before .before .before .before .before .args .word)) (c .before .before .before .before .before .before .before .before .args .raws .now) (c .before .before .before .before .before .before .before .before .args .numbers .now) (c .before .before .before .before .before .before .before .before .args .starts .now) (c .before .loop .raws) (c .before .loop .i) (c .before .loop .inv .in-raws)
 
 same-length-2 : tie.Need-same-length-2 Inv-loop μ-loop
-same-length-2 c = write-length (codeIn (c .before .before .before .before .before .before .args .word)) (c .before .before .before .before .before .before .args .classes .now) (c .before .before .before .before .before .before .args .numbers .now) (c .before .before .before .before .before .before .args .starts .now) (c .before .loop .classes) (c .before .loop .i) (c .before .loop .inv .in-classes)
+same-length-2 c = write-length (codeIn (c .before .before .before .before .before .before .before .before .args .word)) (c .before .before .before .before .before .before .before .before .args .classes .now) (c .before .before .before .before .before .before .before .before .args .numbers .now) (c .before .before .before .before .before .before .before .before .args .starts .now) (c .before .loop .classes) (c .before .loop .i) (c .before .loop .inv .in-classes)
 
 same-length-3 : tie.Need-same-length-3 Inv-loop μ-loop
-same-length-3 c = write-length (readingIn (c .before .before .before .before .before .before .args .word)) (c .before .before .before .before .before .before .args .thousandths .now) (c .before .before .before .before .before .before .args .numbers .now) (c .before .before .before .before .before .before .args .starts .now) (c .before .loop .thousandths) (c .before .loop .i) (c .before .loop .inv .in-thousandths)
+same-length-3 c = write-length (readingIn (c .before .before .before .before .before .before .before .before .args .word)) (c .before .before .before .before .before .before .before .before .args .thousandths .now) (c .before .before .before .before .before .before .before .before .args .numbers .now) (c .before .before .before .before .before .before .before .before .args .starts .now) (c .before .loop .thousandths) (c .before .loop .i) (c .before .loop .inv .in-thousandths)
 
 returns : tie.Need-returns Inv-loop μ-loop
 returns c = (
-  write-none (rawIn (c .before .before .before .before .before .before .args .word)) (c .before .before .before .before .before .before .args .raws .now) (c .before .before .before .before .before .before .args .numbers .now) (c .before .before .before .before .before .before .args .starts .now) (c .before .loop .raws) (c .before .loop .i) (c .loop-test .left) (c .before .loop .inv .in-raws),
-  write-none (codeIn (c .before .before .before .before .before .before .args .word)) (c .before .before .before .before .before .before .args .classes .now) (c .before .before .before .before .before .before .args .numbers .now) (c .before .before .before .before .before .before .args .starts .now) (c .before .loop .classes) (c .before .loop .i) (c .loop-test .left) (c .before .loop .inv .in-classes),
-  write-none (readingIn (c .before .before .before .before .before .before .args .word)) (c .before .before .before .before .before .before .args .thousandths .now) (c .before .before .before .before .before .before .args .numbers .now) (c .before .before .before .before .before .before .args .starts .now) (c .before .loop .thousandths) (c .before .loop .i) (c .loop-test .left) (c .before .loop .inv .in-thousandths),
+  write-none (rawIn (c .before .before .before .before .before .before .before .before .args .word)) (c .before .before .before .before .before .before .before .before .args .raws .now) (c .before .before .before .before .before .before .before .before .args .numbers .now) (c .before .before .before .before .before .before .before .before .args .starts .now) (c .before .loop .raws) (c .before .loop .i) (c .loop-test .left) (c .before .loop .inv .in-raws),
+  write-none (codeIn (c .before .before .before .before .before .before .before .before .args .word)) (c .before .before .before .before .before .before .before .before .args .classes .now) (c .before .before .before .before .before .before .before .before .args .numbers .now) (c .before .before .before .before .before .before .before .before .args .starts .now) (c .before .loop .classes) (c .before .loop .i) (c .loop-test .left) (c .before .loop .inv .in-classes),
+  write-none (readingIn (c .before .before .before .before .before .before .before .before .args .word)) (c .before .before .before .before .before .before .before .before .args .thousandths .now) (c .before .before .before .before .before .before .before .before .args .numbers .now) (c .before .before .before .before .before .before .before .before .args .starts .now) (c .before .loop .thousandths) (c .before .loop .i) (c .loop-test .left) (c .before .loop .inv .in-thousandths),
 )
 
 pub read-signals-spec : {M : Type 1} → statement M
@@ -126,20 +121,19 @@ read-signals-spec =
     Inv-loop
     μ-loop
     loop-holds
-    mul-shape-of
-    shared-slice-read-shape-of
-    shape-of-requires
+    mul-number
+    shared-slice-read-number
+    known-bits-requires
     mul-take
     shared-slice-read-take
-    bits-shaped-requires
     take-requires
-    class-shaped-requires
+    class-of-requires
     mul-raws
     slice-write-raws
     code-of-requires
     slice-write-classes
     thousandths-of-requires
-    mul-t11
+    mul-t14
     slice-set-from-thousandths
     add-i
     loop-less
