@@ -1,24 +1,14 @@
 -- A reader that has read has passed exactly one line of its text, the one that it has read; at the text's end it stays where it is.
 -- Assumes nothing.
 use mathlib.Core.Path.{_≡_, sym}
-use mathlib.Core.List.{_∷_}
 use Prim.Native.Nat.{_≤_, _<_}
-use lib.ListN.{length, drop}
+use lib.ListN.{length}
 use denote.Ref.{now}
-use Rattle.parts.specs.Parts.{TextLine, lines}
-use Rattle.line.specs.declared.Line.{Line}
 use Rattle.line.specs.declared.Line.the-variants.{IllFormed}
-use Rattle.line.specs.Meaning.{meaningOf}
 use Rattle.line.specs.LineAt.{readLine, lineAt, PassesLine}
 use Rattle.line.proofs.Firsts.{passes-line, no-line}
 use Rattle.line_reader.specs.declared.LineReader.{LineReader}
-use Rattle.line_reader.specs.Reader.{readerAt, nextLine}
-
--- what the reader has before it is one line, and what it has before it once it has read; and it has read what that line says
-pub record OneLine (before : LineReader) (line : Line) (after : LineReader) : Type 0 where
-  pub first : TextLine
-  pub passes : lines (drop (before .at) (now (before .text))) ≡ first ∷ lines (drop (after .at) (now (after .text)))
-  pub says : line ≡ meaningOf first
+use Rattle.line_reader.specs.Reader.{readerAt, nextLine, OneLine}
 
 pub one-line : (reader : LineReader) → reader .at < length (now (reader .text)) → OneLine reader (nextLine reader .0) (nextLine reader .1)
 one-line reader h =

@@ -60,8 +60,9 @@ module _ {M : Type 1} (𝓤 : URA M) (H : Heap 𝓤) (A : Atoms 𝓤) (mem : Mem
       → Only 𝓤 (λ (x : Added × List ℕ). add-route.clauses 𝓤 H A mem run κs (book, (a, (i, (c, (j, tt))))) .ensures tt (x .0) (at-last book (x .1), (a, (i, (c, (j, tt))))))
   one-add-route a i c j h = one-judged 𝓤 _ (now book) h (λ b. routeRefusal (b .routes) a i c j) (λ b. withRoute b (route a i c j)) (λ b. route-answer (b .routes) a i c j) (λ x. refl)
 
+module _ {M : Type 1} (𝓤 : URA M) (H : Heap 𝓤) (A : Atoms 𝓤) (mem : Memory → SProp 𝓤) (run : Routine → Fun 𝓤) (κs : Lfts 4) (book above bounds widths : RefT (List ℕ)) where
   pub one-add-signal : (filled : Filled) (number start : ℕ) → OfBookFilled (now book) filled
-      → Only 𝓤 (λ (x : AddedSignal × List ℕ). add-signal.clauses 𝓤 H A mem run κs (book, (filled, (number, (start, tt)))) .ensures tt (x .0) (at-last book (x .1), (filled, (number, (start, tt)))))
+      → Only 𝓤 (λ (x : AddedSignal × List ℕ). add-signal.clauses 𝓤 H A mem run κs (book, (filled, (number, (start, (above, (bounds, (widths, tt))))))) .ensures tt (x .0) (at-last book (x .1), (filled, (number, (start, (above, (bounds, (widths, tt))))))))
   one-add-signal filled number start (b, h) =
       let p = placement number start in
       let here = signal-judged-there b p filled (h .fills) in

@@ -1,5 +1,6 @@
 // One line more at the end of a book: the words are then those of the book with the line, or stay where the line is refused.
 ghost use Rattle.books.specs.Book.{Book, placement};
+ghost use Rattle.placing.specs.Stamps.{Columns};
 ghost use Rattle.tables.specs.Adding.{OfBook, OfBookFilled, HoldsFilled, MessageAdded, SignalJudged, RouteAdded};
 use crate::Added;
 use crate::AddedSignal;
@@ -38,17 +39,21 @@ pub fn add_message(book: &mut [u32; BOOK_WORDS], identifier: u32) -> Added
     Added::Taken
 }
 
-// An `S` line: it belongs to the last message, whose signals have filled so much.
+// An `S` line: it belongs to the last message, whose signals have filled so much. The caller holds the columns of the signals' places
+// and bits.
 pub fn add_signal(
     book: &mut [u32; BOOK_WORDS],
     filled: Filled,
     number: u32,
     start: u32,
+    above: &[usize],
+    bounds: &[u8],
+    widths: &[u8],
 ) -> AddedSignal
-    requires { ⌜ OfBookFilled (now book) filled ⌝ }
+    requires { ⌜ OfBookFilled (now book) filled × Columns (now above) (now bounds) (now widths) ⌝ }
     ensures { λ r. ⌜ ((b : Book) → HoldsFilled (now (book .entry)) filled b → SignalJudged b (placement number start) r (now (book .exit))) ⌝ }
 {
-    let bits = catalogue::bits_of(number);
+    let bits = catalogue::bits_at(number, widths, above, bounds);
     let added = judge_signal(&*book, filled, number, start, bits);
     if let Added::Taken = added {
         let messages = record::message_count(&*book);

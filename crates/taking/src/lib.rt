@@ -12,6 +12,7 @@ ghost use Prim.Native.Nat.{_≤_};
 ghost use lib.ListN.{length, getD};
 ghost use Rattle.record.specs.Limits.{textLimit};
 ghost use Rattle.books.specs.Book.{Book};
+ghost use Rattle.placing.specs.Stamps.{Columns};
 ghost use Rattle.reading.specs.Reading.{meanings};
 ghost use Rattle.reading.specs.Taken.{rLinesFrom};
 ghost use Rattle.tables.specs.Adding.{addedNumber, OfBookFilled, HoldsFilled};
@@ -38,15 +39,23 @@ fn step_of(added: Added, filled: Filled) -> Step
     }
 }
 
-// One line more: the words are then those of the book with the line, or stay where the line is refused.
-fn take_line(book: &mut [u32; BOOK_WORDS], filled: Filled, line: Line) -> Step
-    requires { ⌜ OfBookFilled (now book) filled ⌝ }
+// One line more: the words are then those of the book with the line, or stay where the line is refused. The caller holds the columns
+// of the signals' places and bits.
+fn take_line(
+    book: &mut [u32; BOOK_WORDS],
+    filled: Filled,
+    line: Line,
+    above: &[usize],
+    bounds: &[u8],
+    widths: &[u8],
+) -> Step
+    requires { ⌜ OfBookFilled (now book) filled × Columns (now above) (now bounds) (now widths) ⌝ }
     ensures { λ r. ⌜ ((b : Book) → HoldsFilled (now (book .entry)) filled b → Took b line r (now (book .exit))) ⌝ }
 {
     match line {
         Line::Message(id) => step_of(tables::add_message(book, id), nothing()),
         Line::Signal(number, start) => {
-            let placed = tables::add_signal(book, filled, number, start);
+            let placed = tables::add_signal(book, filled, number, start, above, bounds, widths);
             let added = placed.added;
             step_of(added, placed.filled)
         }
@@ -65,6 +74,9 @@ pub fn take_lines(text: &[u8], book: &mut [u32; BOOK_WORDS]) -> Lines
     requires { ⌜ (length (now text) ≤ textLimit) × Empty (now book) ⌝ }
     ensures { λ r. ⌜ Came (now (text .entry)) r (now (book .exit)) ⌝ }
 {
+    let above = catalogue::surpluses();
+    let bounds = catalogue::bounds();
+    let widths = rows::widths();
     let mut at: usize = 0;
     let mut n: u32 = 1;
     let mut filled = nothing();
@@ -72,7 +84,7 @@ pub fn take_lines(text: &[u8], book: &mut [u32; BOOK_WORDS]) -> Lines
         let read = read_at(text, at);
         let next = read.next;
         let line = read.line;
-        match take_line(&mut *book, filled, line) {
+        match take_line(&mut *book, filled, line, &above, &bounds, &widths) {
             Step::Taken(more) => filled = more,
             Step::Refused(why) => {
                 record::clear(&mut *book);

@@ -9,7 +9,7 @@ enum-known-line : tie.Need-enum-known-line
 enum-known-line c = search needs
 
 add-message-requires : tie.Need-add-message-requires
-add-message-requires c κs = (c .before .before .before .before .pre .0, c .before .before .before .before .pre .1 .holds)
+add-message-requires c κs = (c .before .before .before .before .before .before .before .pre .0 .0, c .before .before .before .before .before .before .before .pre .0 .1 .holds)
 
 nothing-requires : tie.Need-nothing-requires
 nothing-requires c κs = search needs
@@ -21,7 +21,7 @@ enum-known-line-2 : tie.Need-enum-known-line-2
 enum-known-line-2 c = search needs
 
 add-signal-requires : tie.Need-add-signal-requires
-add-signal-requires c κs = c .before .before .before .before .pre
+add-signal-requires c κs = c .before .before .before .before .before .before .before .pre
 
 step-of-requires-2 : tie.Need-step-of-requires-2
 step-of-requires-2 c κs = search needs
@@ -30,7 +30,7 @@ enum-known-line-3 : tie.Need-enum-known-line-3
 enum-known-line-3 c = search needs
 
 add-route-requires : tie.Need-add-route-requires
-add-route-requires c κs = (c .before .before .before .before .pre .0, c .before .before .before .before .pre .1 .holds)
+add-route-requires c κs = (c .before .before .before .before .before .before .before .pre .0 .0, c .before .before .before .before .before .before .before .pre .0 .1 .holds)
 
 step-of-requires-3 : tie.Need-step-of-requires-3
 step-of-requires-3 c κs = search needs
