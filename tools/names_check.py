@@ -1,7 +1,7 @@
 #!/usr/bin/env python3
 """Holds the tree against itself: a file uses every name that it brings in; every definition and law is cited: by another one of its
 file, by a file that brings it in, or by a line of docs/PROMISES.md that names its crate too (a function's `-spec` is its proof); and
-a definition of specs/, or a type of src/, has a name that nothing else has."""
+a definition of specs/, or a type of src/, has a name that nothing else has, no case of an enum either, but where it holds that very thing."""
 
 import re
 import sys
@@ -11,6 +11,7 @@ ROOT = Path(__file__).parent.parent
 FILES = [path for kind in ("antt", "rt") for path in sorted((ROOT / "crates").rglob(f"*.{kind}"))]
 WORD = r"[^\s(){}\[\].,;·⌜⌝&*!←]"
 USE = re.compile(r"^(?:ghost )?use\s+[^\s;{]+\.\{([^}]*)\};?[ \t]*\n", re.M)
+SAME = {"Line::Message", "Line::Route", "StateOrNone::State"}  # what the line says, and the state
 DECLARED = re.compile(rf"( *)(?:abbrev |unfoldable |pub )*(?:(?:record|data) ({WORD}+)|({WORD}+)(?: {{.*}})? :)")
 
 
@@ -74,6 +75,12 @@ def defined(path, text):
     return names
 
 
+def cases(path, text):
+    """The cases of a file's enums that other code may name."""
+    for enum, body in re.findall(r"(?ms)^pub enum (\w+) \{\n(.*?)^\}", text) if path.suffix == ".rt" else []:
+        yield from ((f"{enum}::{case}", case) for case in re.findall(r"(?m)^    (\w+)", body))
+
+
 def twice(texts):
     """The names that stand for several things."""
     homes = {}
@@ -81,6 +88,10 @@ def twice(texts):
         if path.parts[2] in ("specs", "src"):
             for name in defined(path, text):
                 homes.setdefault(name, []).append(str(path))
+    for path, text in texts.items():
+        for case, name in cases(path, text):
+            if name in homes and case not in SAME:
+                homes[name].append(f"{path} ({case})")
     return [f"{name} has several meanings: {', '.join(where)}" for name, where in sorted(homes.items()) if len(where) > 1]
 
 

@@ -16,8 +16,8 @@ use Rattle.reading.specs.Taken.{froms, tos, rLinesFrom}
 use Rattle.reading.proofs.Counts.{text-counted}
 use Rattle.tables.specs.Adding.{Holds}
 use Rattle.tables.proofs.Held.{messages-held, signals-held, routes-held}
-use Rattle.taking.specs.declared.Lines.{Lines}
-use Rattle.taking.specs.declared.Lines.the-variants as came
+use Rattle.taking.specs.declared.LinesAnswer.{LinesAnswer}
+use Rattle.taking.specs.declared.LinesAnswer.the-variants as came
 use Rattle.taking.specs.Taking.{PassedTo, Came}
 use Rattle.book.specs.Answered.{Passes, Answered, too-long, bad-line, closed-chain, two-chains, taken-with}
 use Rattle.book.specs.Judging.{JudgedBy}
@@ -54,7 +54,7 @@ pub judged-by : {text w : List ℕ} {v : Verdict} → length text ≤ textLimit 
 judged-by h p j = record { short = h; passed = p; judged = j (p .book) (p .holds) }
 
 -- what came of the lines
-module _ (text : List ℕ) (r : Lines) (w : List ℕ) (c : Came text r w) where
+module _ (text : List ℕ) (r : LinesAnswer) (w : List ℕ) (c : Came text r w) where
   pub refused-line : (why : Refusal) (n : ℕ) → r ≡ came.Refused why n → length text ≤ textLimit → Answered text (refused (number why) n) w
   refused-line why n q h = let d = rw q at c in rw (d .1) (bad-line h (d .0))
 

@@ -7,7 +7,7 @@ use record::BOOK_WORDS;
 use record::TEXT_LIMIT;
 use record::first;
 use record::wide;
-use taking::Lines;
+use taking::LinesAnswer;
 use taking::route_line;
 use taking::take_lines;
 use verdict::Verdict;
@@ -62,7 +62,7 @@ pub fn read(text: &[u8], book: &mut [u32; BOOK_WORDS]) -> Answer
     if text.len() > TEXT_LIMIT {
         return Answer::Refused(Refusal::TooLong, 0);
     }
-    if let Lines::Refused(why, n) = take_lines(text, &mut *book) {
+    if let LinesAnswer::Refused(why, n) = take_lines(text, &mut *book) {
         return Answer::Refused(why, n);
     }
     let verdict = verdict_on(&*book);

@@ -10,11 +10,11 @@ use Rattle.books.specs.Book.{identifiers}
 use Rattle.books.specs.Words.{messagesOf, messagesTaken}
 use Rattle.record.specs.Columns.{messageCountOf}
 use Rattle.frames.specs.Lookup.{firstAt, before, Finds}
-use Rattle.frames.specs.declared.lookup.Found.{Found}
-use Rattle.frames.specs.declared.lookup.Found.the-variants.{Signals, Nothing}
+use Rattle.frames.specs.declared.lookup.MessageFound.{MessageFound}
+use Rattle.frames.specs.declared.lookup.MessageFound.the-variants.{Signals, Nothing}
 use Rattle.frames.proofs.Lookups.{ids-are, there-is, nothing, spans}
 
-pub alone : (w : List ℕ) (identifier : ℕ) (f g : Found) → Finds w identifier f → Finds w identifier g → f ≡ g
+pub alone : (w : List ℕ) (identifier : ℕ) (f g : MessageFound) → Finds w identifier f → Finds w identifier g → f ≡ g
 alone w identifier (Signals a b) (Signals c d) p q =
     ap (λ (x : ℕ). Signals x b) (p .begins ∙ sym (q .begins)) ∙ ap (Signals c) (p .ends ∙ sym (q .ends))
 alone w identifier (Signals a b) Nothing p q = absurd (subst IsSome (sym (p .found) ∙ q) tt)
@@ -22,7 +22,7 @@ alone w identifier Nothing (Signals c d) p q = absurd (subst IsSome (sym (q .fou
 alone w identifier Nothing Nothing p q = refl
 
 pub record There (w : List ℕ) (identifier : ℕ) : Type 0 where
-  pub found : Found
+  pub found : MessageFound
   pub finds : Finds w identifier found
 
 pub there : (w : List ℕ) → messagesTaken w ≡ true → (identifier : ℕ) → There w identifier

@@ -25,9 +25,9 @@ use Rattle.framing.proofs.CodedSlices.{codedSlices}
 use Rattle.framing.proofs.Reading as the-reading
 use Rattle.framing.proofs.Packing as the-packing
 use Rattle.frames.specs.Lookup.{Finds}
-use Rattle.frames.specs.declared.lookup.Found.{Found}
+use Rattle.frames.specs.declared.lookup.MessageFound.{MessageFound}
 use Rattle.frames.proofs.OneFound.{there, alone}
-use Rattle.frames.proofs.lookup.Found as the-found
+use Rattle.frames.proofs.lookup.MessageFound as the-found
 use Rattle.frames.proofs.lookup.find_message as find-message
 use Rattle.frames.proofs.read as read
 use Rattle.frames.proofs.pack as pack
@@ -47,7 +47,7 @@ module _ {M : Type 1} (𝓤 : URA M) (H : Heap 𝓤) (A : Atoms 𝓤) (mem : Mem
 
   -- where its `requires` holds
   pub one-find-message : (κs : Lfts 1) (book : RefT (List ℕ)) (identifier : ℕ) → messagesTaken (now book) ≡ true
-      → Only 𝓤 (λ (f : Found). find-message.clauses 𝓤 H A mem run κs (book, (identifier, tt)) .ensures tt f (book, (identifier, tt)))
+      → Only 𝓤 (λ (f : MessageFound). find-message.clauses 𝓤 H A mem run κs (book, (identifier, tt)) .ensures tt f (book, (identifier, tt)))
   one-find-message κs book identifier t =
       let here = there (now book) t identifier in
       record {

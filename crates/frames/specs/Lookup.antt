@@ -11,8 +11,8 @@ use Rattle.framing.specs.Messages.{messageWith}
 use Rattle.record.specs.Columns.{messageCountOf, idsOf, endsOf, numbersOf, startsOf}
 use Rattle.record.specs.Limits.{signalLimit}
 use Rattle.messages.specs.Signals.{AllFit, messageFrom}
-use Rattle.frames.specs.declared.lookup.Found.{Found}
-use Rattle.frames.specs.declared.lookup.Found.the-variants.{Signals, Nothing}
+use Rattle.frames.specs.declared.lookup.MessageFound.{MessageFound}
+use Rattle.frames.specs.declared.lookup.MessageFound.the-variants.{Signals, Nothing}
 
 -- how many entries stand before the first n: all, where none is n
 unfoldable pub firstAt : ℕ → List ℕ → ℕ
@@ -38,6 +38,6 @@ pub record Spans (words : List ℕ) (identifier from to : ℕ) : Type 0 where
   pub same : length (part from to (startsOf words)) ≡ length (part from to (numbersOf words))
   pub fit : AllFit (sideBySide (part from to (numbersOf words)) (part from to (startsOf words)))
 
-abbrev pub Finds : List ℕ → ℕ → Found → Type 0
+abbrev pub Finds : List ℕ → ℕ → MessageFound → Type 0
 Finds words identifier (Signals from to) = Spans words identifier from to
 Finds words identifier Nothing = messageWith identifier (messagesOf words) ≡ none

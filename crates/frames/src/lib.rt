@@ -6,7 +6,7 @@ mod tested;
 
 use framing::Packing;
 use framing::Reading;
-pub use lookup::Found;
+pub use lookup::MessageFound;
 pub use lookup::find_message;
 use record::BOOK_WORDS;
 use tested::pack_tested;

@@ -7,7 +7,7 @@ use record::BOOK_WORDS;
 use record::wide;
 
 // What looking for a message finds: its signals stand in the columns from the first place to before the second.
-pub enum Found {
+pub enum MessageFound {
     Signals(usize, usize),
     Nothing,
 }
@@ -27,7 +27,7 @@ fn find(ids: &[u32], identifier: u32) -> usize
 }
 
 // The signals of the message that has the identifier, in a book whose messages are those of a taken book.
-pub fn find_message(book: &[u32; BOOK_WORDS], identifier: u32) -> Found
+pub fn find_message(book: &[u32; BOOK_WORDS], identifier: u32) -> MessageFound
     requires { ⌜ messagesTaken (now book) ≡ true ⌝ }
     ensures { λ r. ⌜ Finds (now (book .entry)) identifier r ⌝ }
 {
@@ -35,8 +35,8 @@ pub fn find_message(book: &[u32; BOOK_WORDS], identifier: u32) -> Found
     let count = wide(record::message_count(book));
     let at = find(&ids[..count], identifier);
     if at == count {
-        return Found::Nothing;
+        return MessageFound::Nothing;
     }
     let ends = record::ends(book);
-    Found::Signals(columns::begin(ends, at), wide(ends[at]))
+    MessageFound::Signals(columns::begin(ends, at), wide(ends[at]))
 }

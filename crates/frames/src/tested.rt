@@ -1,5 +1,5 @@
 // The work behind `read` and `pack`, by a book whose message and signal tables they have tested.
-use crate::lookup::Found;
+use crate::lookup::MessageFound;
 use crate::lookup::find_message;
 use framing::Packing;
 use framing::Reading;
@@ -30,8 +30,8 @@ fn read_word(
     ensures { λ r. ⌜ ReadsInto (readByMessage (messageWith identifier (messagesOf (now (book .entry)))) (bytesOf word)) r raws classes thousandths ⌝ }
 {
     match find_message(book, identifier) {
-        Found::Nothing => Reading::UnknownIdentifier,
-        Found::Signals(from, to) => {
+        MessageFound::Nothing => Reading::UnknownIdentifier,
+        MessageFound::Signals(from, to) => {
             let numbers = record::numbers(book);
             let starts = record::starts(book);
             read_message(
@@ -83,8 +83,8 @@ pub fn pack_tested(
     ensures { λ r. ⌜ PacksInto (packByMessage (messageWith identifier (messagesOf (now (book .entry)))) (now (values .entry))) r frame ⌝ }
 {
     match find_message(book, identifier) {
-        Found::Nothing => Packing::UnknownIdentifier,
-        Found::Signals(from, to) => {
+        MessageFound::Nothing => Packing::UnknownIdentifier,
+        MessageFound::Signals(from, to) => {
             if values.len() != to - from {
                 return Packing::WrongCountOfValues;
             }

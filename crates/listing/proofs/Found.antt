@@ -8,18 +8,18 @@ use native.Mathlib.Omega.{arith}
 use lib.ListN.{length, drop, length-take}
 use Rattle.books.specs.Words.{sideBySide, messagesOf, messagesTaken}
 use Rattle.frames.specs.Lookup.{Spans, Finds, part}
-use Rattle.frames.specs.declared.lookup.Found.{Found}
-use Rattle.frames.specs.declared.lookup.Found.the-variants.{Signals, Nothing}
+use Rattle.frames.specs.declared.lookup.MessageFound.{MessageFound}
+use Rattle.frames.specs.declared.lookup.MessageFound.the-variants.{Signals, Nothing}
 use Rattle.messages.specs.Signals.{AllFit, messageFrom}
 use Rattle.framing.specs.Messages.{messageWith}
 use Rattle.framing.proofs.Few.{few-signals}
 use Rattle.record.specs.Columns.{numbersOf, startsOf}
 use Rattle.listing.specs.Working.{Listable}
 
-pub found-signals : (words : List ℕ) (identifier : ℕ) {from to : ℕ} {f : Found} → f ≡ Signals from to → Finds words identifier f → Spans words identifier from to
+pub found-signals : (words : List ℕ) (identifier : ℕ) {from to : ℕ} {f : MessageFound} → f ≡ Signals from to → Finds words identifier f → Spans words identifier from to
 found-signals words identifier e p = subst (Finds words identifier) e p
 
-pub found-nothing : (words : List ℕ) (identifier : ℕ) {f : Found} → f ≡ Nothing → Finds words identifier f → messageWith identifier (messagesOf words) ≡ none
+pub found-nothing : (words : List ℕ) (identifier : ℕ) {f : MessageFound} → f ≡ Nothing → Finds words identifier f → messageWith identifier (messagesOf words) ≡ none
 found-nothing words identifier e p = subst (Finds words identifier) e p
 
 -- a part of a column

@@ -14,7 +14,7 @@ use crate::room::list_refused;
 use columns::part;
 use frame_lines::FrameLine;
 use frame_lines::read_frame_line;
-use frames::Found;
+use frames::MessageFound;
 use frames::find_message;
 use record::BOOK_WORDS;
 
@@ -36,7 +36,7 @@ fn list_frame(
     ensures { λ r. ⌜ PutIfFits (now (out .entry)) at (wordListing (now (book .entry)) identifier word) (now (out .exit)) r ⌝ }
 {
     match find_message(book, identifier) {
-        Found::Signals(from, to) => {
+        MessageFound::Signals(from, to) => {
             let numbers = part(record::numbers(book), from, to);
             let starts = part(record::starts(book), from, to);
             list_message(
@@ -50,7 +50,7 @@ fn list_frame(
                 above,
             )
         }
-        Found::Nothing => list_refused(&mut *out, at, identifier, UNKNOWN_IDENTIFIER),
+        MessageFound::Nothing => list_refused(&mut *out, at, identifier, UNKNOWN_IDENTIFIER),
     }
 }
 

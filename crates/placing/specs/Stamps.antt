@@ -6,14 +6,10 @@ use mathlib.Core.List.{List, [], _∷_, _++_}
 use Prim.Native.Nat.{ℕ, _<_}
 use lib.Dec.{eqb}
 use lib.ListN.{length, getD, set}
-use Rattle.catalogue.specs.Places.{placeOf, noPlace, TableColumns}
+use Rattle.catalogue.specs.Places.{placeOf, noPlace}
 use Rattle.books.specs.Book.{Placement}
 use Rattle.books.specs.Lines.{isIn}
 use Rattle.books.specs.Good.{fitsAfter, goodAfter}
-
--- the columns by which a signal's place and bits are found
-abbrev pub Columns : List ℕ → List ℕ → List ℕ → Type 0
-Columns above ends widths = TableColumns above ends widths
 
 -- each place has a stamp, and all are below s
 pub record Below (stamps : List ℕ) (s : ℕ) : Type 0 where

@@ -1,6 +1,6 @@
 // One line more at the end of a book: the words are then those of the book with the line, or stay where the line is refused.
 ghost use Rattle.books.specs.Book.{Book, placement};
-ghost use Rattle.placing.specs.Stamps.{Columns};
+ghost use Rattle.catalogue.specs.Places.{TableColumns};
 ghost use Rattle.tables.specs.Adding.{OfBook, OfBookFilled, HoldsFilled, MessageAdded, SignalJudged, RouteAdded};
 use crate::Added;
 use crate::AddedSignal;
@@ -50,7 +50,7 @@ pub fn add_signal(
     bounds: &[u8],
     widths: &[u8],
 ) -> AddedSignal
-    requires { ⌜ OfBookFilled (now book) filled × Columns (now above) (now bounds) (now widths) ⌝ }
+    requires { ⌜ OfBookFilled (now book) filled × TableColumns (now above) (now bounds) (now widths) ⌝ }
     ensures { λ r. ⌜ ((b : Book) → HoldsFilled (now (book .entry)) filled b → SignalJudged b (placement number start) r (now (book .exit))) ⌝ }
 {
     let bits = catalogue::bits_at(number, widths, above, bounds);

@@ -5,7 +5,8 @@ ghost use Prim.Native.Nat.{_+_, _≤_, _<_};
 ghost use lib.ListN.{length, drop};
 ghost use Rattle.books.specs.Words.{sideBySide, messagesTaken};
 ghost use Rattle.books.specs.Lines.{messageLimit};
-ghost use Rattle.placing.specs.Stamps.{Columns, Below};
+ghost use Rattle.catalogue.specs.Places.{TableColumns};
+ghost use Rattle.placing.specs.Stamps.{Below};
 ghost use Rattle.zeros.specs.Zeros.{zeros};
 ghost use Rattle.tables.specs.Testing.{parted};
 use record::BOOK_WORDS;
@@ -47,7 +48,7 @@ fn well_parted(
     widths: &[u8],
     stamps: &mut [u8],
 ) -> bool
-    requires { ⌜ (length (now starts) ≡ length (now numbers)) × (length (now ends) ≤ messageLimit) × Columns (now above) (now bounds) (now widths) × Below (now stamps) 1 ⌝ }
+    requires { ⌜ (length (now starts) ≡ length (now numbers)) × (length (now ends) ≤ messageLimit) × TableColumns (now above) (now bounds) (now widths) × Below (now stamps) 1 ⌝ }
     ensures { λ r. ⌜ r ≡ parted 0 (now (ends .entry)) (sideBySide (now (numbers .entry)) (now (starts .entry))) ⌝ }
 {
     let mut begin: usize = 0;

@@ -12,8 +12,8 @@ use Rattle.reading.specs.Reading.{Outcome, passed, refused, linesRead}
 use Rattle.reading.proofs.Passing.{same-book, text-kept}
 use Rattle.tables.specs.Adding.{Within}
 use Rattle.tables.proofs.Room.{within-none}
-use Rattle.taking.specs.declared.Lines.{Lines}
-use Rattle.taking.specs.declared.Lines.the-variants as came
+use Rattle.taking.specs.declared.LinesAnswer.{LinesAnswer}
+use Rattle.taking.specs.declared.LinesAnswer.the-variants as came
 use Rattle.taking.specs.Taking.{PassedTo, Came}
 use Rattle.taking.proofs.Steps.{within-line}
 use Rattle.taking.proofs.Named.{text-named}
@@ -23,10 +23,10 @@ text-within : (text : List ℕ) {c : Book} {to : List ℕ} → linesRead text �
 text-within text e = text-kept (λ b ls. Within b) (λ b l ls r h. within-line b l h r) text e within-none
 
 -- something came of them
-pub came-there : (text : List ℕ) → (x : Lines × List ℕ) × Came text (x .0) (x .1)
+pub came-there : (text : List ℕ) → (x : LinesAnswer × List ℕ) × Came text (x .0) (x .1)
 came-there text = by (linesRead text) refl
   where
-    by : (o : Outcome) → linesRead text ≡ o → (x : Lines × List ℕ) × Came text (x .0) (x .1)
+    by : (o : Outcome) → linesRead text ≡ o → (x : LinesAnswer × List ℕ) × Came text (x .0) (x .1)
     by (passed b at) e = ((came.Passed, wordsOf b), record { book = b; numbers = at; read = e; holds = record { words = refl; within = text-within text e } })
     by (refused why n) e =
         let r = text-named text why n e in
@@ -36,7 +36,7 @@ came-there text = by (linesRead text) refl
 not-both : {A : Type 0} {text w : List ℕ} {why n : ℕ} → PassedTo text w → linesRead text ≡ refused why n → A
 not-both p e = absurd (let f = p .read in let z : _≡_ {A = ℕ} 0 1 = cc in omega arith)
 
-pub came-once : (text : List ℕ) (r r′ : Lines) (w w′ : List ℕ) → Came text r w → Came text r′ w′ → (r ≡ r′) × (w ≡ w′)
+pub came-once : (text : List ℕ) (r r′ : LinesAnswer) (w w′ : List ℕ) → Came text r w → Came text r′ w′ → (r ≡ r′) × (w ≡ w′)
 came-once text came.Passed came.Passed w w′ c d =
     (refl, c .holds .words ∙ ap wordsOf (same-book (sym (c .read) ∙ d .read)) ∙ sym (d .holds .words))
 came-once text came.Passed (came.Refused why n) w w′ c d = not-both c (d .0)

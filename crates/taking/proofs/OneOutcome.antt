@@ -18,15 +18,15 @@ use lib.ListN.{getD}
 use Rattle.only.specs.Only.{Only, only-this}
 use Rattle.reading.specs.Reading.{meanings}
 use Rattle.reading.specs.Taken.{rLinesFrom}
-use Rattle.taking.specs.declared.Lines.{Lines}
+use Rattle.taking.specs.declared.LinesAnswer.{LinesAnswer}
 use Rattle.taking.specs.Taking.{Came}
 use Rattle.taking.proofs.Once.{came-there, came-once}
-use Rattle.taking.proofs.Lines as the-lines
+use Rattle.taking.proofs.LinesAnswer as the-lines
 use Rattle.taking.proofs.take_lines as take-lines
 use Rattle.taking.proofs.route_line as route-line
 
 module _ {M : Type 1} (𝓤 : URA M) (H : Heap 𝓤) (A : Atoms 𝓤) (mem : Memory → SProp 𝓤) (run : Routine → Fun 𝓤) (κs : Lfts 2) (text book : RefT (List ℕ)) where
-  pub one-take-lines : Only 𝓤 (λ (x : Lines × List ℕ). take-lines.clauses 𝓤 H A mem run κs (text, (book, tt)) .ensures tt (x .0) (text, (at-last book (x .1), tt)))
+  pub one-take-lines : Only 𝓤 (λ (x : LinesAnswer × List ℕ). take-lines.clauses 𝓤 H A mem run κs (text, (book, tt)) .ensures tt (x .0) (text, (at-last book (x .1), tt)))
   one-take-lines =
       let here = came-there (now text) in
       record {

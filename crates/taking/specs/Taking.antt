@@ -15,8 +15,8 @@ use Rattle.placing.specs.Filling.{Fills}
 use Rattle.tables.specs.Adding.{Holds, unless}
 use Rattle.taking.specs.declared.Step.{Step}
 use Rattle.taking.specs.declared.Step.the-variants as step
-use Rattle.taking.specs.declared.Lines.{Lines}
-use Rattle.taking.specs.declared.Lines.the-variants as came
+use Rattle.taking.specs.declared.LinesAnswer.{LinesAnswer}
+use Rattle.taking.specs.declared.LinesAnswer.the-variants as came
 
 -- document 01's number of what refused a line, 0 where it is taken
 abbrev pub stepNumber : Step → ℕ
@@ -50,7 +50,7 @@ pub record PassedTo (text w : List ℕ) : Type 0 where
   pub read : linesRead text ≡ passed book numbers
   pub holds : Holds w book
 
-abbrev pub Came : List ℕ → Lines → List ℕ → Type 0
+abbrev pub Came : List ℕ → LinesAnswer → List ℕ → Type 0
 Came text came.Passed w = PassedTo text w
 Came text (came.Refused why n) w = (linesRead text ≡ refused (number why) n) × Empty w
 

@@ -12,7 +12,7 @@ ghost use Prim.Native.Nat.{_≤_};
 ghost use lib.ListN.{length, getD};
 ghost use Rattle.record.specs.Limits.{textLimit};
 ghost use Rattle.books.specs.Book.{Book};
-ghost use Rattle.placing.specs.Stamps.{Columns};
+ghost use Rattle.catalogue.specs.Places.{TableColumns};
 ghost use Rattle.reading.specs.Reading.{meanings};
 ghost use Rattle.reading.specs.Taken.{rLinesFrom};
 ghost use Rattle.tables.specs.Adding.{addedNumber, OfBookFilled, HoldsFilled};
@@ -25,7 +25,7 @@ pub enum Step {
 }
 
 // What came of the lines: all passed, or one was refused, with its number.
-pub enum Lines {
+pub enum LinesAnswer {
     Passed,
     Refused(Refusal, u32),
 }
@@ -49,7 +49,7 @@ fn take_line(
     bounds: &[u8],
     widths: &[u8],
 ) -> Step
-    requires { ⌜ OfBookFilled (now book) filled × Columns (now above) (now bounds) (now widths) ⌝ }
+    requires { ⌜ OfBookFilled (now book) filled × TableColumns (now above) (now bounds) (now widths) ⌝ }
     ensures { λ r. ⌜ ((b : Book) → HoldsFilled (now (book .entry)) filled b → Took b line r (now (book .exit))) ⌝ }
 {
     match line {
@@ -70,7 +70,7 @@ fn take_line(
 }
 
 // The lines of a text into an empty book; it is empty again where a line is refused.
-pub fn take_lines(text: &[u8], book: &mut [u32; BOOK_WORDS]) -> Lines
+pub fn take_lines(text: &[u8], book: &mut [u32; BOOK_WORDS]) -> LinesAnswer
     requires { ⌜ (length (now text) ≤ textLimit) × Empty (now book) ⌝ }
     ensures { λ r. ⌜ Came (now (text .entry)) r (now (book .exit)) ⌝ }
 {
@@ -88,13 +88,13 @@ pub fn take_lines(text: &[u8], book: &mut [u32; BOOK_WORDS]) -> Lines
             Step::Taken(more) => filled = more,
             Step::Refused(why) => {
                 record::clear(&mut *book);
-                return Lines::Refused(why, n);
+                return LinesAnswer::Refused(why, n);
             }
         }
         at = next;
         n += 1;
     }
-    Lines::Passed
+    LinesAnswer::Passed
 }
 
 fn is_route(line: Line) -> bool

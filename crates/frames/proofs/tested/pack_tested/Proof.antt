@@ -5,7 +5,7 @@ use native.Mathlib.Omega.{arith}
 use Rattle.books.specs.Words.{messagesOf}
 use Rattle.books.proofs.Columns.{taken-stands}
 use Rattle.frames.specs.Lookup.{Finds, Spans}
-use Rattle.frames.specs.declared.lookup.Found.{Found}
+use Rattle.frames.specs.declared.lookup.MessageFound.{MessageFound}
 use Rattle.frames.proofs.Entries.{found, packable, many, pack-unknown, pack-count, pack-short, pack-known}
 use borrow.Author.Needs.{needs}
 use Rattle.frames.proofs.tested.pack_tested.Statement.{statement}
@@ -13,7 +13,7 @@ use Rattle.frames.proofs.tested.pack_tested.Tie as tie
 
 -- what was found, once the match has bound it
 spans : (c : tie.After-from) → Spans (c .before .before .before .before .before .args .book .now) (c .before .before .before .before .before .args .identifier) (c .from .given .0 .0) (c .from .given .0 .1 .0)
-spans c = subst (λ (r : Found). Finds (c .before .before .before .before .before .args .book .now) (c .before .before .before .before .before .args .identifier) r) (c .from .given .1) (c .before .before .find-message .ensures)
+spans c = subst (λ (r : MessageFound). Finds (c .before .before .before .before .before .args .book .now) (c .before .before .before .before .before .args .identifier) r) (c .from .given .1) (c .before .before .find-message .ensures)
 
 find-message-requires : tie.Need-find-message-requires
 find-message-requires c κs = search needs
@@ -72,7 +72,7 @@ pack-message-requires c κs = (packable _ _ _ _ (spans (c .before .before .befor
 
 returns-3 : tie.Need-returns-3
 returns-3 c = let a = c .before .before .before .before .before .args in
-    pack-unknown (messagesOf (a .book .now)) (a .identifier) (a .values .now) (a .frame .now) (subst (λ (r : Found). Finds (a .book .now) (a .identifier) r) (c .enum-told .given .1) (c .before .before .find-message .ensures))
+    pack-unknown (messagesOf (a .book .now)) (a .identifier) (a .values .now) (a .frame .now) (subst (λ (r : MessageFound). Finds (a .book .now) (a .identifier) r) (c .enum-told .given .1) (c .before .before .find-message .ensures))
 
 same-length : tie.Need-same-length
 same-length c = search needs

@@ -5,7 +5,7 @@ use native.Mathlib.Omega.{arith}
 use Rattle.bits.specs.Word.{bytesOf}
 use Rattle.books.specs.Words.{messagesOf}
 use Rattle.frames.specs.Lookup.{Finds, Spans}
-use Rattle.frames.specs.declared.lookup.Found.{Found}
+use Rattle.frames.specs.declared.lookup.MessageFound.{MessageFound}
 use Rattle.frames.proofs.Entries.{found, readable, read-unknown, read-known}
 use borrow.Author.Needs.{needs}
 use Rattle.frames.proofs.tested.read_word.Statement.{statement}
@@ -13,7 +13,7 @@ use Rattle.frames.proofs.tested.read_word.Tie as tie
 
 -- what was found, once the match has bound it
 spans : (c : tie.After-from) → Spans (c .before .before .before .before .before .args .book .now) (c .before .before .before .before .before .args .identifier) (c .from .given .0 .0) (c .from .given .0 .1 .0)
-spans c = subst (λ (r : Found). Finds (c .before .before .before .before .before .args .book .now) (c .before .before .before .before .before .args .identifier) r) (c .from .given .1) (c .before .before .find-message .ensures)
+spans c = subst (λ (r : MessageFound). Finds (c .before .before .before .before .before .args .book .now) (c .before .before .before .before .before .args .identifier) r) (c .from .given .1) (c .before .before .find-message .ensures)
 
 find-message-requires : tie.Need-find-message-requires
 find-message-requires c κs = search needs
@@ -60,7 +60,7 @@ read-message-requires c κs = readable _ _ _ _ (spans (c .before .before .before
 returns : tie.Need-returns
 returns c = let a = c .before .before .before .before .before .args in
     read-unknown (messagesOf (a .book .now)) (a .identifier) (bytesOf (a .word)) (record { raws = a .raws .now; classes = a .classes .now; thousandths = a .thousandths .now })
-    (subst (λ (r : Found). Finds (a .book .now) (a .identifier) r) (c .enum-told .given .1) (c .before .before .find-message .ensures))
+    (subst (λ (r : MessageFound). Finds (a .book .now) (a .identifier) r) (c .enum-told .given .1) (c .before .before .find-message .ensures))
 
 same-length : tie.Need-same-length
 same-length c = search needs
