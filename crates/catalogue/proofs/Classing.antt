@@ -6,9 +6,9 @@ use Rattle.rows.specs.declared.Row.{Row}
 use Rattle.catalogue.specs.declared.Raw.{Raw}
 use Rattle.catalogue.specs.declared.Class.{Class}
 use Rattle.catalogue.specs.Find.{rowOf}
-use Rattle.catalogue.specs.Shapes.{shapeOf, rowShaped}
+use Rattle.catalogue.specs.Shapes.{shapeOf, rowShaped, forget}
 use Rattle.catalogue.specs.Class.{classFor, classOf}
-use Rattle.catalogue.proofs.Shaped.{forget, by-shape}
+use Rattle.catalogue.proofs.Shaped.{by-shape}
 
 same-class : (o : Option Row) (raw : Raw) → classFor o raw ≡ classFor (forget o) raw
 same-class none raw = refl

@@ -3,7 +3,7 @@
 use mathlib.Core.Path.{_≡_, refl, sym, ap, _∙_}
 use mathlib.Core.Bool.{Bool, true, false, _&&_, cond}
 use mathlib.Core.List.{List, [], _∷_, map}
-use mathlib.Core.Option.{Option, none, some}
+use mathlib.Core.Option.{none, some}
 use Prim.Native.Nat.{ℕ, _<_}
 use lib.Dec.{T, ltb, eqb, ltb→lt}
 use lib.Ieee.Fits.{and-l, and-r}
@@ -11,16 +11,12 @@ use lib.ListN.{getD, List·getD-map}
 use Rattle.rows.specs.declared.Row.{Row}
 use Rattle.rows.specs.Rows.{rows, row, blank}
 use Rattle.catalogue.specs.Find.{rowIn, rowOf}
-use Rattle.catalogue.specs.Shapes.{shapes, noShape, signals, shapeIn, shapeOf, rowShaped}
+use Rattle.catalogue.specs.Shapes.{shapes, noShape, signals, shapeIn, shapeOf, rowShaped, forget}
 use Rattle.catalogue.proofs.Arms.{within}
 
 -- the row with another number
 abbrev pub numbered : ℕ → Row → Row
 numbered n r = row n (r .bits) (r .resolution) (r .offset) (r .lowest) (r .highest) (r .mark1) (r .mark2) (r .mark3)
-
-abbrev pub forget : Option Row → Option Row
-forget none = none
-forget (some r) = some (numbered 0 r)
 
 abbrev signal : ℕ × ℕ → Row
 signal p = numbered (p .0) (getD shapes (p .1) blank)

@@ -92,3 +92,7 @@ shapeOf n = shapeIn n signals
 -- the row with the shape s, if there is such a shape
 abbrev pub rowShaped : ℕ → Option Row
 rowShaped s = getD (map some shapes) s none
+
+abbrev pub forget : Option Row → Option Row
+forget none = none
+forget (some r) = some (numbered 0 r)

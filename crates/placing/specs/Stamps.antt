@@ -1,5 +1,5 @@
--- Stamps on the places of the catalogue's signals, by which a message's own are told again; and the columns of the catalogue that are
--- lent: how the test of a message works, and no promise. Assumes nothing: these are definitions.
+-- Stamps on the places of the catalogue's signals, by which a message's own are told again: how the test of a message works, and no
+-- promise. Assumes nothing: these are definitions.
 use mathlib.Core.Path.{_≡_}
 use mathlib.Core.Bool.{Bool, cond}
 use mathlib.Core.List.{List, [], _∷_, _++_}

@@ -14,7 +14,7 @@ use Rattle.tables.proofs.adding.add_signal.Statement.{statement}
 use Rattle.tables.proofs.adding.add_signal.Tie as tie
 
 bits-at-requires : tie.Need-bits-at-requires
-bits-at-requires c κs = let columns = c .before .before .before .pre .1 in (columns .places, columns .bits)
+bits-at-requires c κs = c .before .before .before .pre .1
 
 judge-signal-requires : tie.Need-judge-signal-requires
 judge-signal-requires c κs = (c .before .before .before .before .before .pre .0, c .before .bits-at .ensures)
