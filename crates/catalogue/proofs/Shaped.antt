@@ -9,14 +9,10 @@ use lib.Dec.{T, ltb, eqb, ltb→lt}
 use lib.Ieee.Fits.{and-l, and-r}
 use lib.ListN.{getD, List·getD-map}
 use Rattle.rows.specs.declared.Row.{Row}
-use Rattle.rows.specs.Rows.{rows, row, blank}
+use Rattle.rows.specs.Rows.{rows, blank}
 use Rattle.catalogue.specs.Find.{rowIn, rowOf}
-use Rattle.catalogue.specs.Shapes.{shapes, noShape, signals, shapeIn, shapeOf, rowShaped, forget}
+use Rattle.catalogue.specs.Shapes.{shapes, noShape, signals, shapeIn, shapeOf, rowShaped, numbered, forget}
 use Rattle.catalogue.proofs.Arms.{within}
-
--- the row with another number
-abbrev pub numbered : ℕ → Row → Row
-numbered n r = row n (r .bits) (r .resolution) (r .offset) (r .lowest) (r .highest) (r .mark1) (r .mark2) (r .mark3)
 
 abbrev signal : ℕ × ℕ → Row
 signal p = numbered (p .0) (getD shapes (p .1) blank)

@@ -93,6 +93,11 @@ shapeOf n = shapeIn n signals
 abbrev pub rowShaped : ℕ → Option Row
 rowShaped s = getD (map some shapes) s none
 
+-- the row with another number
+abbrev pub numbered : ℕ → Row → Row
+numbered n r = row n (r .bits) (r .resolution) (r .offset) (r .lowest) (r .highest) (r .mark1) (r .mark2) (r .mark3)
+
+-- a row but for its number
 abbrev pub forget : Option Row → Option Row
 forget none = none
 forget (some r) = some (numbered 0 r)
