@@ -48,7 +48,7 @@ module _ (woken time : ℕ) (c : Call) (after : woken ≤ time) (often : sleepIs
   later-on : wokenAfter woken time c ≤ now
   later-on = go (c .wake)
     where
-      go : (wake : Bool) → cond wake now woken ≤ now
+      go : (wake : Bool) → wokenAfter woken time (record { later = c .later; wake = wake }) ≤ now
       go true = omega arith
       go false = omega arith
 
