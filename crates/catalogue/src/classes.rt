@@ -1,9 +1,8 @@
-// The class of one raw count: a mark wins over the range; then it is a value if it lies within the raw limits; else it is
-// outside. The work is done on the constants of the signal's shape.
+// The class of one raw count in a row: a mark wins over the range; then it is a value if it lies within the raw limits; else it is
+// outside. For `arms`, which has the constants of each shape; `is_too_wide` also for `messages`.
 use crate::Class;
 use crate::Raw;
 use crate::Thousandths;
-use crate::shapes::shape_of;
 use rows::ABSENT;
 use rows::ERROR;
 use rows::INVALID;
@@ -16,8 +15,7 @@ ghost use lib.Dec.{leb};
 ghost use lib.IntN.{pos, _+ℤ_};
 ghost use Rattle.rows.specs.Rows.{row, mark, unmarked};
 ghost use Rattle.rows.specs.Rule.{mostBits, IsKind, Kinded};
-ghost use Rattle.catalogue.specs.Shapes.{rowShaped};
-ghost use Rattle.catalogue.specs.Class.{between, markClass, classFor, classOf};
+ghost use Rattle.catalogue.specs.Class.{between, markClass, classFor};
 
 fn is_between(first: u32, last: u32, count: u32) -> bool
     ensures { λ r. ⌜ r ≡ between first last count ⌝ }
@@ -58,7 +56,7 @@ fn reading(raw: Raw, resolution: u16, offset: i32) -> Thousandths
 }
 
 // The class of a count in a row with these numbers and three marks; below, with two, one and none.
-fn class_in(
+pub fn class_in(
     bits: u32,
     resolution: u16,
     offset: i32,
@@ -97,7 +95,7 @@ fn class_in(
     Class::Outside(raw)
 }
 
-fn two_marks(
+pub fn two_marks(
     bits: u32,
     resolution: u16,
     offset: i32,
@@ -133,7 +131,7 @@ fn two_marks(
     )
 }
 
-fn one_mark(
+pub fn one_mark(
     bits: u32,
     resolution: u16,
     offset: i32,
@@ -163,7 +161,14 @@ fn one_mark(
     )
 }
 
-fn no_mark(bits: u32, resolution: u16, offset: i32, lowest: u32, highest: u32, raw: Raw) -> Class
+pub fn no_mark(
+    bits: u32,
+    resolution: u16,
+    offset: i32,
+    lowest: u32,
+    highest: u32,
+    raw: Raw,
+) -> Class
     requires { ⌜ bits ≤ mostBits ⌝ }
     ensures { λ r. ⌜ r ≡ classFor (some (row 0 bits resolution offset lowest highest unmarked unmarked unmarked)) raw ⌝ }
 {
@@ -178,86 +183,4 @@ fn no_mark(bits: u32, resolution: u16, offset: i32, lowest: u32, highest: u32, r
         0,
         raw,
     )
-}
-
-// The class of a count by the signal's shape. Each arm is a shape of specs/Shapes.antt.
-fn class_shaped(shape: usize, raw: Raw) -> Class
-    ensures { λ r. ⌜ r ≡ classFor (rowShaped shape) raw ⌝ }
-{
-    match shape {
-        0 => one_mark(16, 100, 0, 0, 65535, INVALID, 65535, 65535, raw),
-        1 => one_mark(16, 100, -2000000, 0, 65535, INVALID, 65535, 65535, raw),
-        2 => one_mark(8, 400, 0, 0, 250, INVALID, 255, 255, raw),
-        3 => no_mark(2, 1000, 0, 0, 3, raw),
-        4 => one_mark(16, 1000, 0, 0, 60000, INVALID, 65535, 65535, raw),
-        5 => two_marks(2, 1000, 0, 0, 3, RESERVED, 0, 0, INVALID, 3, 3, raw),
-        6 => no_mark(1, 1000, 0, 0, 1, raw),
-        7 => no_mark(32, 1000, 0, 0, 4294967295, raw),
-        8 => no_mark(16, 100, 0, 0, 65535, raw),
-        9 => one_mark(2, 1000, 0, 0, 3, RESERVED, 0, 0, raw),
-        10 => one_mark(2, 1000, 0, 0, 3, RESERVED, 2, 3, raw),
-        11 => no_mark(4, 1000, 0, 0, 15, raw),
-        12 => two_marks(
-            8,
-            1000,
-            -40000,
-            0,
-            250,
-            ABSENT,
-            253,
-            253,
-            INVALID,
-            255,
-            255,
-            raw,
-        ),
-        13 => one_mark(16, 1000, 0, 0, 65535, INVALID, 65535, 65535, raw),
-        14 => no_mark(8, 1000, 0, 1, 255, raw),
-        15 => one_mark(16, 1, 0, 0, 65535, INVALID, 65535, 65535, raw),
-        16 => no_mark(8, 1000, 1000, 0, 254, raw),
-        17 => no_mark(8, 100, 0, 0, 50, raw),
-        18 => no_mark(16, 1, 0, 0, 65535, raw),
-        19 => one_mark(8, 1000, -40000, 0, 250, INVALID, 255, 255, raw),
-        20 => no_mark(16, 1000, 0, 1, 65535, raw),
-        21 => two_marks(4, 1000, 0, 0, 15, RESERVED, 10, 13, RESERVED, 15, 15, raw),
-        22 => no_mark(8, 1000, 0, 0, 255, raw),
-        23 => one_mark(8, 1000, 0, 0, 254, INVALID, 255, 255, raw),
-        24 => no_mark(8, 1000, 1985000, 0, 250, raw),
-        25 => no_mark(8, 250, 0, 0, 48, raw),
-        26 => no_mark(8, 250, 0, 0, 124, raw),
-        27 => two_marks(2, 1000, 0, 0, 3, RESERVED, 2, 2, INVALID, 3, 3, raw),
-        28 => one_mark(3, 1000, 0, 0, 7, INVALID, 2, 7, raw),
-        29 => one_mark(3, 1000, 0, 0, 7, RESERVED, 4, 7, raw),
-        30 => class_in(
-            8,
-            1000,
-            -40000,
-            0,
-            250,
-            ABSENT,
-            253,
-            253,
-            ERROR,
-            254,
-            254,
-            INVALID,
-            255,
-            255,
-            raw,
-        ),
-        31 => one_mark(2, 1000, 0, 0, 3, INVALID, 2, 3, raw),
-        32 => one_mark(16, 1000, 0, 0, 1000, INVALID, 65535, 65535, raw),
-        33 => two_marks(2, 1000, 0, 0, 3, ERROR, 2, 2, INVALID, 3, 3, raw),
-        34 => no_mark(16, 100, 0, 0, 10000, raw),
-        35 => no_mark(6, 1000, 0, 0, 63, raw),
-        36 => no_mark(5, 1000, 0, 0, 31, raw),
-        _ => Class::NotInCatalogue,
-    }
-}
-
-// The class of a raw count of the signal with a number.
-pub fn class_of(number: u32, raw: Raw) -> Class
-    ensures { λ r. ⌜ r ≡ classOf number raw ⌝ }
-{
-    class_shaped(shape_of(number), raw)
 }

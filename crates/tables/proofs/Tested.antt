@@ -13,12 +13,10 @@ use Rattle.books.specs.Lines.{messageLimit, signalLimit}
 use Rattle.books.specs.Words.{column, placementStarts, endsAfter, idColumn, endColumn, numberColumn, startColumn, messageColumns, sideBySide, messagesOf, messagesTaken, Stands}
 use Rattle.books.proofs.Sides.{side-back, side-length, side-numbers, side-starts}
 use Rattle.books.proofs.Columns.{take-column, past-column, filled, length-ends, within, ids-stand, ends-stand, numbers-stand, starts-stand, taken-stands, stands-taken}
-use Rattle.catalogue.specs.Places.{noPlace}
 use Rattle.columns.specs.Identifiers.{distinctAfter}
-use Rattle.placing.specs.Stamps.{Below}
 use Rattle.record.specs.Columns.{idsAt, endsAt, numbersAt, messageCountOf, signalCountOf, idsOf, endsOf, numbersOf, startsOf, messageColumnsOf}
 use Rattle.zeros.specs.Zeros.{zeros}
-use Rattle.zeros.proofs.Gathering.{zeros-are, are-zeros, zero-at}
+use Rattle.zeros.proofs.Gathering.{zeros-are, are-zeros}
 use Rattle.tables.specs.Testing.{parted}
 use Rattle.tables.proofs.Parted.{shown-ids, shown-ends, shown-all, shown-good, good-parted, good-distinct}
 
@@ -248,7 +246,3 @@ module _ (w : List ℕ) (m s : ℕ) (ids ends ns ss : List ℕ) (em : m ≡ mess
       go : (t : Bool) → parted 0 ends′ (sideBySide ns′ ss′) ≡ t → parted 0 ends′ (sideBySide ns′ ss′) ≡ messagesTaken w
       go true e = e ∙ sym (checked-taken w long (checked e))
       go false e = e ∙ fails w (λ c. true≢false (sym (c .parts) ∙ same ∙ e))
-
--- ---- the stamps before the first message
-pub no-stamps : Below (replicate noPlace 0) 1
-no-stamps = record { each = refl; below = λ p. let z = zero-at noPlace p in omega (arith, z) }

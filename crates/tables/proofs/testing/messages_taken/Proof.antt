@@ -1,10 +1,14 @@
 -- `tables::testing::messages_taken` meets its contract: each part of the test that fails refuses the tables, and the last part decides where the others pass. Assumes nothing.
-use mathlib.Core.Path.{sym, ap, _∙_}
+use mathlib.Core.Path.{refl, sym, ap, _∙_}
 use mathlib.Core.List.{[]}
 use native.Mathlib.Omega.{arith}
+use lib.ListN.{replicate}
 use borrow.Author.Tests.{not-true, not-false}
+use Rattle.catalogue.specs.Places.{noPlace}
 use Rattle.columns.specs.Identifiers.{distinctAfter}
-use Rattle.tables.proofs.Tested.{many-messages, many-signals, rest-of-messages, rest-of-signals, repeated, last-part, no-stamps}
+use Rattle.placing.specs.Stamps.{Below}
+use Rattle.zeros.proofs.Gathering.{zero-at}
+use Rattle.tables.proofs.Tested.{many-messages, many-signals, rest-of-messages, rest-of-signals, repeated, last-part}
 use borrow.Author.Needs.{needs}
 use Rattle.tables.proofs.testing.messages_taken.Statement.{statement}
 use Rattle.tables.proofs.testing.messages_taken.Tie as tie
@@ -24,6 +28,10 @@ use Rattle.record.proofs.wide.Reads as wide-reads
 use Rattle.rows.proofs.widths.Reads as widths-reads
 use Rattle.tables.proofs.testing.rests_zero.Reads as rests-zero-reads
 use Rattle.tables.proofs.testing.well_parted.Reads as well-parted-reads
+
+-- no stamp stands before the first message
+no-stamps : Below (replicate noPlace 0) 1
+no-stamps = record { each = refl; below = λ p. let z = zero-at noPlace p in omega (arith, z) }
 
 message-count-requires : tie.Need-message-count-requires
 message-count-requires c κs = search needs
