@@ -22,7 +22,7 @@ use Rattle.catalogue.specs.Places.{surpluses, bounds, Placed}
 use Rattle.catalogue.proofs.Placed.{found-place, one-place}
 use Rattle.catalogue.proofs.Class as the-class
 use Rattle.catalogue.proofs.places.Place as the-place
-use Rattle.catalogue.proofs.arms.class_of as class-of
+use Rattle.catalogue.proofs.by_shape.class_of as class-of
 use Rattle.catalogue.proofs.classes.is_too_wide as is-too-wide
 use Rattle.catalogue.proofs.places.bounds as bounds-fn
 use Rattle.catalogue.proofs.places.place_of as place-of

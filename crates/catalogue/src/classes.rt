@@ -1,5 +1,5 @@
 // The class of one raw count in a row: a mark wins over the range; then it is a value if it lies within the raw limits; else it is
-// outside. For `arms`, which has the constants of each shape; `is_too_wide` also for `messages`.
+// outside. For `by_shape`, which has the constants of each shape; `is_too_wide` also for `messages`.
 use crate::Class;
 use crate::Raw;
 use crate::Thousandths;

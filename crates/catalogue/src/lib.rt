@@ -3,13 +3,13 @@
 // place in it: who asks for those of many signals, as every call on a book or a frame does, binds the column once and lends it. The
 // class goes by the signal's shape. Of the public functions only `is_too_wide`, which is for `messages`, and `place_of`, `bits_at` and
 // `known_bits`, which are lent columns, have a `requires`.
-mod arms;
+mod by_shape;
 mod classes;
 mod places;
 mod shapes;
 mod widths;
 
-pub use arms::class_of;
+pub use by_shape::class_of;
 pub use classes::is_too_wide;
 pub use places::HUNDREDS;
 pub use places::PLACES;

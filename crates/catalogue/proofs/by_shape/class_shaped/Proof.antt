@@ -1,4 +1,4 @@
--- `catalogue::arms::class_shaped` meets its contract: each arm does the work on the row of its shape, and what is left for
+-- `catalogue::by_shape::class_shaped` meets its contract: each arm does the work on the row of its shape, and what is left for
 -- `_` is no shape. Assumes nothing.
 use mathlib.Core.Path.{_≡_, sym, ap, subst}
 use mathlib.Core.Option.{Option}
@@ -11,8 +11,8 @@ use Rattle.catalogue.specs.declared.Class.{Class}
 use Rattle.catalogue.specs.Shapes.{rowShaped}
 use Rattle.catalogue.specs.Class.{classFor}
 use Rattle.catalogue.proofs.Arms.{no-shape}
-use Rattle.catalogue.proofs.arms.class_shaped.Statement.{statement}
-use Rattle.catalogue.proofs.arms.class_shaped.Tie as tie
+use Rattle.catalogue.proofs.by_shape.class_shaped.Statement.{statement}
+use Rattle.catalogue.proofs.by_shape.class_shaped.Tie as tie
 
 -- the class in the row of the arm's shape is that in the row of the shape, which is the same
 arm : (k s : ℕ) (raw : Raw) (r : Class) → s ≡ k → r ≡ classFor (rowShaped k) raw → r ≡ classFor (rowShaped s) raw

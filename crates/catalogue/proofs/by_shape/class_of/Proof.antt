@@ -1,9 +1,9 @@
--- `catalogue::arms::class_of` meets its contract: the class of a count does not ask for the row's number.
+-- `catalogue::by_shape::class_of` meets its contract: the class of a count does not ask for the row's number.
 -- Assumes nothing.
 use borrow.Author.Needs.{needs}
 use Rattle.catalogue.proofs.Classing.{shaped-class}
-use Rattle.catalogue.proofs.arms.class_of.Statement.{statement}
-use Rattle.catalogue.proofs.arms.class_of.Tie as tie
+use Rattle.catalogue.proofs.by_shape.class_of.Statement.{statement}
+use Rattle.catalogue.proofs.by_shape.class_of.Tie as tie
 
 shape-of-requires : tie.Need-shape-of-requires
 shape-of-requires c κs = search needs
