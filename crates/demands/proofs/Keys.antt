@@ -1,13 +1,13 @@
 -- A place's number tells its bus and its identifier: for R lines that pass, equal numbers are equal buses and identifiers, so chains of
 -- routes between numbers are chains of R lines between buses and identifiers. Assumes nothing.
-use mathlib.Core.Path.{_≡_, refl, sym, _∙_, subst}
+use mathlib.Core.Path.{_≡_, refl, sym, ap, _∙_, subst}
 use mathlib.Core.Bool.{_||_}
 use Prim.Native.Nat.{ℕ, zero, suc, _<_}
 use native.Mathlib.Omega.{arith}
 use native.Mathlib.Nat.{le-of-suc-le-suc}
-use mathlib.Core.List.{List, [], _∷_}
+use mathlib.Core.List.{List, [], _∷_, map}
 use lib.Dec.{leb}
-use lib.ListN.{length, getD, length-map}
+use lib.ListN.{length, getD, length-map, List·getD-map}
 use borrow.Author.Tests.{leb-false}
 use Rattle.record.specs.Limits.{busLimit, identifierLimit}
 use Rattle.record.specs.Place.{placeKey, says-both}
@@ -22,7 +22,7 @@ use Rattle.reading.specs.Reading.{passed, refusalOf, withLine, numberedWith, re
 use Rattle.reading.specs.Taken.{froms, tos}
 use Rattle.reading.proofs.Passing.{went}
 use Rattle.demands.specs.Text.{lineRoute, rRoutes, textRoutes}
-use Rattle.demands.specs.RLines.{RLine, rLinesIn, textRLines, rLineAt, LineWalk, LineChain, InLimits, AllInLimits, none, more}
+use Rattle.demands.specs.RLines.{RLine, noLine, rLinesIn, textRLines, rLineAt, LineWalk, LineChain, InLimits, AllInLimits, none, more}
 
 in-limits-at : {ls : List RLine} → AllInLimits ls → (k : ℕ) → k < length ls → InLimits (rLineAt ls k)
 in-limits-at none k h = absurd (omega arith)
@@ -52,24 +52,16 @@ pub text-in-limits : (text : List ℕ) {b : Book} {at : List ℕ} → linesRead 
 unfolding linesRead
 text-in-limits text e = lines-in-limits 1 noBook [] (meanings text) e
 
--- the routes of lines are those of their R lines
-from-at : (ls : List Line) (k : ℕ) → k < length (rLinesIn ls) → getD (froms (rRoutes ls)) k 0 ≡ placeKey (rLineAt (rLinesIn ls) k .bus) (rLineAt (rLinesIn ls) k .identifier)
-unfolding rLinesIn rRoutes
-from-at [] k h = absurd (omega arith)
-from-at (line.Message i ∷ ls) k h = from-at ls k h
-from-at (line.Signal m s ∷ ls) k h = from-at ls k h
-from-at (line.Route x i y j ∷ ls) zero h = refl
-from-at (line.Route x i y j ∷ ls) (suc k) h = from-at ls k (le-of-suc-le-suc h)
-from-at (line.IllFormed ∷ ls) k h = from-at ls k h
+-- what is said of the k-th route is said of the k-th R line; where there is none, both are of 0
+side-at : (side : Route → ℕ) (ls : List Line) (k : ℕ) → getD (map side (rRoutes ls)) k (side (lineRoute noLine)) ≡ side (lineRoute (rLineAt (rLinesIn ls) k))
+unfolding rRoutes
+side-at side ls k = List·getD-map side (map lineRoute (rLinesIn ls)) k (lineRoute noLine) ∙ ap side (List·getD-map lineRoute (rLinesIn ls) k noLine)
 
-to-at : (ls : List Line) (k : ℕ) → k < length (rLinesIn ls) → getD (tos (rRoutes ls)) k 0 ≡ placeKey (rLineAt (rLinesIn ls) k .to-bus) (rLineAt (rLinesIn ls) k .to-identifier)
-unfolding rLinesIn rRoutes
-to-at [] k h = absurd (omega arith)
-to-at (line.Message i ∷ ls) k h = to-at ls k h
-to-at (line.Signal m s ∷ ls) k h = to-at ls k h
-to-at (line.Route x i y j ∷ ls) zero h = refl
-to-at (line.Route x i y j ∷ ls) (suc k) h = to-at ls k (le-of-suc-le-suc h)
-to-at (line.IllFormed ∷ ls) k h = to-at ls k h
+from-at : (ls : List Line) (k : ℕ) → getD (froms (rRoutes ls)) k 0 ≡ placeKey (rLineAt (rLinesIn ls) k .bus) (rLineAt (rLinesIn ls) k .identifier)
+from-at ls k = side-at (λ (r : Route). r .from) ls k
+
+to-at : (ls : List Line) (k : ℕ) → getD (tos (rRoutes ls)) k 0 ≡ placeKey (rLineAt (rLinesIn ls) k .to-bus) (rLineAt (rLinesIn ls) k .to-identifier)
+to-at ls k = side-at (λ (r : Route). r .to) ls k
 
 lines-count : (ls : List Line) → length (rRoutes ls) ≡ length (rLinesIn ls)
 unfolding rRoutes
@@ -90,8 +82,8 @@ module _ (text : List ℕ) where
   walk-keyed a i [] b j (e, f) = rw (e, f) refl
   walk-keyed a i (k ∷ c) b j (l, e, f, w) = (
     omega (arith, many),
-    from-at (meanings text) k l ∙ rw (e, f) refl,
-    subst (λ (p : ℕ). Walk fs ts p c (placeKey b j)) (sym (to-at (meanings text) k l)) (walk-keyed (rLineAt (textRLines text) k .to-bus) (rLineAt (textRLines text) k .to-identifier) c b j w),
+    from-at (meanings text) k ∙ rw (e, f) refl,
+    subst (λ (p : ℕ). Walk fs ts p c (placeKey b j)) (sym (to-at (meanings text) k)) (walk-keyed (rLineAt (textRLines text) k .to-bus) (rLineAt (textRLines text) k .to-identifier) c b j w),
   )
 
   pub keyed : (a i : ℕ) (c : List ℕ) (b j : ℕ) → LineChain (textRLines text) a i c b j → Chain fs ts (placeKey a i) c (placeKey b j)
@@ -104,8 +96,8 @@ module _ (text : List ℕ) where
     walk-unkeyed p a i (k ∷ c) b j q l m (h, f, w) =
         let k-low : k < length (textRLines text) = omega (arith, many) in
         let at = in-limits-at limits k k-low in
-        let same = says-both (rLineAt (textRLines text) k .bus) (rLineAt (textRLines text) k .identifier) a i (at .identified) l (sym (from-at (meanings text) k k-low) ∙ f ∙ q) in
-        (k-low, same .0, same .1, walk-unkeyed (getD ts k 0) (rLineAt (textRLines text) k .to-bus) (rLineAt (textRLines text) k .to-identifier) c b j (to-at (meanings text) k k-low) (at .to-identified) m w)
+        let same = says-both (rLineAt (textRLines text) k .bus) (rLineAt (textRLines text) k .identifier) a i (at .identified) l (sym (from-at (meanings text) k) ∙ f ∙ q) in
+        (k-low, same .0, same .1, walk-unkeyed (getD ts k 0) (rLineAt (textRLines text) k .to-bus) (rLineAt (textRLines text) k .to-identifier) c b j (to-at (meanings text) k) (at .to-identified) m w)
 
     pub unkeyed : (a i : ℕ) (c : List ℕ) (b j : ℕ) → i < identifierLimit → j < identifierLimit → Chain fs ts (placeKey a i) c (placeKey b j) → LineChain (textRLines text) a i c b j
     unkeyed a i (k ∷ c) b j l m w = walk-unkeyed (placeKey a i) a i (k ∷ c) b j refl l m w
@@ -131,8 +123,8 @@ module _ (text : List ℕ) where
           identifier = rLineAt (textRLines text) k .identifier;
           to-bus = rLineAt (textRLines text) (last .0) .to-bus;
           to-identifier = rLineAt (textRLines text) (last .0) .to-identifier;
-          from = sym (w .1) ∙ from-at (meanings text) k k-low;
-          to = sym (last .2) ∙ to-at (meanings text) (last .0) v-low;
+          from = sym (w .1) ∙ from-at (meanings text) k;
+          to = sym (last .2) ∙ to-at (meanings text) (last .0);
           identified = in-limits-at limits k k-low .identified;
           to-identified = in-limits-at limits (last .0) v-low .to-identified;
         }

@@ -43,9 +43,13 @@ rLinesIn (line.IllFormed ∷ ls) = rLinesIn ls
 abbrev pub textRLines : List ℕ → List RLine
 textRLines text = rLinesIn (meanings text)
 
+-- what stands where there is no such line
+abbrev pub noLine : RLine
+noLine = record { bus = 0; identifier = 0; to-bus = 0; to-identifier = 0 }
+
 -- the k-th of them
 abbrev pub rLineAt : List RLine → ℕ → RLine
-rLineAt ls k = getD ls k (record { bus = 0; identifier = 0; to-bus = 0; to-identifier = 0 })
+rLineAt ls k = getD ls k noLine
 
 module _ (ls : List RLine) where
   -- lines, by their index among the R lines, each starting at the bus and identifier where the one before ended; there may be none
