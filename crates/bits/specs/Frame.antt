@@ -21,7 +21,7 @@ unfoldable pub countAt : List ℕ → ℕ → ℕ → ℕ
 countAt frame s zero = 0
 countAt frame s (suc j) = countAt frame s j + frameBit frame (s + j) * 2 ^ j
 
--- ---- a frame of bytes, and its word
+-- n bytes: as many entries, each below 256
 pub record Bytes (n : ℕ) (frame : List ℕ) : Type 0 where
   pub many : length frame ≡ n
   pub small : (k : ℕ) → getD frame k 0 < 256

@@ -4,6 +4,7 @@ use Prim.Native.Nat.{ℕ}
 use Rattle.line.specs.declared.Line.{Line}
 use Rattle.line.specs.declared.Line.the-variants.{Message, Signal, Route, IllFormed}
 
+-- the bytes of a line, without its newline, and what it says
 pub record WorkedLine : Type 0 where
   pub line : List ℕ
   pub says : Line

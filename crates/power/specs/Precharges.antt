@@ -5,6 +5,7 @@ use mathlib.Core.List.{List, [], _∷_}
 use Prim.Native.Nat.{ℕ}
 use Rattle.catalogue.specs.declared.Raw.{Raw}
 
+-- the raw counts of the two voltages, and whether precharge is complete by them
 pub record Precharging : Type 0 where
   pub inside : Raw
   pub outside : Raw

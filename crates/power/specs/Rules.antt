@@ -85,5 +85,6 @@ pub record ByStep (list : List PowerStep) (state : State) (seen : Observation) (
   pub shown : picture (step .to) seen ≡ true
   pub allowed : step .when seen ≡ true
 
+-- where an observation may lead: the state stays, or it is off, or fault, or that of a step of rules 3 and 4
 abbrev pub Leads : State → Observation → State → Type 0
 Leads state seen next = (next ≡ state) ⊎ ((next ≡ Off) ⊎ ((next ≡ Fault) ⊎ ByStep steps state seen next))

@@ -1,5 +1,5 @@
--- A text whose lines pass is a list of bytes, whatever numbers a list may hold: a well formed line is letters, digits and tabs. So every
--- text that a taken book comes from can be written in a file. Assumes nothing.
+-- A taken text is of bytes, whatever numbers a list may hold: a well formed line is letters, digits and tabs. So every text that a taken
+-- book comes from can be written in a file. Assumes nothing.
 use mathlib.Core.Path.{_≡_, refl, subst, sym}
 use mathlib.Core.Bool.{Bool, true, false, cond}
 use mathlib.Core.List.{List, [], _∷_, _++_, map}
@@ -8,7 +8,9 @@ use Prim.Native.Nat.{ℕ, zero, suc, _+_, _/_, _%_, _^_, _≤_, _<_}
 use native.Mathlib.Nat.{one-le-pow, pow-succ', div-lt-iff-lt-mul, mod-lt}
 use native.Mathlib.Omega.{arith}
 use lib.Dec.{eqb, ltb}
+use lib.ListN.{length, getD}
 use borrow.Author.Tests.{eqb-true}
+use Rattle.bits.specs.Frame.{Bytes}
 use Rattle.numerals.specs.Written.{digitByte, digitsOf, hexadecimalLimit, identifierText, decimalLimit, decimalText}
 use Rattle.numerals.proofs.Decimals.{some-width}
 use Rattle.parts.specs.Parts.{tab, newline, onFirst, split, linesOf, lines}
@@ -20,10 +22,19 @@ use Rattle.line.specs.Written.{fieldsOf, lineText, Writable, Canonical}
 use Rattle.line.proofs.Canonical.{canonical}
 use Rattle.books.specs.Book.{Book, noBook}
 use Rattle.reading.specs.Reading.{passed, refusalOf, withLine, numberedWith, readFrom, meanings, linesRead}
-use Rattle.reading.specs.Taken.{TakenWith, OfBytes, no-byte, byte}
+use Rattle.reading.specs.Taken.{TakenWith}
 use Rattle.reading.proofs.Passing.{went}
 
--- parts of bytes
+-- entries that are bytes, one after the other, and parts of them
+data OfBytes : List ℕ → Type 0 where
+  no-byte : OfBytes []
+  byte : {b : ℕ} {text : List ℕ} → b < 256 → OfBytes text → OfBytes (b ∷ text)
+
+each-small : {l : List ℕ} → OfBytes l → (k : ℕ) → getD l k 0 < 256
+each-small no-byte k = omega arith
+each-small (byte h f) zero = h
+each-small (byte h f) (suc k) = each-small f k
+
 data AllBytes : List (List ℕ) → Type 0 where
   no-part : AllBytes []
   part : {p : List ℕ} {ps : List (List ℕ)} → OfBytes p → AllBytes ps → AllBytes (p ∷ ps)
@@ -121,6 +132,9 @@ split-bytes s h (b ∷ t) a = go (eqb b s) refl a (split-bytes s h t)
     go true e (part f more) rest = byte (subst (λ (x : ℕ). x < 256) (sym (eqb-true _ _ e)) h) (rest more)
     go false e a rest = let f = first-bytes b (split s t) a in byte (f .0) (rest (f .1))
 
-pub taken-bytes : {text : List ℕ} {b : Book} → TakenWith text b → OfBytes text
+pub taken-bytes : {text : List ℕ} {b : Book} → TakenWith text b → Bytes (length text) text
 unfolding linesRead meanings lines
-taken-bytes {text} t = split-bytes newline (omega arith) text (parts-bytes 1 noBook [] (split newline text) (t .read))
+taken-bytes {text} t = record {
+  many = refl;
+  small = each-small (split-bytes newline (omega arith) text (parts-bytes 1 noBook [] (split newline text) (t .read)));
+}

@@ -1,6 +1,6 @@
 -- When a text is taken, and with what book; and what its lines are counted to. Assumes nothing: these are definitions.
 use mathlib.Core.Path.{_≡_}
-use Prim.Native.Nat.{ℕ, suc, _+_, _≤_, _<_}
+use Prim.Native.Nat.{ℕ, suc, _+_, _≤_}
 use mathlib.Core.List.{List, [], _∷_, _++_}
 use lib.ListN.{length}
 use Rattle.record.specs.Limits.{textLimit}
@@ -23,11 +23,6 @@ pub record TakenWith (text : List ℕ) (b : Book) : Type 0 where
   pub at : List ℕ
   pub read : linesRead text ≡ passed b at
   pub sound : SoundRoutes (b .routes)
-
--- a text is a list of bytes
-pub data OfBytes : List ℕ → Type 0 where
-  no-byte : OfBytes []
-  byte : {b : ℕ} {text : List ℕ} → b < 256 → OfBytes text → OfBytes (b ∷ text)
 
 -- "that of no taken book" (12): tables are those of a taken book where some text is taken with a book whose tables they are.
 -- The message and signal tables:

@@ -9,6 +9,7 @@ use Rattle.sleep.specs.declared.SleepAnswer.the-variants.{Taken, ClockWe
 use Rattle.sleep.specs.declared.Updated.{Updated}
 use Rattle.sleep.specs.Watching.{awakeAt, watchOf, watchAndAnswer}
 
+-- a watch, a call on it, and the watch with the answer after it
 pub record WorkedCall : Type 0 where
   pub before : Watch
   pub time : ℕ
