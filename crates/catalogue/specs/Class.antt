@@ -1,15 +1,16 @@
 -- What a raw count of a signal stands for. Assumes nothing.
 use mathlib.Core.Bool.{Bool, cond, _&&_}
 use mathlib.Core.Option.{Option, none, some}
-use Prim.Native.Nat.{ℕ, _*_, _^_}
+use Prim.Native.Nat.{ℕ, _^_}
 use lib.Dec.{leb, eqb}
-use lib.IntN.{ℤ, pos, _+ℤ_}
+use lib.IntN.{ℤ, pos}
 use Rattle.rows.specs.declared.Mark.{Mark}
 use Rattle.rows.specs.declared.Row.{Row}
 use Rattle.catalogue.specs.declared.Raw.{Raw}
 use Rattle.catalogue.specs.declared.Thousandths.{Thousandths}
 use Rattle.catalogue.specs.declared.Class.{Class}
 use Rattle.catalogue.specs.declared.Class.the-variants.{Value, Invalid, Absent, Error, Reserved, Outside, NotInCatalogue, TooWide}
+use Rattle.rows.specs.RawLimits.{rawReading}
 use Rattle.rows.specs.Rows.{invalidKind, absentKind, errorKind, reservedKind}
 use Rattle.catalogue.specs.Find.{rowOf}
 
@@ -28,7 +29,7 @@ markClass kind raw =
 
 -- raw x resolution + offset, exactly
 abbrev pub readingOf : Row → Raw → Thousandths
-readingOf r raw = record { 0 = pos (raw .0 * r .resolution) +ℤ r .offset }
+readingOf r raw = record { 0 = rawReading r (raw .0) }
 
 -- the mark has the count
 abbrev pub has : Mark → Raw → Bool

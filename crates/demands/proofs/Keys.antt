@@ -45,7 +45,7 @@ lines-in-limits n b at (l ∷ ls) e =
         let c = both-false (leb busLimit x || leb identifierLimit i) (leb busLimit y || leb identifierLimit j) (a .0) in
         let d = both-false (leb busLimit x) (leb identifierLimit i) (c .0) in
         let f = both-false (leb busLimit y) (leb identifierLimit j) (c .1) in
-        more (record { on-bus = leb-false _ _ (d .0); identified = leb-false _ _ (d .1); to-on-bus = leb-false _ _ (f .0); to-identified = leb-false _ _ (f .1) }) h
+        more (record { from = record { on-bus = leb-false _ _ (d .0); identified = leb-false _ _ (d .1) }; to = record { on-bus = leb-false _ _ (f .0); identified = leb-false _ _ (f .1) } }) h
     by line.IllFormed e h = h
 
 pub text-in-limits : (text : List ℕ) {b : Book} {at : List ℕ} → linesRead text ≡ passed b at → AllInLimits (textRLines text)
@@ -96,8 +96,8 @@ module _ (text : List ℕ) where
     walk-unkeyed p a i (k ∷ c) b j q l m (h, f, w) =
         let k-low : k < length (textRLines text) = omega (arith, many) in
         let at = in-limits-at limits k k-low in
-        let same = says-both (rLineAt (textRLines text) k .bus) (rLineAt (textRLines text) k .identifier) a i (at .identified) l (sym (from-at (meanings text) k) ∙ f ∙ q) in
-        (k-low, same .0, same .1, walk-unkeyed (getD ts k 0) (rLineAt (textRLines text) k .to-bus) (rLineAt (textRLines text) k .to-identifier) c b j (to-at (meanings text) k) (at .to-identified) m w)
+        let same = says-both (rLineAt (textRLines text) k .bus) (rLineAt (textRLines text) k .identifier) a i (at .from .identified) l (sym (from-at (meanings text) k) ∙ f ∙ q) in
+        (k-low, same .0, same .1, walk-unkeyed (getD ts k 0) (rLineAt (textRLines text) k .to-bus) (rLineAt (textRLines text) k .to-identifier) c b j (to-at (meanings text) k) (at .to .identified) m w)
 
     pub unkeyed : (a i : ℕ) (c : List ℕ) (b j : ℕ) → i < identifierLimit → j < identifierLimit → Chain fs ts (placeKey a i) c (placeKey b j) → LineChain (textRLines text) a i c b j
     unkeyed a i (k ∷ c) b j l m w = walk-unkeyed (placeKey a i) a i (k ∷ c) b j refl l m w
@@ -125,6 +125,6 @@ module _ (text : List ℕ) where
           to-identifier = rLineAt (textRLines text) (last .0) .to-identifier;
           from = sym (w .1) ∙ from-at (meanings text) k;
           to = sym (last .2) ∙ to-at (meanings text) (last .0);
-          identified = in-limits-at limits k k-low .identified;
-          to-identified = in-limits-at limits (last .0) v-low .to-identified;
+          identified = in-limits-at limits k k-low .from .identified;
+          to-identified = in-limits-at limits (last .0) v-low .to .identified;
         }

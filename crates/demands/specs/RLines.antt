@@ -11,7 +11,7 @@ use Rattle.chains.specs.Spread.{Distinct}
 use Rattle.line.specs.declared.Line.{Line}
 use Rattle.line.specs.declared.Line.the-variants as line
 use Rattle.reading.specs.Reading.{meanings}
-use Rattle.record.specs.Limits.{busLimit, identifierLimit}
+use Rattle.routes.specs.Answers.{IsPlace}
 
 -- "bus, identifier, bus, identifier: from place, to place"
 pub record RLine : Type 0 where
@@ -20,12 +20,10 @@ pub record RLine : Type 0 where
   pub to-bus : ℕ
   pub to-identifier : ℕ
 
--- an R line whose buses and identifiers are within their limits
+-- an R line from a place to a place: its buses and identifiers are within their limits
 pub record InLimits (l : RLine) : Type 0 where
-  pub on-bus : l .bus < busLimit
-  pub identified : l .identifier < identifierLimit
-  pub to-on-bus : l .to-bus < busLimit
-  pub to-identified : l .to-identifier < identifierLimit
+  pub from : IsPlace (l .bus) (l .identifier)
+  pub to : IsPlace (l .to-bus) (l .to-identifier)
 
 -- all of them are
 pub data AllInLimits : List RLine → Type 0 where

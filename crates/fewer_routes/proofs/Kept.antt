@@ -1,5 +1,5 @@
 -- TAKING ROUTES OUT of a table leaves, from each place, exactly the chains all of whose routes stay, in the same order, each route under
--- its new number; so the spread has the entries of those chains; and a sound table stays sound. Assumes nothing.
+-- its new number. Assumes nothing.
 use mathlib.Core.Path.{_≡_, refl, sym, ap, _∙_}
 use mathlib.Core.Bool.{Bool, true, false, cond}
 use Prim.Native.Nat.{ℕ, zero, suc, _≤_, _<_, _+_, _-_}
@@ -8,15 +8,14 @@ use mathlib.Core.List.{List, [], _∷_, _++_, map, map-map, map-append, List·Me
 use lib.ListN.{length, getD, length-map}
 use lib.Dec.{eqb}
 use Rattle.lists.specs.Lists.{those, numbersBelow, entriesAt}
-use Rattle.lists.proofs.Lists.{map-at, map-same, those-append, those-map, those-none, those-swap, those-few, those-mem, distinct-those, length-below, below-mem, distinct-below}
-use Rattle.chains.specs.Chain.{LoopFree, IsSound}
-use Rattle.chains.specs.Spread.{routesFrom, spreadOf}
-use Rattle.chains.specs.ChainLists.{placeAfter, chainsBeginning, chainsUpTo, chainsFrom}
+use Rattle.lists.proofs.Lists.{map-at, those-append, those-map, those-none, those-swap, those-few, those-mem, length-below, below-mem}
+use Rattle.chains.specs.Chain.{LoopFree}
+use Rattle.chains.specs.Spread.{routesFrom}
+use Rattle.chains.specs.ChainLists.{chainsBeginning, chainsUpTo, chainsFrom}
 use Rattle.chains.proofs.Routes.{route-starts}
-use Rattle.chains.proofs.ChainLists.{chain-after, listed-chain, chains-enough}
-use Rattle.chains.proofs.Spreads.{chain-ends}
+use Rattle.chains.proofs.ChainLists.{chains-enough}
 use Rattle.fewer_routes.specs.Fewer.{oldNumbers, keptOf, every}
-use Rattle.fewer_routes.proofs.Picked.{Picks, within, chain-old, free-picked, sound-picked}
+use Rattle.fewer_routes.proofs.Picked.{Picks, within, free-picked}
 
 -- ---- the routes of a place
 -- they are those of all numbers whose route starts there
@@ -78,7 +77,7 @@ module _ (keep : ℕ → Bool) where
 
   -- ---- a table with routes taken out
   kept-picks : (n : ℕ) → Picks n (oldNumbers keep n)
-  kept-picks n = record { low = λ x m. below-mem n x (those-mem keep (numbersBelow n) x m .0); once = distinct-those keep (numbersBelow n) (distinct-below n) }
+  kept-picks n x m = below-mem n x (those-mem keep (numbersBelow n) x m .0)
 
   module _ (fs ts : List ℕ) where
     -- the old numbers of the routes that stay, and where these routes lead
@@ -113,25 +112,10 @@ module _ (keep : ℕ → Bool) where
         (sym (chains-enough (keptOf keep fs) ends (free-picked fs ts old (kept-picks (length fs)) free) more p) ∙ ap (λ (n : ℕ). chainsUpTo (keptOf keep fs) ends n p) e)
         ∙ up-to-kept (length fs) p
 
-    end-left : (p : ℕ) (c : List ℕ) → List·Memᴰ c (chainsFrom (keptOf keep fs) ends p) → placeAfter ends p c ≡ placeAfter ts p (entriesAt old c)
-    end-left p c m = sym (chain-after fs ts p (entriesAt old c) (placeAfter ends p c) (chain-old fs ts old (kept-picks (length fs)) p c (placeAfter ends p c) (listed-chain (keptOf keep fs) ends p c m)))
-
     module _ (pairs : length fs ≡ length ts) where
       ends-kept : ends ≡ keptOf keep ts
       ends-kept = ap (λ (n : ℕ). entriesAt ts (oldNumbers keep n)) pairs
 
-      -- SOUND STAYS SOUND
-      pub sound-kept : IsSound fs ts → IsSound (keptOf keep fs) (keptOf keep ts)
-      sound-kept sound = rw ends-kept at (sound-picked fs ts old (kept-picks (length fs)) sound)
-
       -- THE CHAINS that are left, each route by its old number: those all of whose routes stay, in the same order
       pub chains-kept : LoopFree fs ts → (p : ℕ) → map (entriesAt (oldNumbers keep (length fs))) (chainsFrom (keptOf keep fs) (keptOf keep ts) p) ≡ those (every keep) (chainsFrom fs ts p)
       chains-kept free p = rw ends-kept at (chains-left free p)
-
-      -- THE SPREAD that is left: where those chains end, in the same order
-      pub spread-kept : LoopFree fs ts → (p : ℕ) → spreadOf (keptOf keep fs) (keptOf keep ts) p ≡ map (placeAfter ts p) (those (every keep) (chainsFrom fs ts p))
-      spread-kept free p =
-          ap (λ (us : List ℕ). spreadOf (keptOf keep fs) us p) (sym ends-kept) ∙ sym (chain-ends (keptOf keep fs) ends p)
-          ∙ map-same (placeAfter ends p) (λ c. placeAfter ts p (entriesAt old c)) (chainsFrom (keptOf keep fs) ends p) (end-left p)
-          ∙ sym (map-map (placeAfter ts p) (entriesAt old) (chainsFrom (keptOf keep fs) ends p))
-          ∙ ap (map (placeAfter ts p)) (chains-left free p)

@@ -1,2 +1,1 @@
-// No code: specs/ says what a table of routes is with some of them taken out, and proofs/ which chains it has then, that it stays
-// sound, and what is left of a spread.
+// No code: specs/ says what a table of routes is with some of them taken out, and proofs/ which chains it has then.

@@ -5,7 +5,7 @@ use mathlib.Core.Bool.{Bool, true, false, cond}
 use Prim.Native.Nat.{ℕ, zero, suc, _≤_, _<_}
 use native.Mathlib.Nat.{le-of-suc-le-suc}
 use native.Mathlib.Omega.{arith}
-use mathlib.Core.List.{List, [], _∷_, _++_, map, List·Memᴰ, List·Memᴰ·head, List·Memᴰ·tail, List·Memᴰ·cases-cons, List·Memᴰ·not-nil, List·Memᴰ·append-cases, Memᴰ·cast, Memᴰ·map, Memᴰ·of-map}
+use mathlib.Core.List.{List, [], _∷_, _++_, map, List·Memᴰ, List·Memᴰ·head, List·Memᴰ·tail, List·Memᴰ·cases-cons, List·Memᴰ·not-nil, List·Memᴰ·append-cases, Memᴰ·map, Memᴰ·of-map}
 use lib.ListN.{length, getD, length-map}
 use Rattle.lists.specs.Lists.{Distinct, those, numbersBelow}
 
@@ -24,23 +24,11 @@ map-at f [] d e k h = absurd (omega arith)
 map-at f (x ∷ l) d e zero h = refl
 map-at f (x ∷ l) d e (suc k) h = map-at f l d e k (le-of-suc-le-suc h)
 
-pub map-same : {A B : Type 0} (f g : A → B) (l : List A) → ((x : A) → List·Memᴰ x l → f x ≡ g x) → map f l ≡ map g l
-map-same f g [] s = refl
-map-same f g (x ∷ l) s = rw (s x (List·Memᴰ·head refl), map-same f g l (λ y m. s y (List·Memᴰ·tail m)))
-
 -- ---- lists without repeats
 pub distinct-append : {A : Type 0} (a b : List A) → Distinct a → Distinct b → ((x : A) → List·Memᴰ x a → List·Memᴰ x b → ⊥) → Distinct (a ++ b)
 distinct-append [] b da db apart = db
 distinct-append (x ∷ a) b (nx, da) db apart =
     (λ m. ⊎-elim nx (apart x (List·Memᴰ·head refl)) (List·Memᴰ·append-cases a m), distinct-append a b da db (λ y m. apart y (List·Memᴰ·tail m)))
-
--- an entry stands in one place
-pub distinct-at : {A : Type 0} (l : List A) (d : A) → Distinct l → (j k : ℕ) → j < length l → k < length l → getD l j d ≡ getD l k d → j ≡ k
-distinct-at [] d once j k h g e = absurd (omega arith)
-distinct-at (x ∷ l) d (nx, once) zero zero h g e = refl
-distinct-at (x ∷ l) d (nx, once) zero (suc k) h g e = absurd (nx (Memᴰ·cast e (mem-at l d k (le-of-suc-le-suc g))))
-distinct-at (x ∷ l) d (nx, once) (suc j) zero h g e = absurd (nx (Memᴰ·cast (sym e) (mem-at l d j (le-of-suc-le-suc h))))
-distinct-at (x ∷ l) d (nx, once) (suc j) (suc k) h g e = ap suc (distinct-at l d once j k (le-of-suc-le-suc h) (le-of-suc-le-suc g) e)
 
 -- a map that keeps different entries different
 pub distinct-map : {A B : Type 0} (f : A → B) (l : List A) → ((x y : A) → List·Memᴰ x l → List·Memᴰ y l → f x ≡ f y → x ≡ y) → Distinct l → Distinct (map f l)
@@ -99,14 +87,6 @@ those-mem P (y ∷ l) x m = go (P y) refl m (those-mem P l x)
     go true f m ih = ⊎-elim (λ (e : x ≡ y). (List·Memᴰ·head e, ap P e ∙ f)) (λ h. let r = ih h in (List·Memᴰ·tail (r .0), r .1)) (List·Memᴰ·cases-cons m)
     go false f m ih = let r = ih m in (List·Memᴰ·tail (r .0), r .1)
 
-pub distinct-those : {A : Type 0} (P : A → Bool) (l : List A) → Distinct l → Distinct (those P l)
-distinct-those P [] d = tt
-distinct-those P (x ∷ l) (nx, d) = go (P x) (distinct-those P l d)
-  where
-    go : (t : Bool) → Distinct (those P l) → Distinct (cond t (x ∷ those P l) (those P l))
-    go true h = (λ m. nx (those-mem P l x m .0), h)
-    go false h = h
-
 -- ---- the numbers below one
 pub length-below : (n : ℕ) → length (numbersBelow n) ≡ n
 length-below zero = refl
@@ -121,10 +101,3 @@ pub below-mem : (n x : ℕ) → List·Memᴰ x (numbersBelow n) → x < n
 below-mem zero x m = absurd (List·Memᴰ·not-nil m)
 below-mem (suc n) x m =
     ⊎-elim (λ (e : x ≡ 0). omega arith) (λ t. let r = Memᴰ·of-map suc (numbersBelow n) t in let h = below-mem n (r .0) (r .1) in omega (arith, r .2)) (List·Memᴰ·cases-cons m)
-
-pub distinct-below : (n : ℕ) → Distinct (numbersBelow n)
-distinct-below zero = tt
-distinct-below (suc n) = (
-  λ m. let r = Memᴰ·of-map suc (numbersBelow n) m in absurd (omega (arith, r .2)),
-  distinct-map suc (numbersBelow n) (λ x y m k e. omega arith) (distinct-below n),
-)

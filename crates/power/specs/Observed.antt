@@ -59,7 +59,7 @@ prechargeComplete inside outside = valid inside && valid outside && ltb 0 (insid
 abbrev pub under10A : Raw → Bool
 under10A current = leb 19901 (current .0) && leb (current .0) 20099
 
--- what a count of such a signal stands for
+-- what a count of 201, 202 or 203 stands for, by its offset: a tenth of a volt or ampere for each, 65,535 invalid
 abbrev pub measuredClass : ℤ → Raw → Class
 measuredClass offset raw = cond (valid raw) (Value (record { 0 = pos (raw .0 * 100) +ℤ offset })) (cond (leb 65536 (raw .0)) TooWide (Invalid raw))
 

@@ -22,6 +22,7 @@ exactDoubles = 2 ^ 53
 abbrev pub Apart : Mark → Mark → Type 0
 Apart m m' = (n : ℕ) → m .first ≤ n → n ≤ m .last → m' .first ≤ n → n ≤ m' .last → ⊥
 
+-- a number is one of a list
 abbrev pub Among : List ℕ → ℕ → Type 0
 Among [] k = ⊥
 Among (x ∷ xs) k = (k ≡ x) ⊎ Among xs k
