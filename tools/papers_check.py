@@ -11,7 +11,7 @@ import sys
 from pathlib import Path
 
 ROOT = Path(__file__).parent.parent
-PAPERS = [ROOT / "README.md", ROOT / "tools/README.md", *sorted((ROOT / "docs").rglob("*.md"))]
+PAPERS = [ROOT / "README.md", ROOT / "CHANGELOG.md", ROOT / "tools/README.md", *sorted((ROOT / "docs").rglob("*.md"))]
 CRATES = {folder.name for folder in (ROOT / "crates").iterdir()}
 
 

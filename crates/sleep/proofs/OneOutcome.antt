@@ -1,4 +1,4 @@
--- Each public function's contract allows one watchAndAnswer and no other. Assumes nothing.
+-- Each public function's contract allows one outcome and no other. Assumes nothing.
 use mathlib.Core.Path.{refl}
 use mathlib.Core.Bool.{Bool}
 use Prim.Native.Nat.{ℕ}

@@ -8,7 +8,7 @@ use Rattle.sleep.specs.declared.Watch.{Watch}
 use Rattle.sleep.specs.declared.SleepAnswer.the-variants.{Taken, ClockWentBack}
 use Rattle.sleep.specs.Watching.{sleepRefusal, halfTheCircle, age, watchAndAnswer, whileAsleep, whileAwake, afterCall}
 
--- "while awake, an age of 2^31 or more is sleepRefusal 51, whether wake is on or off"; "While asleep no call is refused"
+-- "while awake, an age of 2^31 or more is refusal 51, whether wake is on or off"; "While asleep no call is refused"
 pub refused : (w : Watch) (time : ℕ) (wake : Bool)
     → sleepRefusal (afterCall w time wake .answer) ≡ cond (not (w .asleep) && leb halfTheCircle (age time (w .«last_wake»))) 51 0
 unfolding afterCall

@@ -1,4 +1,4 @@
--- `power::step` meets its contract: the tests that led to each `return` say which powerRefusal it is, or that there is none. Assumes nothing.
+-- `power::step` meets its contract: the tests that led to each `return` say which refusal it is, or that there is none. Assumes nothing.
 use borrow.Author.Tests.{not-true, not-false}
 use Rattle.power.specs.Refusals.{stepOf}
 use borrow.Author.Needs.{needs}
