@@ -12,11 +12,12 @@ use Rattle.answers.specs.Numbers.{Said, refused}
 use Rattle.line.specs.declared.Line.{Line}
 use Rattle.line.specs.declared.Line.the-variants as line
 use Rattle.books.specs.Book.{Book, noBook, placement}
+use Rattle.books.specs.Built.{Built}
 use Rattle.books.proofs.Ends.{length-more}
-use Rattle.books.proofs.Order.{message-lowest, signal-lowest, route-lowest}
+use Rattle.books.proofs.Order.{message-lowest, signal-least, signal-lowest, route-lowest}
 use Rattle.reading.specs.Reading.{Outcome, passed, onward, refusalOf, withLine, numberedWith, readFrom, meanings, linesRead}
 use Rattle.reading.specs.Reading as lines
-use Rattle.reading.proofs.Passing.{went, goes-on, same-book, read-append}
+use Rattle.reading.proofs.Passing.{went, goes-on, same-book, built-with, read-append}
 use Rattle.book.specs.Answered.{Answered, too-long, bad-line, closed-chain, two-chains, taken-with}
 use Rattle.demands.specs.FirstBad.{LineDue, form, message, signal, route, Pass, none, more, AllPass, FirstBad}
 use Rattle.demands.specs.Loops.{LinesPass}
@@ -25,26 +26,31 @@ use Rattle.demands.specs.Loops.{LinesPass}
 least : (b : Book) (l : Line) (n : ℕ) → LineDue b l n → (0 < refusalOf b l) × (refusalOf b l ≤ n)
 unfolding refusalOf
 least b (line.Message i) n (message d) = message-lowest (b .messages) i .lowest n d
-least b (line.Signal m s) n (signal d) = signal-lowest (b .messages) (placement m s) .lowest n d
+least b (line.Signal m s) n (signal d) = signal-least (b .messages) (placement m s) n d
 least b (line.Route a i c j) n (route d) = route-lowest (b .routes) a i c j .lowest n d
 least b line.IllFormed n form = (omega arith, omega arith)
 
-deserves : (b : Book) (l : Line) → 0 < refusalOf b l → LineDue b l (refusalOf b l)
+deserves : (b : Book) (l : Line) → Built (b .messages) → 0 < refusalOf b l → LineDue b l (refusalOf b l)
 unfolding refusalOf
-deserves b (line.Message i) h = message (message-lowest (b .messages) i .due h)
-deserves b (line.Signal m s) h = signal (signal-lowest (b .messages) (placement m s) .due h)
-deserves b (line.Route a i c j) h = route (route-lowest (b .routes) a i c j .due h)
-deserves b line.IllFormed h = form
+deserves b (line.Message i) w h = message (message-lowest (b .messages) i .due h)
+deserves b (line.Signal m s) w h = signal (signal-lowest (b .messages) (placement m s) w .due h)
+deserves b (line.Route a i c j) w h = route (route-lowest (b .routes) a i c j .due h)
+deserves b line.IllFormed w h = form
 
 none-due : (b : Book) (l : Line) → refusalOf b l ≡ 0 → (n : ℕ) → LineDue b l n → ⊥
 none-due b l e n d = omega (arith, least b l n d .0)
 
-not-due : (b : Book) (l : Line) → ((n : ℕ) → LineDue b l n → ⊥) → refusalOf b l ≡ 0
-not-due b l h = go (refusalOf b l) refl
+not-due : (b : Book) (l : Line) → Built (b .messages) → ((n : ℕ) → LineDue b l n → ⊥) → refusalOf b l ≡ 0
+not-due b l w h = go (refusalOf b l) refl
   where
     go : (k : ℕ) → refusalOf b l ≡ k → k ≡ 0
     go zero e = refl
-    go (suc k) e = absurd (h (refusalOf b l) (deserves b l (omega arith)))
+    go (suc k) e = absurd (h (refusalOf b l) (deserves b l w (omega arith)))
+
+-- the messages of lines that pass are built line by line
+pass-built : {ls : List Line} {b : Book} → Pass ls b → Built (b .messages)
+pass-built none = Built.none
+pass-built (more {b = b} l p none-deserved) = built-with b l (pass-built p) (not-due b l (pass-built p) none-deserved)
 
 -- lines that the reader passes are lines that pass
 read-pass : (n : ℕ) (front : List Line) (b : Book) (at : List ℕ) (ls : List Line) {c : Book} {to : List ℕ} → Pass front b → readFrom n b at ls ≡ passed c to → Pass (front ++ ls) c
@@ -61,7 +67,7 @@ unfolding readFrom
 pass-read none = ([], refl)
 pass-read (more {ls} {b} l p none-deserved) =
     let r = pass-read p in
-    (numberedWith (r .0) (1 + length ls) l, read-append 1 noBook [] ls (l ∷ []) (r .1) ∙ goes-on (refusalOf b l) (1 + length ls) _ (not-due b l none-deserved))
+    (numberedWith (r .0) (1 + length ls) l, read-append 1 noBook [] ls (l ∷ []) (r .1) ∙ goes-on (refusalOf b l) (1 + length ls) _ (not-due b l (pass-built p) none-deserved))
 
 -- the lines of a text pass in one sentence as in the other
 pub lines-pass : (text : List ℕ) → LinesPass text ↔ AllPass text
@@ -95,7 +101,7 @@ first-from n front b at (l ∷ ls) why m text p c s e =
           number = omega arith;
           book = b;
           passes = p;
-          deserved = subst (LineDue b l) (q ∙ y) (deserves b l (omega arith));
+          deserved = subst (LineDue b l) (q ∙ y) (deserves b l (pass-built p) (omega arith));
           lowest = λ j d. omega (arith, least b l j d .1);
         }
 
@@ -105,7 +111,7 @@ unfolding linesRead readFrom onward
 first-refused text why n f =
     let r = pass-read (f .passes) in
     let low = least (f .book) (f .bad) why (f .deserved) in
-    let same : refusalOf (f .book) (f .bad) ≡ why = omega (arith, low .1, f .lowest _ (deserves (f .book) (f .bad) (low .0))) in
+    let same : refusalOf (f .book) (f .bad) ≡ why = omega (arith, low .1, f .lowest _ (deserves (f .book) (f .bad) (pass-built (f .passes)) (low .0))) in
     ap (readFrom 1 noBook []) (f .whole) ∙ read-append 1 noBook [] (f .before) (f .bad ∷ f .after) (r .1) ∙
     stops (refusalOf (f .book) (f .bad)) (1 + length (f .before)) _ (low .0) ∙
     ap (λ (k : ℕ). lines.refused k (1 + length (f .before))) same ∙ ap (lines.refused why) (one-add (length (f .before)) ∙ sym (f .number))

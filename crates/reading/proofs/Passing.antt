@@ -43,7 +43,7 @@ unfolding linesRead
 text-kept P keeps text e h = kept-on P keeps 1 noBook [] (meanings text) e h
 
 -- one line more
-built-with : (b : Book) (l : Line) → Built (b .messages) → refusalOf b l ≡ 0 → Built (withLine b l .messages)
+pub built-with : (b : Book) (l : Line) → Built (b .messages) → refusalOf b l ≡ 0 → Built (withLine b l .messages)
 unfolding refusalOf withLine
 built-with b (line.Message i) h e = message i h e
 built-with b (line.Signal n s) h e = signal (record { number = n; start = s }) h e
