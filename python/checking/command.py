@@ -1,0 +1,142 @@
+"""The command ./check: what it prints, and its exit status."""
+
+import os
+import sys
+from typing import NamedTuple
+
+from . import chains, refusals
+from .routes import DOUBLING, LOOP, routes_of
+from .texts import Unreadable, load, visible
+from .verdicts import NoVerdict, verdict_on
+
+TAKEN, REFUSED, UNREADABLE, FAILED = 0, 1, 2, 3
+MOST_ROUTES = 64
+
+HELP = """usage: ./check BOOK...
+
+Says of each route book whether it is taken, and of a refused one which line is at fault and how to mend it. Several books are
+also checked together, as those of several gateways on one truck: their R lines as one table, in the order of the files. Give it all
+the books of a truck at once, since books that are each right by themselves can loop together.
+
+A book of the name - is read from standard input. docs/BOOK.md has the format.
+
+Exit status: 0 taken; 1 refused; 2 a file is missing or can't be read, or the command was not understood; 3 the checker itself could
+not be built or run. The verdict is that of the proved program book_check, which ./run builds where needed: the first time takes
+some minutes."""
+
+
+class Report(NamedTuple):
+    status: int
+    paragraphs: list
+
+
+def counted(number, word):
+    return f"{number} {word}" + "s" * (number != 1)
+
+
+def refused(where, refusal, words):
+    return Report(REFUSED, [f"{where}: refused ({refusal}): {refusals.SENTENCES[refusal]}.", *words])
+
+
+# ---- one book
+
+
+def report_on(book):
+    verdict = verdict_on(book.text)
+    if not verdict.refusal:
+        words = ", ".join(counted(count, word) for count, word in zip(verdict.counts, ("message", "signal", "route")))
+        empty = "" if book.text else " It is empty: is it the file you meant?"
+        return Report(TAKEN, [f"{book.name}: taken: {words}.{empty}"])
+    where = f"{book.name}:{verdict.line}" if verdict.line else book.name
+    return refused(where, verdict.refusal, words_on(book, verdict))
+
+
+def words_on(book, verdict):
+    """The paragraphs below the first line of a refusal."""
+    if verdict.refusal not in (LOOP, DOUBLING):
+        line = book.lines()[verdict.line - 1 : verdict.line]
+        return [*("    " + visible(text) for text in line), *refusals.advice(book, verdict)]
+    routes = list(routes_of(book))
+    return chains.words_on(routes, verdict.refusal, [route.line for route in routes].index(verdict.line))
+
+
+# ---- several books together
+
+
+def report_together(books):
+    """On the routes of all these books as one table. Each book is taken by itself."""
+    routes = [route for book in books for route in routes_of(book)]
+    # 65 routes tell that there are too many: more could be a text too long.
+    verdict = verdict_on(b"".join(route.text + b"\n" for route in routes[: MOST_ROUTES + 1]))
+    if not verdict.refusal:
+        return Report(TAKEN, [f"together: taken: {counted(len(routes), 'route')} of {len(books)} books, and no chain of them loops or doubles."])
+    named = routes[verdict.line - 1]
+    return refused(f"together: {named.book}:{named.line}", verdict.refusal, words_together(books, routes, verdict))
+
+
+def words_together(books, routes, verdict):
+    if verdict.refusal in (LOOP, DOUBLING):
+        yield from chains.words_on(routes, verdict.refusal, verdict.line - 1)
+    else:
+        each = ", ".join(f"{book.name} {len(list(routes_of(book)))}" for book in books)
+        yield chains.shown(routes[verdict.line - 1])
+        yield f"It is route {verdict.line} of {len(routes)} ({each}), and {MOST_ROUTES} at most can be checked together."
+        yield refusals.TOO_MANY_ROUTES
+    if len({os.path.realpath(book.name) for book in books}) < len(books):
+        yield "A file is named more than once, and its routes count each time. Name each file once."
+
+
+# ---- the command
+
+
+def reports(names):
+    """A report for each book, and one for all together where there are several."""
+    books, worst = [], TAKEN
+    for name in names:
+        try:
+            books.append(load(name))
+            report = report_on(books[-1])
+        except Unreadable as fault:
+            report = Report(UNREADABLE, [f"{name}: not checked: {fault}."])
+        worst = max(worst, report.status)
+        yield report
+    if len(names) > 1 and worst == TAKEN:
+        yield report_together(books)
+    elif len(names) > 1:
+        yield Report(worst, ["together: not checked: first each book has to be taken by itself."])
+
+
+def check_all(names):
+    """Prints the reports, an empty line around longer ones, and gives the exit status."""
+    worst, before = TAKEN, []
+    for report in reports(names):
+        gap = "\n" if before and len(before + report.paragraphs) > 2 else ""
+        print(gap + "\n\n".join(report.paragraphs), flush=True)
+        worst, before = max(worst, report.status), report.paragraphs
+    return worst
+
+
+def misused(options, names):
+    """What is wrong with the words of the command, or nothing."""
+    if options:
+        return f"check: there is no option {options[0]}"
+    if names.count("-") > 1:
+        return "check: standard input is one book: name - once"
+    return "" if names else "check: which book?"
+
+
+def main(words):
+    sys.stdout.reconfigure(errors="backslashreplace")
+    names = words[1:] if words[:1] == ["--"] else words
+    options = [] if words[:1] == ["--"] else [word for word in words if word.startswith("-") and word != "-"]
+    if "-h" in options or "--help" in options:
+        print(HELP)
+        return TAKEN
+    if fault := misused(options, names):
+        print(fault + "\n\n" + HELP, file=sys.stderr)
+        return UNREADABLE
+    try:
+        return check_all(names)
+    except NoVerdict as fault:
+        print(f"check: no verdict: {fault}", file=sys.stderr)
+        return FAILED

@@ -1,0 +1,177 @@
+"""What each refusal means and how to mend it, in words: `sentence` for the first line, `advice` for what stands below it."""
+
+from . import signals, slips
+from .texts import said_by
+from .verdicts import verdict_on
+
+SENTENCES = {
+    1: "the text is longer than 32,768 bytes",
+    2: "the line is not formed as a line of a book",
+    3: "a number is over its limit, or there is no such signal",
+    4: "a signal stands before any message",
+    5: "the message is there already",
+    6: "the signal is already in this message",
+    7: "the signal does not fit there",
+    8: "the signal's bits meet those of another signal of its message",
+    9: "one line too many",
+    10: "frames would go round in a loop",
+    11: "a frame would arrive twice",
+}
+MOST = {"M": 64, "S": 256, "R": 64}
+LINES_NAMED = 8
+TOO_MANY_ROUTES = (
+    "Strike routes that nobody needs. Don't split them over several books to get below 64: routes that are not checked together are\n"
+    "not checked for loops, and a loop over two books is what drains a truck's battery."
+)
+
+
+def list_of(numbers):
+    """Line numbers in words, not all of many."""
+    named = ", ".join(str(number) for number in numbers[:LINES_NAMED])
+    return named + (f" and {len(numbers) - LINES_NAMED} more" if len(numbers) > LINES_NAMED else "")
+
+
+def too_long(book, line, said):
+    yield "A book of 64 messages, 256 signals and 64 routes needs about 5,000 bytes. Is it the file you meant?"
+
+
+# ---- the form of a line
+
+
+def same_slip(book, line, names):
+    """The other lines that have a slip of one of these names."""
+    return [number for number, text in enumerate(book.lines(), 1) if number != line and names & set(slips.of_line(text).words)]
+
+
+def ill_formed(book, line, said):
+    whole = slips.of_file(book.text)
+    if whole:
+        yield whole
+        return
+    text = book.lines()[line - 1]
+    words, meant = slips.of_line(text)
+    yield from words.values()
+    last = line == len(book.lines()) and not book.ends_whole()
+    if last:
+        yield "It is the last line and does not end with a newline: press Enter at its end, and save."
+    if not words and not last:
+        yield "A line is one of: " + "; ".join(slips.FIELDS.values()) + "; its fields parted by one tab."
+    if meant and set(words) - slips.UNSEEN and well_formed(book, line, meant):
+        yield "It was probably meant so:\n\n    " + meant
+    others = same_slip(book, line, set(words))
+    if others:
+        yield f"The same is so in {'line' if len(others) == 1 else 'lines'} {list_of(others)}."
+
+
+def well_formed(book, line, meant):
+    """Whether the proved checker no longer finds the form of this line wrong once it is written so."""
+    before = b"".join(text + b"\n" for text in book.lines()[: line - 1])
+    verdict = verdict_on(before + meant.encode() + b"\n")
+    return (verdict.refusal, verdict.line) != (2, line)
+
+
+# ---- what a well-formed line says
+
+
+def over_limit(book, line, said):
+    if said.kind == "S":
+        number, start = (int(field) for field in said.fields)
+        if number not in signals.WIDTHS:
+            table = signals.of_table(number)
+            there = f"table {number // 100} has {table[0]} to {table[1]}" if table else f"there is no table {number // 100} with signals"
+            yield f"There is no signal {number}: {there}. A signal's number is table x 100 + row of the standard; docs/SIGNALS.md lists them."
+        if start >= signals.FRAME_BITS:
+            yield f"The start {start} is over 63, the last bit of a frame."
+        return
+    identifiers = said.fields if said.kind == "M" else said.fields[1::2]
+    for bus in said.fields[::2] if said.kind == "R" else ():
+        if int(bus) > 7:
+            yield f"There is no bus {bus}: buses are 0 to 7."
+    for identifier in identifiers:
+        if int(identifier, 16) >= 2**29:
+            yield f"The identifier {identifier} is not below 20000000 (29 bits)." + flagged(identifier)
+
+
+def flagged(identifier):
+    """What to do about an identifier that still has its flag from a log."""
+    bare = int(identifier, 16) - 2**31
+    return f" Identifiers copied from a log may carry a flag in front: without it this one is {bare:08X}." if 0 <= bare < 2**29 else ""
+
+
+def lonely(book, line, said):
+    yield "A signal belongs to the nearest M line above it, and there is none. Write the M line of its message above it."
+
+
+def earlier(book, line, said):
+    """The nearest line above that says the same first thing, within the message for an S line."""
+    for number in range(line - 1, 0, -1):
+        other = said_by(book.lines()[number - 1])
+        if other and other.kind == said.kind and other.fields[0] == said.fields[0]:
+            return number
+    return 0
+
+
+def repeated_message(book, line, said):
+    yield (
+        f"Line {earlier(book, line, said)} is the M line of {said.fields[0]} already, and a message is described once.\n"
+        "Strike this one; move its S lines under the other, or they will belong to the message above."
+    )
+
+
+def repeated_signal(book, line, said):
+    yield (
+        f"Line {earlier(book, line, said)} places signal {said.fields[0]} in this message already. Strike one of the two, or mend the number "
+        "of the one that was meant otherwise.\nThe same signal in another message is fine."
+    )
+
+
+def misplaced(book, line, said):
+    number = int(said.fields[0])
+    if number in signals.OWN_STARTS:
+        yield f"The {'checksum' if number == 503 else 'counter'} {number} sits at start {signals.OWN_STARTS[number]}, nowhere else."
+    else:
+        bits = signals.width(number)
+        yield f"Signal {number} has {bits} bit{'s' * (bits > 1)} and a frame has bits 0 to 63, so {signals.FRAME_BITS - bits} is the last start it can have."
+
+
+def meeting(book, line, said):
+    mine, others = signals.neighbours(book, line)
+    for other in others:
+        if other.line < line and other.meets(mine):
+            yield f"Signal {mine.number} fills bits {mine.start} to {mine.last()}; signal {other.number} in line {other.line} fills {other.start} to {other.last()}."
+    start = signals.free_start(mine, others)
+    yield (
+        f"Move one of them: from start {start} on signal {mine.number} meets no other signal of the message."
+        if start is not None
+        else f"Move the other, or put one of them into another message: there is no other place for signal {mine.number} in this one."
+    )
+
+
+def one_too_many(book, line, said):
+    most = MOST[said.kind]
+    there = sum(text.startswith(said.kind.encode() + b"\t") for text in book.lines())
+    yield f"It is {said.kind} line {most + 1} of {there}, and a book has {most} at most."
+    yield TOO_MANY_ROUTES if said.kind == "R" else (
+        "Strike messages that this gateway neither reads nor packs, or give them to another gateway's book. Leave the R lines as they are:\n"
+        "frames are handed on without an M line too."
+    )
+
+
+ADVICE = {
+    1: too_long,
+    2: ill_formed,
+    3: over_limit,
+    4: lonely,
+    5: repeated_message,
+    6: repeated_signal,
+    7: misplaced,
+    8: meeting,
+    9: one_too_many,
+}
+
+
+def advice(book, verdict):
+    """The paragraphs below the first line of a refusal of one book, but for 10 and 11, which are about several lines."""
+    line = verdict.line
+    said = said_by(book.lines()[line - 1]) if line else None
+    return list(ADVICE[verdict.refusal](book, line, said))

@@ -1,0 +1,88 @@
+"""A route book as a file: its bytes, its lines as people count them, and how a line is shown to a person."""
+
+import re
+import sys
+from typing import NamedTuple
+
+MOST_BYTES = 32768
+SHOWN = 100  # characters of a line
+
+NAMES = {"\t": "TAB", "\r": "CR", " ": "SPACE", "\0": "NUL", "\ufeff": "BYTE ORDER MARK", "\u00a0": "NO-BREAK SPACE"}
+
+
+class Book(NamedTuple):
+    name: str
+    text: bytes  # no more of it than tells that it is too long
+
+    def lines(self):
+        """The lines without their newlines; one that lacks its newline comes last."""
+        *lines, rest = self.text.split(b"\n")
+        return lines + [rest] if rest else lines
+
+    def ends_whole(self):
+        return not self.text or self.text.endswith(b"\n")
+
+
+class Unreadable(Exception):
+    """A book that could not be read, with the reason."""
+
+
+def load(name):
+    """The book in the file of this name, or on standard input for `-`."""
+    try:
+        if name == "-" and sys.stdin is None:
+            raise ValueError("there is no standard input")
+        if name == "-":
+            return Book("standard input", sys.stdin.buffer.read(MOST_BYTES + 1))
+        with open(name, "rb") as file:
+            return Book(name, file.read(MOST_BYTES + 1))
+    except (OSError, ValueError) as fault:
+        raise Unreadable(getattr(fault, "strerror", None) or str(fault)) from fault
+
+
+def characters(line):
+    """The line as characters: UTF-8 where it is that, else a character for each byte."""
+    try:
+        return line.decode("utf-8")
+    except UnicodeDecodeError:
+        return line.decode("latin-1")
+
+
+def visible(line):
+    """A well-formed line as it is; another with what can't be seen written out: tabs, spaces, carriage returns, bytes that are no text."""
+    if said_by(line):
+        return line.decode()
+
+    def named(character):
+        if character in NAMES:
+            return f"<{NAMES[character]}>"
+        if character.isprintable() and not character.isspace():
+            return character
+        return f"<U+{ord(character):04X}>"
+
+    shown = characters(line)
+    cut = " .." if len(shown) > SHOWN else ""
+    return "".join(named(character) for character in shown[:SHOWN]) + cut
+
+
+# ---- what a well-formed line says
+
+IDENTIFIER, DECIMAL = r"([0-9A-F]{8})", r"(0|[1-9][0-9]{0,4})"
+FORMS = [
+    (kind, re.compile(rf"{kind}\t" + r"\t".join(fields)))
+    for kind, fields in (("M", [IDENTIFIER]), ("S", [DECIMAL] * 2), ("R", [DECIMAL, IDENTIFIER] * 2))
+]
+
+
+class Said(NamedTuple):
+    kind: str
+    fields: tuple  # as they are written
+
+
+def said_by(line):
+    """What a well-formed line says, or None."""
+    text = line.decode("latin-1")
+    for kind, form in FORMS:
+        if found := form.fullmatch(text):
+            return Said(kind, found.groups())
+    return None
