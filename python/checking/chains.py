@@ -25,7 +25,7 @@ def loop_words(chain):
         yield "The route leads from a place to itself, so the frame would be sent again and again. Strike it, or mend the place it leads to."
         return
     yield (
-        f"A frame that begins at {place_words(chain[0].start)} takes these routes in this order and is there again: it would be sent again and\n"
+        f"A frame that begins at {place_words(chain[0].start)} takes these routes in this order and is there again: it would be sent again and "
         "again, and no controller would sleep. Strike or mend one of these lines, usually the one that leads backwards."
     )
 
@@ -38,7 +38,7 @@ def doubling_words(one, other):
     yield "one way:\n" + "\n".join(shown(route) for route in one)
     yield "another way:\n" + "\n".join(shown(route) for route in other)
     yield (
-        f"Both lead from {place_words(one[0].start)} to {place_words(one[-1].end)}, so the frame would arrive there twice.\n"
+        f"Both lead from {place_words(one[0].start)} to {place_words(one[-1].end)}, so the frame would arrive there twice. "
         "Strike a route that only one of the two ways has. Two places that both lead to a third are fine."
     )
     for mine in one:
@@ -53,6 +53,6 @@ def repeated_words(one, other):
     if one.book == other.book:
         return f"Lines {one.line} and {other.line} are the same route, so the frame would be sent twice. Strike one of the two."
     return (
-        f"{one.book}:{one.line} and {other.book}:{other.line} are the same route in two files, and each counts, as a repeated line in one\n"
+        f"{one.book}:{one.line} and {other.book}:{other.line} are the same route in two files, and each counts, as a repeated line in one "
         "book does: both gateways would send the frame. Strike it in the book of the gateway that should not hand this frame on."
     )

@@ -2,6 +2,7 @@
 
 import os
 import sys
+import textwrap
 from typing import NamedTuple
 
 from . import chains, refusals
@@ -11,18 +12,22 @@ from .verdicts import NoVerdict, verdict_on
 
 TAKEN, REFUSED, UNREADABLE, FAILED = 0, 1, 2, 3
 MOST_ROUTES = 64
+WIDTH = 78
 
 HELP = """usage: ./check BOOK...
 
-Says of each route book whether it is taken, and of a refused one which line is at fault and how to mend it. Several books are
-also checked together, as those of several gateways on one truck: their R lines as one table, in the order of the files. Give it all
-the books of a truck at once, since books that are each right by themselves can loop together.
+Says of each route book whether it is taken, and of a refused one which line
+is at fault and how to mend it. Several books are also checked together, as
+those of several gateways on one truck: their R lines as one table, in the
+order of the files. Give it all the books of a truck at once, since books
+that are each right by themselves can loop together.
 
 A book of the name - is read from standard input. docs/BOOK.md has the format.
 
-Exit status: 0 taken; 1 refused; 2 a file is missing or can't be read, or the command was not understood; 3 the checker itself could
-not be built or run. The verdict is that of the proved program book_check, which ./run builds where needed: the first time takes
-some minutes."""
+Exit status: 0 taken; 1 refused; 2 a file is missing or can't be read, or the
+command was not understood; 3 the checker itself could not be built or run.
+The verdict is that of the proved program book_check, which is built where
+needed: the first time takes some minutes."""
 
 
 class Report(NamedTuple):
@@ -106,12 +111,19 @@ def reports(names):
         yield Report(worst, ["together: not checked: first each book has to be taken by itself."])
 
 
+def laid_out(paragraph):
+    """A paragraph in lines of their width; lines of a book stay as they are."""
+    lines = paragraph.split("\n")
+    return "\n".join(line if line.startswith(" ") else textwrap.fill(line, WIDTH, break_on_hyphens=False, break_long_words=False) for line in lines)
+
+
 def check_all(names):
     """Prints the reports, an empty line around longer ones, and gives the exit status."""
     worst, before = TAKEN, []
     for report in reports(names):
         gap = "\n" if before and len(before + report.paragraphs) > 2 else ""
-        print(gap + "\n\n".join(report.paragraphs), flush=True)
+        first, *words = report.paragraphs
+        print(gap + "\n\n".join([first, *map(laid_out, words)]), flush=True)
         worst, before = max(worst, report.status), report.paragraphs
     return worst
 

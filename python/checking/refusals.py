@@ -20,7 +20,7 @@ SENTENCES = {
 MOST = {"M": 64, "S": 256, "R": 64}
 LINES_NAMED = 8
 TOO_MANY_ROUTES = (
-    "Strike routes that nobody needs. Don't split them over several books to get below 64: routes that are not checked together are\n"
+    "Strike routes that nobody needs. Don't split them over several books to get below 64: routes that are not checked together are "
     "not checked for loops, and a loop over two books is what drains a truck's battery."
 )
 
@@ -113,7 +113,7 @@ def earlier(book, line, said):
 
 def repeated_message(book, line, said):
     yield (
-        f"Line {earlier(book, line, said)} is the M line of {said.fields[0]} already, and a message is described once.\n"
+        f"Line {earlier(book, line, said)} is the M line of {said.fields[0]} already, and a message is described once. "
         "Strike this one; move its S lines under the other, or they will belong to the message above."
     )
 
@@ -121,7 +121,7 @@ def repeated_message(book, line, said):
 def repeated_signal(book, line, said):
     yield (
         f"Line {earlier(book, line, said)} places signal {said.fields[0]} in this message already. Strike one of the two, or mend the number "
-        "of the one that was meant otherwise.\nThe same signal in another message is fine."
+        "of the one that was meant otherwise. The same signal in another message is fine."
     )
 
 
@@ -152,7 +152,7 @@ def one_too_many(book, line, said):
     there = sum(text.startswith(said.kind.encode() + b"\t") for text in book.lines())
     yield f"It is {said.kind} line {most + 1} of {there}, and a book has {most} at most."
     yield TOO_MANY_ROUTES if said.kind == "R" else (
-        "Strike messages that this gateway neither reads nor packs, or give them to another gateway's book. Leave the R lines as they are:\n"
+        "Strike messages that this gateway neither reads nor packs, or give them to another gateway's book. Leave the R lines as they are: "
         "frames are handed on without an M line too."
     )
 

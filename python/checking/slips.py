@@ -4,7 +4,7 @@ import re
 import unicodedata
 from typing import NamedTuple
 
-from .texts import characters
+from .texts import characters, seen
 
 FIELDS = {"M": "M, identifier", "S": "S, signal number, start", "R": "R, bus, identifier, bus, identifier"}
 FORMS = {"M": "I", "S": "DD", "R": "DIDI"}  # I an identifier, D a decimal number
@@ -26,7 +26,7 @@ UNSEEN = {"a byte order mark", "CR LF"}  # slips that leave the line looking as 
 def of_file(text):
     """The slip that makes the whole file unreadable as a book, or None."""
     if text[:2] in (b"\xff\xfe", b"\xfe\xff") or (len(text) > 3 and 0 in (text[0], text[1]) and text[:64].count(0) >= len(text[:64]) // 3):
-        return f"The file is saved as UTF-16 or the like (two bytes for each character; editors call it 'Unicode').\n{SAVE}, or: iconv -f UTF-16 -t UTF-8 BOOK > NEW."
+        return f"The file is saved as UTF-16 or the like (two bytes for each character; editors call it 'Unicode'). {SAVE}, or: iconv -f UTF-16 -t UTF-8 BOOK > NEW."
     if b"\r" in text and b"\n" not in text:
         return "The lines end with a carriage return alone, as on very old machines. Save the file with plain newlines (LF)."
     return None
@@ -39,7 +39,7 @@ def ends(line, found):
     if line.startswith("\ufeff"):
         found["a byte order mark"] = f"The file begins with a byte order mark, which editors don't show. {SAVE}."
     if line.endswith("\r"):
-        found["CR LF"] = "The line ends with a carriage return and a newline (CR LF, the Windows kind).\nSave the file with plain newlines (LF, the Unix kind), or: tr -d '\\r' < BOOK > NEW"
+        found["CR LF"] = "The line ends with a carriage return and a newline (CR LF, the Windows kind). Save the file with plain newlines (LF, the Unix kind), or: tr -d '\\r' < BOOK > NEW"
     line = line.removeprefix("\ufeff").rstrip("\r\n")
     if any(unicodedata.category(character) == "Cc" and character != "\t" for character in line):
         found["control characters"] = "It has control characters, shown in angle brackets, which are no part of any field."
@@ -71,9 +71,9 @@ def identifier(field, found):
         found["letters for digits"] = "It has a letter O, I or l where a digit 0 or 1 belongs."
         digits = re.sub("O", "0", re.sub("[IL]", "1", digits))
     if not re.fullmatch("[0-9A-F]*", digits):
-        found["no hex digits"] = f"`{field}` is no identifier: it has to have eight digits 0 to 9, A to F."
+        found["no hex digits"] = f"`{seen(field)}` is no identifier: it has to have eight digits 0 to 9, A to F."
     elif len(digits) != 8:
-        found["not eight digits"] = f"An identifier has eight digits and `{field}` has {len(digits)}; zeros in front are written too."
+        found["not eight digits"] = f"An identifier has eight digits and `{seen(field)}` has {len(digits)}; zeros in front are written too."
         digits = digits.lstrip("0").zfill(8)
     return digits
 
@@ -83,7 +83,7 @@ def decimal(field, found):
     if number != field:
         found["letters for digits"] = "It has a letter O, I or l where a digit 0 or 1 belongs."
     if not re.fullmatch(r"\+?[0-9]+", number):
-        found["no decimal number"] = f"`{field}` is no number of one to five decimal digits, without a sign."
+        found["no decimal number"] = f"`{seen(field)}` is no number of one to five decimal digits, without a sign."
         return number
     if number.startswith("+"):
         found["a sign"] = "A number is written without a sign."

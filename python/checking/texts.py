@@ -48,10 +48,8 @@ def characters(line):
         return line.decode("latin-1")
 
 
-def visible(line):
-    """A well-formed line as it is; another with what can't be seen written out: tabs, spaces, carriage returns, bytes that are no text."""
-    if said_by(line):
-        return line.decode()
+def seen(text):
+    """Characters with what can't be seen written out, not all of many."""
 
     def named(character):
         if character in NAMES:
@@ -60,9 +58,12 @@ def visible(line):
             return character
         return f"<U+{ord(character):04X}>"
 
-    shown = characters(line)
-    cut = " .." if len(shown) > SHOWN else ""
-    return "".join(named(character) for character in shown[:SHOWN]) + cut
+    return "".join(named(character) for character in text[:SHOWN]) + (" .." if len(text) > SHOWN else "")
+
+
+def visible(line):
+    """A well-formed line as it is; another with what can't be seen written out: tabs, spaces, carriage returns, bytes that are no text."""
+    return line.decode() if said_by(line) else seen(characters(line))
 
 
 # ---- what a well-formed line says

@@ -1,0 +1,40 @@
+"""The usual slips in a route book, for tools/check_test.py: a text, the line where it is refused, what the words have to name, and the
+line as it was meant where that can be told."""
+
+from book_vectors import GOOD
+
+SLIPS = [
+    (GOOD.replace("\n", "\r\n").encode(), 1, "CR LF", None),
+    (b"\xef\xbb\xbf" + GOOD.encode(), 1, "byte order mark", None),
+    (GOOD.encode("utf-16"), 1, "UTF-16", None),
+    (GOOD.encode("utf-16-le"), 1, "UTF-16", None),
+    (GOOD.encode("utf-16-be"), 1, "UTF-16", None),
+    (GOOD.replace("\n", "\r").encode(), 1, "carriage return alone", None),
+    (GOOD.replace("S\t203", "S 203").encode(), 2, "spaces", "S\t203\t0"),
+    (GOOD.replace("S\t203", "S    203").encode(), 2, "spaces", "S\t203\t0"),
+    (GOOD.replace("S\t203", "S\t203 ").encode(), 2, "spaces", "S\t203\t0"),
+    (GOOD.replace("S\t203", "S\u00a0203").encode(), 2, "only look like", "S\t203\t0"),
+    (GOOD.replace("203", "\uff12\uff10\uff13").encode(), 2, "only look like", "S\t203\t0"),
+    (GOOD.replace("S\t203", "S,203").encode(), 2, "commas", "S\t203\t0"),
+    (GOOD.replace("S\t203", "S\t\t203").encode(), 2, "tab too many", "S\t203\t0"),
+    (GOOD.replace("203\t0", "203\t0\t").encode(), 2, "tab too many", "S\t203\t0"),
+    (GOOD.replace("S\t203", "s\t203").encode(), 2, "capital", "S\t203\t0"),
+    (GOOD.lower().encode(), 1, "capitals", "M\t18FF21F3"),
+    (GOOD.replace("M\t", "M\t0x").encode(), 1, "0x", "M\t18FF21F3"),
+    (GOOD.replace("M\t", "M\t0X").lower().encode(), 1, "0x", "M\t18FF21F3"),
+    (GOOD.replace("M\t18FF21F3", "M\t18FF21F3h").encode(), 1, "`h`", "M\t18FF21F3"),
+    (GOOD.replace("M\t18FF21F3", "M\t8FF21F3").encode(), 1, "has 7", "M\t08FF21F3"),
+    (GOOD.replace("M\t18FF21F3", "M\t18FF2lF3").encode(), 1, "letter O, I or l", "M\t18FF21F3"),
+    (GOOD.replace("203", "2O3").encode(), 2, "letter O, I or l", "S\t203\t0"),
+    (GOOD.replace("203", "0203").encode(), 2, "zeros in front", "S\t203\t0"),
+    (GOOD.replace("203", "+203").encode(), 2, "sign", "S\t203\t0"),
+    (GOOD.replace("203\t0", "203").encode(), 2, "3 fields: S, signal number, start. This one has 2", None),
+    (GOOD.replace("203", "100203").encode(), 2, "five digits", None),
+    (GOOD.replace("203", "-203").encode(), 2, "without a sign", None),
+    (GOOD.replace("S\t203", "# current\nS\t203").encode(), 2, "comments", None),
+    (GOOD.replace("S\t203", "\nS\t203").encode(), 2, "empty", None),
+    ((GOOD + "\n").encode(), 6, "empty", None),
+    (GOOD[:-1].encode(), 5, "does not end with a newline", None),
+    (GOOD.replace("S\t203", "X\t203").encode(), 2, "begins with M, S or R", None),
+    ((GOOD + "M\t98FF21F3\n").encode(), 6, "without it this one is 18FF21F3", None),
+]

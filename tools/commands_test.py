@@ -1,0 +1,73 @@
+#!/usr/bin/env python3
+"""Tries what ./run, host/build and tools/prove say: their help, the programs for users apart from those for tests, what is wrong with a
+word that they don't know; and on a copy of the tree, crate by crate, what is proved, and what is not.
+
+    python3 tools/commands_test.py
+"""
+
+import re
+import shutil
+import subprocess
+import sys
+import tempfile
+from pathlib import Path
+
+ROOT = Path(__file__).resolve().parent.parent
+SMALL, BELOW = "zeros", "only"  # a small crate, and the one that it stands on
+
+
+def call(command, *words, folder=ROOT):
+    done = subprocess.run([folder / command, *words], cwd=folder, stdin=subprocess.DEVNULL, capture_output=True, text=True)
+    return done.returncode, done.stdout, done.stderr
+
+
+def listed(text):
+    """The names listed for users and those for tests."""
+    users, tests = text.partition("For users:")[2].split("For tests")
+    return [re.findall(r"(?m)^  (\w+)", part) for part in (users, tests)]
+
+
+def helps():
+    programs = sorted(path.parts[-3] for path in ROOT.glob("crates/*/src/main.rt"))
+    status, printed, said = call("run", "--help")
+    users, tests = listed(printed)
+    yield status == 0 and not said and users == ["book_check", "frame_list"] and sorted(users + tests) == programs, printed + said
+    yield call("run") == (2, "", printed), "run"
+    for words in (["nothing"], ["../run"], ["only"]):
+        status, empty, said = call("run", *words)
+        yield status == 2 and not empty and said.startswith(f"run: there is no program '{words[0]}'") and printed in said, said
+    status, printed, said = call("host/build", "--help")
+    yield status == 0 and printed.startswith("usage: host/build") and not said, printed + said
+    status, empty, said = call("host/build", "nothing")
+    yield status == 2 and not empty and "there is no 'nothing'" in said and printed in said, said
+
+
+def progress():
+    """Of a copy in which nothing is proved: each crate with its number; then nothing new; then one that is not proved any more."""
+    with tempfile.TemporaryDirectory() as made:
+        copy = Path(made) / "copy"
+        shutil.copytree(ROOT, copy, ignore=shutil.ignore_patterns("target", ".git", "__pycache__"))
+        status, printed, said = call("tools/prove", "program", SMALL, folder=copy)
+        told = re.findall(r"(?m)^ +(\d+) of (\d+)  (\w+) \(\d+ s\)$", said)
+        first = f"proving {SMALL} and what it stands on, 2 crates"
+        yield status == 0 and not printed and said.startswith(first) and told == [("1", "2", BELOW), ("2", "2", SMALL)], said
+        status, printed, said = call("tools/prove", "program", SMALL, folder=copy)
+        yield status == 0 and not printed and len(said.splitlines()) == 1, said
+        code = copy / f"crates/{SMALL}/src/lib.rt"
+        code.write_text(code.read_text().replace("all == 0", "all == 1"))
+        status, printed, said = call("tools/prove", "program", SMALL, folder=copy)
+        yield status == 1 and f"rt: {SMALL} NOT PROVED" in said, said
+
+
+def main():
+    failed = False
+    for part in (helps, progress):
+        answers = list(part())
+        faults = [said for right, said in answers if not right]
+        print(f"commands, {part.__name__}: {len(answers)} cases, {len(faults)} wrong")
+        print("".join(f"  {fault}\n" for fault in faults), end="")
+        failed = failed or bool(faults)
+    sys.exit(failed)
+
+
+main()
