@@ -187,6 +187,16 @@ def shared_lines(folder):
     yield status == REFUSED and "together: one:1: refused (9)" in printed and "(full 64, one 1)" in in_a_row(printed) or printed
 
 
+def shown_in_papers(folder):
+    """What the papers show of ./check is what it prints."""
+    for paper in ("README.md", "docs/BOOK.md"):
+        shown = re.findall(r"(?m)^    \$ \./check (.*)\n((?:    [^$\n].*\n|\n)*)", (ROOT / paper).read_text())
+        for words, printed in shown:
+            wanted = re.sub(r"(?m)^    ", "", printed).strip()
+            said = check(ROOT, *words.split())[1].strip()
+            yield said == wanted or f"{paper}: {words}: {said}"
+
+
 # ---- what is no book
 
 
@@ -231,7 +241,7 @@ def slips(folder):
 def main():
     failed = False
     with tempfile.TemporaryDirectory() as made:
-        for part in (vectors, together, founding, shared_lines, no_books, slips):
+        for part in (vectors, together, founding, shared_lines, shown_in_papers, no_books, slips):
             answers = list(part(Path(made)))
             faults = [answer for answer in answers if answer not in (None, True)]
             print(f"check, {part.__name__.replace('_', ' ')}: {len(answers)} cases, {len(faults)} wrong")
