@@ -15,6 +15,7 @@ from concurrent.futures import ThreadPoolExecutor
 from pathlib import Path
 
 from book_vectors import GOOD, M, R, S, signals
+from check_mends import earlier_fault, mend_fault
 from check_slips import SLIPS
 from rules import read_book
 
@@ -95,7 +96,7 @@ def vector_fault(folder, number, text, answer):
         return f"{answer}: no word on how to mend it: {printed}"
     if answer[1] in ("10", "11") and answer[0] == "no" and not shows_why(printed, int(answer[1]), (name, int(answer[2]))):
         return f"{answer}: the chains shown are none: {printed}"
-    return None
+    return (mend_fault(text, answer, printed) or earlier_fault(text, answer, printed)) if answer[0] == "no" else None
 
 
 def vectors(folder):

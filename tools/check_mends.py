@@ -1,0 +1,52 @@
+"""For tools/check_test.py: does what ./check advises, and asks the rules in Python whether the line is then no longer at fault."""
+
+import re
+
+from rules import read_book
+
+# What the words tell to write, by refusal, and what becomes of the line's fields.
+TOLD = {
+    "2": (r"probably meant so:\s+(\S.*)\n", lambda fields, told: told.split("\t")),
+    "3": (r"without it this one is (\w{8})", lambda fields, told: [told if field[1:] == told[1:] else field for field in fields]),
+    "7": (r"so (\d+) is the last start|sits at start (\d+)", lambda fields, told: [*fields[:2], told]),
+    "8": (r"from start (\d+) on signal", lambda fields, told: [*fields[:2], told]),
+}
+
+
+def mended(text, refusal, line, printed):
+    """The text with this line as the words tell to write it, or None where they tell no line."""
+    unfinished = "does not end with a newline" in " ".join(printed.split())
+    if unfinished and printed.count("\n\n") == 2:
+        return text + b"\n"
+    lines = text.split(b"\n")
+    pattern, write = TOLD.get(refusal, ("(?!)", None))
+    # Words are laid out in lines, lines of a book are not.
+    found = re.search(pattern, printed if refusal == "2" else " ".join(printed.split()))
+    if not found:
+        return None
+    told = next(group for group in found.groups() if group is not None)
+    fields = lines[line - 1].decode("latin-1").split("\t")
+    lines[line - 1] = "\t".join(write(fields, told)).encode()
+    return b"\n".join(lines) + b"\n" * unfinished
+
+
+def mend_fault(text, answer, printed):
+    """What is left of the fault once the advice is followed, or None. Other identifiers of the line may still carry a flag."""
+    _, refusal, line = answer
+    new = mended(text, refusal, int(line), printed)
+    if new is None or new == text:
+        return None
+    left = read_book(new)[0]
+    return f"{answer}: mended as told it is {left}: {printed}" if left == ("no", int(refusal), int(line)) else None
+
+
+def earlier_fault(text, answer, printed):
+    """Refusals 5, 6 and 8 name a line above: whether it is there and says so."""
+    _, refusal, line = answer
+    if refusal not in ("5", "6", "8"):
+        return None
+    found = re.search(r"[Ll]ine (\d+)", printed.partition("\n\n")[2].replace("\n", " "))
+    lines = text.decode("latin-1").split("\n")
+    named = lines[int(found[1]) - 1].split("\t") if found and int(found[1]) < int(line) else [""]
+    same = named[0] == lines[int(line) - 1].split("\t")[0] and (refusal == "8" or named[1] == lines[int(line) - 1].split("\t")[1])
+    return None if same else f"{answer}: no such line above: {printed}"
