@@ -24,7 +24,7 @@ class Row:
 
 
 def load():
-    """{signal number: Row}, from the rows that tools/catalogue_vectors.py took from document 001."""
+    """{signal number: Row}, from the rows that tools/catalogue_vectors.py made of document 001's printed ones."""
     with open(os.path.join(os.path.dirname(__file__), "catalogue.json"), encoding="utf-8") as file:
         return {entry["number"]: Row.of_json(entry) for entry in json.load(file)}
 

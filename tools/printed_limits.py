@@ -1,6 +1,6 @@
 #!/usr/bin/env python3
 """Prints crates/rows/specs/PrintedLimits.antt, the limits that document 001 prints for each signal, from the rows that
-tools/catalogue_vectors.py took from its text (tools/catalogue.json). It reads no Rattle source."""
+tools/catalogue_vectors.py made of its printed ones (tools/catalogue.json). It reads no Rattle source."""
 
 from itertools import groupby
 
