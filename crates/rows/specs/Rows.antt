@@ -1,6 +1,7 @@
 -- The signal catalogue: a line for each of the 199 signals of tables 2 to 13 and 15 to 19 of QC/T 1201.5-2023.
 -- A line reads: number, bits, resolution and offset in thousandths of the printed unit, lowest and highest raw count,
--- and up to three marks, each with its first and last code. Assumes nothing.
+-- and up to three marks, each with its first and last code. Its comment is the signal's English name with its unit, where it has one,
+-- after a comma; docs/SIGNALS.md has the words of its codes. Assumes nothing.
 use mathlib.Core.List.{List, [], _∷_}
 use Prim.Native.Nat.{ℕ}
 use lib.IntN.{ℤ, pos, negℤ}
@@ -81,7 +82,7 @@ rows =
     ∷ row 203 16 100 (minus 2000000) 0 65535 (invalid 65535 65535) unmarked unmarked  -- pack current, A
     ∷ row 204 8 400 (plus 0) 0 250 (invalid 255 255) unmarked unmarked  -- state of charge, %
     ∷ row 205 8 400 (plus 0) 0 250 (invalid 255 255) unmarked unmarked  -- state of health, %
-    ∷ row 206 2 1000 (plus 0) 0 3 unmarked unmarked unmarked  -- working state: high voltage on, precharge, off, power-up fault
+    ∷ row 206 2 1000 (plus 0) 0 3 unmarked unmarked unmarked  -- working state
     ∷ row 207 16 1000 (plus 0) 0 60000 (invalid 65535 65535) unmarked unmarked  -- insulation of the positive pole, kohm
     ∷ row 208 16 1000 (plus 0) 0 60000 (invalid 65535 65535) unmarked unmarked  -- insulation of the negative pole, kohm
     ∷ row 209 16 100 (plus 0) 0 65535 (invalid 65535 65535) unmarked unmarked  -- battery voltage outside the main positive relay, V
@@ -123,8 +124,8 @@ rows =
     ∷ row 406 32 1000 (plus 0) 0 4294967295 unmarked unmarked unmarked  -- energy charged at swap stations in all, kWh
     ∷ row 407 16 100 (plus 0) 0 65535 unmarked unmarked unmarked  -- energy of this discharge, kWh
     ∷ row 408 16 100 (plus 0) 0 65535 unmarked unmarked unmarked  -- energy recovered by braking this time, kWh
-    ∷ row 501 2 1000 (plus 0) 0 3 (reserved 0 0) unmarked unmarked  -- locking pin: unlocked, locked, locking fault
-    ∷ row 502 2 1000 (plus 0) 0 3 (reserved 2 3) unmarked unmarked  -- swap connection: not connected, connected
+    ∷ row 501 2 1000 (plus 0) 0 3 (reserved 0 0) unmarked unmarked  -- locking pin
+    ∷ row 502 2 1000 (plus 0) 0 3 (reserved 2 3) unmarked unmarked  -- swap connection
     ∷ row 503 4 1000 (plus 0) 0 15 unmarked unmarked unmarked  -- message checksum
     ∷ row 504 4 1000 (plus 0) 0 15 unmarked unmarked unmarked  -- message counter
     ∷ row 505 8 1000 (minus 40000) 0 250 (absent 253 253) (invalid 255 255) unmarked  -- driving swap connector, terminal DC1+, deg C
@@ -174,8 +175,8 @@ rows =
     ∷ row 1101 16 1000 (plus 0) 0 65535 (invalid 65535 65535) unmarked unmarked  -- rated capacity, Ah
     ∷ row 1102 16 100 (plus 0) 0 65535 (invalid 65535 65535) unmarked unmarked  -- rated voltage, V
     ∷ row 1103 16 100 (plus 0) 0 65535 (invalid 65535 65535) unmarked unmarked  -- rated energy, kWh
-    ∷ row 1104 2 1000 (plus 0) 0 3 unmarked unmarked unmarked  -- cooling: natural, fan, water (code 0 has no word)
-    ∷ row 1105 4 1000 (plus 0) 0 15 (reserved 10 13) (reserved 15 15) unmarked  -- battery type (code 0 has no word)
+    ∷ row 1104 2 1000 (plus 0) 0 3 unmarked unmarked unmarked  -- cooling
+    ∷ row 1105 4 1000 (plus 0) 0 15 (reserved 10 13) (reserved 15 15) unmarked  -- battery type
     ∷ row 1201 8 1000 (plus 0) 0 255 unmarked unmarked unmarked  -- battery maker
     ∷ row 1202 8 1000 (plus 0) 0 255 unmarked unmarked unmarked  -- length of the battery code
     ∷ row 1203 8 1000 (plus 0) 0 255 unmarked unmarked unmarked  -- battery code, character 1
@@ -213,9 +214,9 @@ rows =
     ∷ row 1502 1 1000 (plus 0) 0 1 unmarked unmarked unmarked  -- repeat message request
     ∷ row 1503 1 1000 (plus 0) 0 1 unmarked unmarked unmarked  -- active wakeup
     ∷ row 1504 1 1000 (plus 0) 0 1 unmarked unmarked unmarked  -- network management state
-    ∷ row 1505 8 1000 (plus 0) 0 255 unmarked unmarked unmarked  -- wakeup reason (above 3 the maker's own)
+    ∷ row 1505 8 1000 (plus 0) 0 255 unmarked unmarked unmarked  -- wakeup reason
     ∷ row 1506 32 1000 (plus 0) 0 4294967295 unmarked unmarked unmarked  -- reasons to stay awake, a field of flags
-    ∷ row 1601 2 1000 (plus 0) 0 3 unmarked unmarked unmarked  -- high voltage command: initial, on, off, emergency off
+    ∷ row 1601 2 1000 (plus 0) 0 3 unmarked unmarked unmarked  -- high voltage command
     ∷ row 1602 1 1000 (plus 0) 0 1 unmarked unmarked unmarked  -- low voltage off request
     ∷ row 1603 2 1000 (plus 0) 0 3 (reserved 2 2) (invalid 3 3) unmarked  -- low voltage off allowed
     ∷ row 1604 2 1000 (plus 0) 0 3 (reserved 2 2) (invalid 3 3) unmarked  -- emergency high voltage off request
@@ -225,28 +226,28 @@ rows =
     ∷ row 1702 16 100 (plus 0) 0 65535 unmarked unmarked unmarked  -- highest allowed discharge current, pulse, A
     ∷ row 1703 16 100 (plus 0) 0 65535 unmarked unmarked unmarked  -- allowed lasting recovery current, A
     ∷ row 1704 16 100 (plus 0) 0 65535 unmarked unmarked unmarked  -- allowed lasting discharge current, A
-    ∷ row 1705 3 1000 (plus 0) 0 7 (invalid 2 7) unmarked unmarked  -- pulse time: 30 s, 60 s
-    ∷ row 1706 2 1000 (plus 0) 0 3 (reserved 0 0) unmarked unmarked  -- charge mode: direct, alternating, other
+    ∷ row 1705 3 1000 (plus 0) 0 7 (invalid 2 7) unmarked unmarked  -- pulse time
+    ∷ row 1706 2 1000 (plus 0) 0 3 (reserved 0 0) unmarked unmarked  -- charge mode
     ∷ row 1707 3 1000 (plus 0) 0 7 (reserved 4 7) unmarked unmarked  -- charge state
-    ∷ row 1708 3 1000 (plus 0) 0 7 (reserved 4 7) unmarked unmarked  -- charge plug: none, A, B, both
+    ∷ row 1708 3 1000 (plus 0) 0 7 (reserved 4 7) unmarked unmarked  -- charge plug
     ∷ row 1709 2 1000 (plus 0) 0 3 (reserved 2 3) unmarked unmarked  -- charging allowed
     ∷ row 1710 8 1000 (minus 40000) 0 250 (absent 253 253) (error 254 254) (invalid 255 255)  -- charge port 1 negative, deg C
     ∷ row 1711 8 1000 (minus 40000) 0 250 (absent 253 253) (error 254 254) (invalid 255 255)  -- charge port 1 positive, deg C
     ∷ row 1712 8 1000 (minus 40000) 0 250 (absent 253 253) (error 254 254) (invalid 255 255)  -- charge port 2 negative, deg C
     ∷ row 1713 8 1000 (minus 40000) 0 250 (absent 253 253) (error 254 254) (invalid 255 255)  -- charge port 2 positive, deg C
-    ∷ row 1801 2 1000 (plus 0) 0 3 unmarked unmarked unmarked  -- thermal mode asked: off, cooling, heating, circulating
+    ∷ row 1801 2 1000 (plus 0) 0 3 unmarked unmarked unmarked  -- thermal mode asked
     ∷ row 1802 2 1000 (plus 0) 0 3 (invalid 2 3) unmarked unmarked  -- high voltage request
     ∷ row 1803 2 1000 (plus 0) 0 3 (invalid 2 3) unmarked unmarked  -- charging or not
     ∷ row 1804 2 1000 (plus 0) 0 3 (invalid 2 3) unmarked unmarked  -- water cooling relay
     ∷ row 1805 8 1000 (minus 40000) 0 250 (invalid 255 255) unmarked unmarked  -- target temperature, deg C
     ∷ row 1806 16 1000 (plus 0) 0 1000 (invalid 65535 65535) unmarked unmarked  -- present voltage, V
     ∷ row 1807 2 1000 (plus 0) 0 3 (error 2 2) (invalid 3 3) unmarked  -- liquid level
-    ∷ row 1808 2 1000 (plus 0) 0 3 unmarked unmarked unmarked  -- BTMS mode: off, cooling, heating, circulating
+    ∷ row 1808 2 1000 (plus 0) 0 3 unmarked unmarked unmarked  -- BTMS mode
     ∷ row 1809 2 1000 (plus 0) 0 3 (invalid 2 3) unmarked unmarked  -- BTMS relay
     ∷ row 1810 8 1000 (minus 40000) 0 250 (invalid 255 255) unmarked unmarked  -- water temperature to the battery, deg C
     ∷ row 1811 8 1000 (minus 40000) 0 250 (invalid 255 255) unmarked unmarked  -- water temperature from the battery, deg C
     ∷ row 1812 16 100 (plus 0) 0 10000 unmarked unmarked unmarked  -- power wanted, kW
-    ∷ row 1813 6 1000 (plus 0) 0 63 unmarked unmarked unmarked  -- BTMS fault code (above 0 the maker's own)
+    ∷ row 1813 6 1000 (plus 0) 0 63 unmarked unmarked unmarked  -- BTMS fault code
     ∷ row 1814 2 1000 (plus 0) 0 3 unmarked unmarked unmarked  -- BTMS fault level
     ∷ row 1901 2 1000 (plus 0) 0 3 unmarked unmarked unmarked  -- highest alarm level
     ∷ row 1902 2 1000 (plus 0) 0 3 unmarked unmarked unmarked  -- pack overvoltage, level
@@ -269,7 +270,7 @@ rows =
     ∷ row 1919 1 1000 (plus 0) 0 1 unmarked unmarked unmarked  -- high voltage interlock
     ∷ row 1920 1 1000 (plus 0) 0 1 unmarked unmarked unmarked  -- smoke
     ∷ row 1921 1 1000 (plus 0) 0 1 unmarked unmarked unmarked  -- fire
-    ∷ row 1922 1 1000 (plus 0) 0 1 unmarked unmarked unmarked  -- balanced (no fault)
+    ∷ row 1922 1 1000 (plus 0) 0 1 unmarked unmarked unmarked  -- balance state (not a fault)
     ∷ row 1923 5 1000 (plus 0) 0 31 unmarked unmarked unmarked  -- count of GB/T 32960.3 faults
     ∷ row 1924 1 1000 (plus 0) 0 1 unmarked unmarked unmarked  -- thermal management
     ∷ row 1925 2 1000 (plus 0) 0 3 unmarked unmarked unmarked  -- branch voltage difference, level
