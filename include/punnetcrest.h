@@ -13,6 +13,9 @@
 #include <stddef.h>
 #include <stdint.h>
 
+/* The version of the library. CHANGELOG.md says what each version asks of callers. */
+#define PC_VERSION "0.1.0"
+
 #ifdef __cplusplus
 extern "C" {
 #endif
@@ -51,8 +54,9 @@ enum pc_refusal {
     PC_NOT_A_SLEEP_STATE = 92     /* this header's own: asleep is neither 0 nor 1 */
 };
 
-/* What a raw count is. A value has a reading, in thousandths of the signal's unit; the others have none. */
-enum pc_class { PC_VALUE = 0, PC_INVALID = 1, PC_ABSENT = 2, PC_ERROR = 3, PC_RESERVED = 4, PC_OUTSIDE = 5 };
+/* What a raw count is. A value has a reading, in thousandths of the signal's unit; the others have none. The type is not
+   named as the call pc_class is: in C++ the name alone would then mean the call and no longer the type. */
+enum pc_class_code { PC_VALUE = 0, PC_INVALID = 1, PC_ABSENT = 2, PC_ERROR = 3, PC_RESERVED = 4, PC_OUTSIDE = 5 };
 
 /* The words of a book. Whoever writes into one need not be careful: each call tests the tables it uses. */
 enum {
@@ -76,7 +80,8 @@ enum {
     PC_FRAME_BYTES = 8
 };
 
-/* A place is one number: bus x 2^29 + identifier. */
+/* A place is one number: bus x 2^29 + identifier. An identifier is the 29 bits of an extended frame, without the flags that
+   a driver puts above them (docs/EMBEDDING.md, Identifiers). */
 #define PC_PLACE(bus, identifier) (((uint32_t)(bus) << 29) | (uint32_t)(identifier))
 #define PC_BUS(place) ((uint32_t)(place) >> 29)
 #define PC_IDENTIFIER(place) ((uint32_t)(place) & 0x1FFFFFFFu)
@@ -85,13 +90,13 @@ enum {
    Otherwise the book holds the text's tables and *line is 0. Whatever the book and *line held before is lost. */
 uint32_t pc_book_read(const uint8_t *text, size_t text_length, uint32_t book[PC_BOOK_WORDS], uint32_t *line);
 
-/* Classes one raw count of the signal with that number: *class_code is one of enum pc_class, *thousandths the reading of a
-   value and 0 for any other class. Refusals 3 (no such signal), 26. */
+/* Classes one raw count of the signal with that number: *class_code is one of enum pc_class_code, *thousandths the
+   reading of a value and 0 for any other class. Refusals 3 (no such signal), 26. */
 uint32_t pc_class(uint32_t number, uint32_t raw, uint32_t *class_code, int64_t *thousandths);
 
-/* Reads a frame: for each signal of the message, in the book's order, its raw count, its class (enum pc_class) and its
-   thousandths, 0 where the class is no value. *count is how many there are. Refusals 12, 21, 22, 23, 24, where the room is
-   the least of the three lengths; PC_MOST_READINGS is always enough. */
+/* Reads a frame: for each signal of the message, in the book's order, its raw count, its class (enum pc_class_code) and
+   its thousandths, 0 where the class is no value. *count is how many there are. Refusals 12, 21, 22, 23, 24, where the room
+   is the least of the three lengths; PC_MOST_READINGS is always enough. */
 uint32_t pc_frame_read(const uint32_t book[PC_BOOK_WORDS], uint32_t identifier, const uint8_t *frame, size_t frame_length,
                        uint32_t *raws, size_t raws_length, uint8_t *classes, size_t classes_length,
                        int64_t *thousandths, size_t thousandths_length, size_t *count);
