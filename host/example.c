@@ -1,5 +1,6 @@
 /* How a gateway's firmware uses Punnetcrest: a receive handler and a main loop. All memory is the firmware's own and fixed.
-   Where a real gateway has drivers, this one has a short list of what happens and prints what it would do:
+   Where a real gateway has drivers, this one has a short list of what happens and prints what it would do, which
+   host/example.out has as it must be:
    host/build && host/run example */
 #include "punnetcrest.h"
 #include <inttypes.h>
@@ -17,34 +18,56 @@ static const char stored_book[] = "M\t18FF21F3\n"
                                   "S\t301\t4\n"
                                   "S\t201\t8\n"
                                   "S\t202\t24\n"
+                                  "M\t18FF31D0\n"
+                                  "S\t501\t0\n"
+                                  "S\t502\t2\n"
+                                  "S\t504\t56\n"
+                                  "S\t503\t60\n"
                                   "R\t0\t18FFFAF3\t1\t18FFFAF3\n"
                                   "R\t0\t18FF21F3\t1\t18FF21F3\n"
-                                  "R\t1\t18FF21F3\t2\t18FF21D0\n";
+                                  "R\t1\t18FF21F3\t2\t18FF21D0\n"
+                                  "R\t1\t18FF31D0\t0\t18FF31D0\n";
 
-static void send_frame(uint32_t bus, uint32_t identifier, const uint8_t *bytes, size_t length) {
-    printf("send bus %" PRIu32 " %08" PRIX32 " ", bus, identifier);
+/* The identifier that a Linux socket gives and takes (can_id of linux/can.h): flags above the identifier's own bits. */
+#define SOCKET_29_BITS 0x80000000u /* CAN_EFF_FLAG: an extended frame; without it the identifier has 11 bits */
+#define SOCKET_REMOTE 0x40000000u  /* CAN_RTR_FLAG: asks for a frame, has no data */
+#define SOCKET_ERROR 0x20000000u   /* CAN_ERR_FLAG: the driver's own message, was on no bus */
+#define SOCKET_IDENTIFIER 0x1FFFFFFFu
+
+/* Every frame of the library is an extended one, so the flag is put back. */
+static void send_frame(uint32_t place, const uint8_t *bytes, size_t length) {
+    printf("send on socket %" PRIu32 ": %08" PRIX32 " ", PC_BUS(place), PC_IDENTIFIER(place) | SOCKET_29_BITS);
     for (size_t i = 0; i < length; i++)
         printf("%02X", bytes[i]);
     printf("\n");
 }
 
-static void count_refusal(const char *call, uint32_t refusal) {
-    printf("%s refused: %" PRIu32 "\n", call, refusal);
-}
-
 /* ---- The gateway's state: the book in force, what was last seen, and the two monitors. */
 
-static uint32_t book[PC_BOOK_WORDS];
+static uint32_t books[2][PC_BOOK_WORDS], *book = books[0], damaged;
 static struct pc_observation seen = { 1, 1, 1, 0, 0, 20000, 0, 0 };
 static uint32_t power = PC_POWER_START, last_wake, asleep;
 
-/* Once at start: the book. A refused book leaves an empty one, and every frame is then refused with 22. */
-static uint32_t start(uint32_t now) {
-    uint32_t line, refusal = pc_book_read((const uint8_t *)stored_book, strlen(stored_book), book, &line);
-    if (refusal)
+/* Counts a refusal; 12 says that the book's memory was damaged, and the main loop reads the text again. */
+static void count_refusal(const char *call, uint32_t refusal) {
+    printf("%s refused: %" PRIu32 "\n", call, refusal);
+    if (refusal == PC_NOT_A_BOOK)
+        damaged = 1;
+}
+
+/* Reads the stored text into the other buffer, and puts it in force where it is taken. Before the first, the book in force is
+   the empty one (all words 0): every frame is refused with 22 or 21, and none is handed on. */
+static uint32_t read_book(void) {
+    uint32_t *other = book == books[0] ? books[1] : books[0];
+    uint32_t line, refusal = pc_book_read((const uint8_t *)stored_book, strlen(stored_book), other, &line);
+    if (refusal) {
         printf("book refused: %" PRIu32 " at line %" PRIu32 "\n", refusal, line);
-    pc_sleep_start(&last_wake, &asleep, now);
-    return refusal;
+        return refusal;
+    }
+    book = other;
+    damaged = 0;
+    printf("book in force: %" PRIu32 " messages, %" PRIu32 " routes\n", book[PC_BOOK_MESSAGES], book[PC_BOOK_ROUTES]);
+    return PC_DONE;
 }
 
 /* Keeps the readings that the power monitor asks for. Which reading is which, the book says: its numbers stand in the order
@@ -68,57 +91,102 @@ static uint32_t first_of(uint32_t identifier) {
     return 0;
 }
 
-/* The receive handler: reads the frame, and hands it on to every place it spreads to. A frame that is only handed on needs no
-   message in the book: reading it gives 22, and it has a spread all the same. */
-static void on_receive(uint32_t bus, uint32_t identifier, const uint8_t *bytes, size_t length) {
-    uint32_t raws[PC_MOST_READINGS], places[PC_MOST_ROUTES], refusal;
-    size_t count = 0;
+/* Reads a frame and keeps what it carries. */
+static uint32_t read_frame(uint32_t identifier, const uint8_t *bytes, size_t length) {
+    uint32_t raws[PC_MOST_READINGS];
     uint8_t classes[PC_MOST_READINGS];
     int64_t thousandths[PC_MOST_READINGS];
-    refusal = pc_frame_read(book, identifier, bytes, length, raws, PC_MOST_READINGS, classes, PC_MOST_READINGS, thousandths, PC_MOST_READINGS, &count);
-    if (refusal != PC_DONE && refusal != PC_UNKNOWN_IDENTIFIER) {
-        count_refusal("pc_frame_read", refusal);
-        return;
-    }
+    size_t count;
+    uint32_t refusal = pc_frame_read(book, identifier, bytes, length, raws, PC_MOST_READINGS, classes, PC_MOST_READINGS,
+                                     thousandths, PC_MOST_READINGS, &count);
+    if (refusal)
+        return refusal;
     for (size_t i = 0; i < count; i++) {
         uint32_t number = book[PC_BOOK_NUMBERS + first_of(identifier) + i];
         keep(number, raws[i]);
         if (classes[i] == PC_VALUE)
             printf("%" PRIu32 " reads %" PRId64 "\n", number, thousandths[i]);
     }
-    refusal = pc_spread(book, bus, identifier, places, PC_MOST_ROUTES, &count);
+    return PC_DONE;
+}
+
+/* The receive handler. It asks for the spread first, since a frame that can't be read may have routes all the same: a short
+   one (21) is counted and handed on as it came, and one without a message in the book (22) is only handed on. Two refusals of
+   a reading stop the frame: a wrong checksum (23), and a book that is none (12), by which nothing is handed on.
+   No route here renames a frame that carries 503; such a one would have to be packed anew (docs/EMBEDDING.md). */
+static void on_receive(uint32_t bus, uint32_t identifier, const uint8_t *bytes, size_t length) {
+    uint32_t places[PC_MOST_ROUTES];
+    size_t count;
+    uint32_t refusal = pc_spread(book, bus, identifier, places, PC_MOST_ROUTES, &count);
     if (refusal) {
         count_refusal("pc_spread", refusal);
         return;
     }
+    refusal = read_frame(identifier, bytes, length);
+    if (refusal != PC_DONE && refusal != PC_UNKNOWN_IDENTIFIER)
+        count_refusal("pc_frame_read", refusal);
+    if (refusal == PC_CHECKSUM || refusal == PC_NOT_A_BOOK)
+        return;
     for (size_t i = 0; i < count; i++)
-        send_frame(PC_BUS(places[i]), PC_IDENTIFIER(places[i]), bytes, length);
+        send_frame(places[i], bytes, length);
 }
 
-/* One turn of the main loop: the power monitor and the sleep watch. */
+/* What a socket gives. Only data frames with 29 bits go into the library, and without the flags. */
+static void on_socket(uint32_t bus, uint32_t socket_identifier, const uint8_t *bytes, size_t length) {
+    uint32_t flags = socket_identifier & (SOCKET_29_BITS | SOCKET_REMOTE | SOCKET_ERROR);
+    if (flags == SOCKET_29_BITS)
+        on_receive(bus, socket_identifier & SOCKET_IDENTIFIER, bytes, length);
+    else
+        printf("passed by: %08" PRIX32 "\n", socket_identifier);
+}
+
+/* One turn of the main loop: the book, where it was damaged, the power monitor and the sleep watch. */
 static void turn(uint32_t now, uint32_t wake) {
     static const char *const words[] = { "off", "rising", "precharge", "both", "on", "falling", "fault" };
-    uint32_t refusal = pc_power_step(&power, seen);
+    uint32_t refusal;
+    if (damaged)
+        read_book();
+    refusal = pc_power_step(&power, seen);
     if (refusal)
         count_refusal("pc_power_step", refusal);
+    if (refusal == PC_NOT_A_POWER_STATE)
+        power = PC_POWER_START;
     refusal = pc_sleep_watch(&last_wake, &asleep, now, wake);
     if (refusal)
         count_refusal("pc_sleep_watch", refusal);
+    if (refusal == PC_NOT_A_SLEEP_STATE)
+        pc_sleep_start(&last_wake, &asleep, now);
     printf("%" PRIu32 " ms: power %s, %s\n", now, words[power], asleep ? "asleep" : "awake");
 }
 
 int main(void) {
     static const uint8_t current[8] = { 0x1F, 0x4E, 0xFA, 0xFF, 0xFF, 0xFF, 0xFF, 0xFF };
     static const uint8_t relays[8] = { 0xD6, 0x70, 0x17, 0x00, 0x00, 0xFF, 0xFF, 0xFF };
-    if (start(0) != 0)
+    static const uint8_t locked[8] = { 0xF6, 0xFF, 0xFF, 0xFF, 0xFF, 0xFF, 0xFF, 0x65 };
+    static const uint8_t spoilt[8] = { 0xF6, 0xFF, 0xFF, 0xFF, 0xFF, 0xFF, 0xFF, 0x75 };
+    if (read_book() != PC_DONE)
         return 1;
-    on_receive(0, 0x18FF21F3, current, sizeof current);
-    on_receive(0, 0x18FF21F3, current, 5);
-    on_receive(0, 0x18FFFAF3, current, sizeof current);
+    pc_sleep_start(&last_wake, &asleep, 0);
+
+    on_socket(0, 0x98FF21F3, current, sizeof current); /* read, and handed on to two places */
+    on_socket(0, 0x98FF21F3, current, 5);              /* 21: counted, and handed on as it came */
+    on_socket(0, 0x98FFFAF3, current, sizeof current); /* 22: no message, handed on */
+    on_socket(1, 0x98FF31D0, locked, sizeof locked);   /* a checksum that is right */
+    on_socket(1, 0x98FF31D0, spoilt, sizeof spoilt);   /* 23: counted, not handed on */
+    on_socket(0, 0x00000123, current, sizeof current); /* an identifier of 11 bits */
+    on_socket(0, 0xD8FF21F3, current, 0);              /* a remote frame */
+    on_socket(0, 0x20000004, current, sizeof current); /* an error frame */
     turn(10, 1);
+
     seen.command = 1;
-    on_receive(0, 0x18FF22F3, relays, sizeof relays);
+    on_socket(0, 0x98FF22F3, relays, sizeof relays);   /* read, no route */
     turn(20, 0);
+
+    book[PC_BOOK_SIGNALS] = PC_MOST_SIGNALS + 1;       /* 12 from the reading: counted, not handed on */
+    on_socket(0, 0x98FF21F3, current, sizeof current);
+    turn(30, 0);
+    book[PC_BOOK_ROUTES] = PC_MOST_ROUTES + 1;         /* 12 from the spread: the same, and nothing is read */
+    on_socket(0, 0x98FF21F3, current, sizeof current);
     turn(10010, 0);
     return 0;
 }
