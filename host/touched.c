@@ -11,12 +11,10 @@ enum { STACK = 65536 };
 static uint8_t stack[STACK] __attribute__((aligned(64)));
 
 /* Every call goes through `enter`, which notes where its return address lies. */
-extern uint8_t *entry;
-extern void (*target)(void);
 uint8_t *entry;
 void (*target)(void);
-extern void enter(void);
-__asm__("enter: movq %rsp, entry(%rip)\n\tjmp *target(%rip)\n");
+void enter(void);
+__asm__(".text\nenter: movq %rsp, entry(%rip)\n\tjmp *target(%rip)\n");
 static void (*volatile through)(void) = enter;
 #define ENTER(call, ...) (target = (void (*)(void))call, ((__typeof__(&call))through)(__VA_ARGS__))
 
