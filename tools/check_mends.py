@@ -2,7 +2,7 @@
 
 import re
 
-from rules import read_book
+from rules import CATALOGUE, read_book
 
 # What the words tell to write, by refusal, and what becomes of the line's fields.
 TOLD = {
@@ -48,5 +48,8 @@ def earlier_fault(text, answer, printed):
     found = re.search(r"[Ll]ine (\d+)", printed.partition("\n\n")[2].replace("\n", " "))
     lines = text.decode("latin-1").split("\n")
     named = lines[int(found[1]) - 1].split("\t") if found and int(found[1]) < int(line) else [""]
+    for number, first, last in re.findall(r"[Ss]ignal (\d+) (?:in line \d+ )?fills (?:bits )?(\d+) to (\d+)", printed.replace("\n", " ")):
+        if int(last) - int(first) + 1 != CATALOGUE[int(number)].bits:
+            return f"{answer}: a wrong width: {printed}"
     same = named[0] == lines[int(line) - 1].split("\t")[0] and (refusal == "8" or named[1] == lines[int(line) - 1].split("\t")[1])
     return None if same else f"{answer}: no such line above: {printed}"

@@ -2,7 +2,7 @@
 """Holds the papers against the tree: every definition, theorem, function and must-fail edit that they name is there, every link
 leads somewhere, and docs/PROMISES.md names every must-fail edit. What it lists as the working side is just what no promise rests on:
 the files of specs/ that no definition named there uses, however far down. And each public function has its law of one outcome, but
-for the parts of programs that it names.
+for the parts of programs that it names. The header, CHANGELOG.md and README.md name one version.
 
 A reference is in backquotes: `crate: File name, name` (specs/ or proofs/), `crate: function()` (src/), `crate/edit` (must-fail/)."""
 
@@ -95,6 +95,18 @@ def without_law(promises):
                 yield f"{crate.name}::{name}: no law {law}, and docs/PROMISES.md does not name it as part of a program"
 
 
+def versions():
+    """The versions that the header, the top of CHANGELOG.md and README.md name, where they are not one."""
+    named = {
+        "include/punnetcrest.h": r'#define PC_VERSION "(.+)"',
+        "CHANGELOG.md": r"(?m)^## (\d\S*)",
+        "README.md": r"This is version (\S+)",
+    }
+    found = {file: match[1] if (match := re.search(pattern, (ROOT / file).read_text())) else "none" for file, pattern in named.items()}
+    if len(set(found.values())) > 1:
+        yield f"versions: {found}"
+
+
 def main():
     faults = []
     for paper in PAPERS:
@@ -106,7 +118,7 @@ def main():
     for edit in sorted(ROOT.glob("crates/*/must-fail/*.edit")):
         if f"`{edit.parts[-3]}/{edit.stem}`" not in promises:
             faults.append(f"docs/PROMISES.md: {edit.parts[-3]}/{edit.stem} is not named")
-    faults += [*working_side(promises), *without_law(promises)]
+    faults += [*working_side(promises), *without_law(promises), *versions()]
     print("\n".join(faults) if faults else "papers: all that they name is there")
     sys.exit(bool(faults))
 
