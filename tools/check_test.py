@@ -15,8 +15,8 @@ from concurrent.futures import ThreadPoolExecutor
 from pathlib import Path
 
 from book_vectors import GOOD, M, R, S, signals
-from check_mends import earlier_fault, mend_fault
 from check_slips import SLIPS
+from check_words import earlier_fault, mend_fault, shows_why
 from rules import read_book
 
 ROOT = Path(__file__).resolve().parent.parent
@@ -53,33 +53,6 @@ def first_line(name, answer):
         return f"{name}: taken: " + ", ".join(f"{count} {word}{'' if count == '1' else 's'}" for count, word in counts) + "."
     _, refusal, line = answer
     return (f"{name}:{line}" if line != "0" else name) + f": refused ({refusal}): "
-
-
-# ---- the chains that are shown
-
-SHOWN = re.compile(r"(?m)^    (.+):(\d+):\tR\t(\d)\t(\w{8})\t(\d)\t(\w{8})$")
-
-
-def chain_of(paragraph):
-    """[(file, line, start, end)] of the routes shown in a paragraph."""
-    return [(file, int(line), (bus, name), (to, under)) for file, line, bus, name, to, under in SHOWN.findall(paragraph)]
-
-
-def linked(chain):
-    return all(one[3] == other[2] for one, other in zip(chain, chain[1:]))
-
-
-def shows_why(printed, refusal, where):
-    """Whether a closed chain, or two different chains between the same two places, are shown, beginning at the verdict's line."""
-    shown = [chain_of(paragraph) for paragraph in printed.split("\n\n")]
-    shown = [chain for chain in shown if chain]
-    if not shown or shown[0][0][:2] != where:
-        return False
-    if refusal == 10:
-        (chain,) = shown
-        return linked(chain) and chain[0][2] == chain[-1][3]
-    one, other = shown if len(shown) == 2 else ([route] for route in shown[0])
-    return linked(one) and linked(other) and one != other and one[0][2] == other[0][2] and one[-1][3] == other[-1][3]
 
 
 # ---- the vectors

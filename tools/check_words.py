@@ -1,8 +1,38 @@
-"""For tools/check_test.py: does what ./check advises, and asks the rules in Python whether the line is then no longer at fault."""
+"""Holds the words of ./check against the rules in Python, for tools/check_test.py: the chains that it shows are chains, the lines that it
+names are there, and once its advice is followed the line is no longer at fault."""
 
 import re
 
 from rules import CATALOGUE, read_book
+
+# ---- the chains that are shown
+
+SHOWN = re.compile(r"(?m)^    (.+):(\d+):\tR\t(\d)\t(\w{8})\t(\d)\t(\w{8})$")
+
+
+def chain_of(paragraph):
+    """[(file, line, start, end)] of the routes shown in a paragraph."""
+    return [(file, int(line), (bus, name), (to, under)) for file, line, bus, name, to, under in SHOWN.findall(paragraph)]
+
+
+def linked(chain):
+    return all(one[3] == other[2] for one, other in zip(chain, chain[1:]))
+
+
+def shows_why(printed, refusal, where):
+    """Whether a closed chain, or two different chains between the same two places, are shown, beginning at the verdict's line."""
+    shown = [chain_of(paragraph) for paragraph in printed.split("\n\n")]
+    shown = [chain for chain in shown if chain]
+    if not shown or shown[0][0][:2] != where:
+        return False
+    if refusal == 10:
+        (chain,) = shown
+        return linked(chain) and chain[0][2] == chain[-1][3]
+    one, other = shown if len(shown) == 2 else ([route] for route in shown[0])
+    return linked(one) and linked(other) and one != other and one[0][2] == other[0][2] and one[-1][3] == other[-1][3]
+
+
+# ---- the advice
 
 # What the words tell to write, by refusal, and what becomes of the line's fields.
 TOLD = {
