@@ -37,6 +37,8 @@ def helps():
     for words in (["nothing"], ["../run"], ["only"]):
         status, empty, said = call("run", *words)
         yield status == 2 and not empty and said.startswith(f"run: there is no program '{words[0]}'") and printed in said, said
+    status, printed, said = call("host/run", "--help")
+    yield status == 0 and printed.startswith("usage: host/run") and not said and call("host/run") == (2, "", printed), printed + said
     status, printed, said = call("host/build", "--help")
     yield status == 0 and printed.startswith("usage: host/build") and not said, printed + said
     status, empty, said = call("host/build", "nothing")
