@@ -1,12 +1,11 @@
 #!/usr/bin/env python3
 """Tries the command ./check: on every book vector against the stored answer; on several books together against the rules in Python;
-on each usual slip; on what is no book at all.
+on books as people break them; on what is no book at all; where the checker or its output is missing.
 
     python3 tools/check_test.py
 """
 
 import os
-import random
 import re
 import subprocess
 import sys
@@ -14,19 +13,14 @@ import tempfile
 from concurrent.futures import ThreadPoolExecutor
 from pathlib import Path
 
-from book_vectors import GOOD, M, R, S, signals
+from book_vectors import GOOD, M, R
+from check_slips import REFUSED as REFUSED_BOOKS
 from check_slips import SLIPS
-from check_words import earlier_fault, mend_fault, shows_why
-from rules import read_book
+from check_together import together
+from check_words import FAILED, REFUSED, ROOT, TAKEN, UNREADABLE, check, earlier_fault, mend_fault, shows_why
 
-ROOT = Path(__file__).resolve().parent.parent
-TAKEN, REFUSED, UNREADABLE = 0, 1, 2
-
-
-def check(folder, *names, given=b""):
-    """(exit status, what it prints, what it says on standard error) of ./check on files of this folder."""
-    done = subprocess.run([sys.executable, "-S", ROOT / "check", *names], cwd=folder, input=given, capture_output=True)
-    return done.returncode, done.stdout.decode(), done.stderr.decode()
+# What each refusal is called in docs/BOOK.md.
+HEADINGS = dict(re.findall(r"(?m)^### (\d+): (.*)$", (ROOT / "docs/BOOK.md").read_text()))
 
 
 def in_a_row(printed):
@@ -47,12 +41,12 @@ def stored_cases():
 
 
 def first_line(name, answer):
-    """How the first line of a report begins."""
+    """The first line of a report."""
     if answer[0] == "ok":
         counts = zip(answer[1:], ("message", "signal", "route"))
         return f"{name}: taken: " + ", ".join(f"{count} {word}{'' if count == '1' else 's'}" for count, word in counts) + "."
     _, refusal, line = answer
-    return (f"{name}:{line}" if line != "0" else name) + f": refused ({refusal}): "
+    return (f"{name}:{line}" if line != "0" else name) + f": refused ({refusal}): {HEADINGS[refusal]}.\n"
 
 
 # ---- the vectors
@@ -77,65 +71,7 @@ def vectors(folder):
         return [*pool.map(lambda case: vector_fault(folder, case[0], *case[1]), enumerate(stored_cases()))]
 
 
-# ---- several books together
-
-
-def together_answer(texts):
-    """What the rules in Python say of the R lines of several books as one table: ('ok',), or ('no', refusal, (file, line))."""
-    routes = [
-        ((f"book{number}", line), text)
-        for number, book in enumerate(texts)
-        for line, text in enumerate(book.splitlines(keepends=True), 1)
-        if text.startswith("R")
-    ]
-    answer = read_book("".join(text for _, text in routes[:65]).encode())[0]
-    return ("ok",) if answer[0] == "ok" else ("no", answer[1], routes[answer[2] - 1][0])
-
-
-def together_fault(folder, texts):
-    """What ./check says wrong of books that are each taken by themselves."""
-    folder.mkdir()
-    names = [f"book{number}" for number in range(len(texts))]
-    for name, text in zip(names, texts):
-        (folder / name).write_text(text)
-    status, printed, said = check(folder, *names)
-    last = printed.partition("together: ")[2]
-    answer = together_answer(texts)
-    if answer[0] == "ok":
-        right = status == TAKEN and last.startswith("taken: ")
-    else:
-        _, refusal, (name, line) = answer
-        right = status == REFUSED and last.startswith(f"{name}:{line}: refused ({refusal}): ")
-        right = right and (refusal == 9 or shows_why(last, refusal, (name, line)))
-    return None if right and not said and len(printed.split(": taken: ")) > len(texts) else f"{answer}: status {status}: {printed}{said}"
-
-
-def random_books(chance):
-    """A few books, each taken by itself, whose routes often loop or double together."""
-    for _ in range(chance.randint(2, 4)):
-        text = M(1) + S(203, 0)
-        for _ in range(chance.randint(0, 5)):
-            longer = text + R(chance.randrange(2), chance.randrange(4), chance.randrange(2), chance.randrange(4))
-            text = longer if read_book(longer.encode())[0][0] == "ok" else text
-        yield text
-
-
-def together(folder):
-    chance = random.Random(5)
-    routes = [R(0, i, 1, i) for i in range(70)]
-    groups = [
-        [GOOD, M(1) + R(2, 0x18FF21D0, 0, 0x18FF21F3)],  # each taken, a loop together
-        [M(7) + R(0, 1, 1, 1), R(5, 5, 6, 6) + R(0, 1, 1, 1)],  # a line that both have
-        [R(0, 1, 1, 1) + R(0, 1, 2, 1), R(1, 1, 3, 1), M(1) + R(2, 1, 3, 1)],  # two ways over three books
-        ["".join(routes[:40]), M(1) + "".join(routes[40:64])],  # 64 together
-        ["".join(routes[:40]), M(1) + "".join(routes[40:65])],  # 65 together
-        ["".join(routes[:64]), M(3) + R(1, 0, 0, 0)],  # the 65th closes a chain: 9 all the same
-        ["".join(R(bus, i, bus, i + 64) for i in range(64)) for bus in range(8)] * 3,  # far more than a text holds
-        ["", signals(256)],
-        *([*random_books(chance)] for _ in range(60)),
-    ]
-    with ThreadPoolExecutor(os.cpu_count()) as pool:
-        return [*pool.map(lambda case: together_fault(folder / f"together{case[0]}", case[1]), enumerate(groups))]
+# ---- several books together: tools/check_together.py has those that are drawn
 
 
 def founding(folder):
@@ -154,8 +90,9 @@ def shared_lines(folder):
     (folder / "two").write_text(M(1) + R(0, 1, 1, 1))
     status, printed, _ = check(folder, "one", "two")
     yield status == REFUSED and "one:1 and two:2 are the same route in two files, and each counts" in in_a_row(printed) or printed
-    status, printed, _ = check(folder, "two", "two")
-    yield status == REFUSED and "named more than once" in in_a_row(printed) or printed
+    for again in ("two", "./two", "../" + folder.name + "/two"):
+        status, printed, _ = check(folder, "two", again)
+        yield status == REFUSED and "named more than once" in in_a_row(printed) and "in two files" not in in_a_row(printed) or printed
     (folder / "full").write_text("".join(R(0, 7 + i, 1, 7 + i) for i in range(64)))
     status, printed, _ = check(folder, "full", "one")
     yield status == REFUSED and "together: one:1: refused (9)" in printed and "(full 64, one 1)" in in_a_row(printed) or printed
@@ -169,6 +106,7 @@ def shown_in_papers(folder):
             wanted = re.sub(r"(?m)^    ", "", printed).strip()
             said = check(ROOT, *words.split())[1].strip()
             yield said == wanted or f"{paper}: {words}: {said}"
+        yield paper != "README.md" or len(shown) > 1 or "README.md shows ./check no more"
 
 
 # ---- what is no book
@@ -196,26 +134,73 @@ def no_books(folder):
     yield status == REFUSED and "together: not checked" in printed or printed
 
 
-# ---- the usual slips
+    (folder / "esc\x1b[1m\n").write_text("X\n")
+    status, printed, _ = check(folder, "esc\x1b[1m\n", "no\x1b")
+    yield status == UNREADABLE and "\x1b" not in printed and printed.startswith("esc<U+001B>[1m<U+000A>:1: refused (2)") or printed
 
 
-def slip_fault(folder, number, text, line, named, meant):
+def no_checker(folder):
+    """Without the kit, with output that nobody reads or nothing takes, or with an answer that is none: 1 comes from a verdict alone."""
+    (folder / "good").write_text(GOOD)
+    path = [part for part in os.environ["PATH"].split(":") if not os.path.exists(f"{part}/rt")]
+    without = {name: value for name, value in os.environ.items() if name != "RATTLE_HOME"} | {"PATH": ":".join(path)}
+    status, printed, said = check(folder, "good", env=without)
+    yield status == FAILED and not printed and "the Rattle kit is missing" in said and "no verdict" in said or f"{status} {printed}{said}"
+    command = f"'{sys.executable}' -S '{ROOT}/check'"
+    for words, wanted in (("good | true", TAKEN), ("missing | true", UNREADABLE), ("bad | true", REFUSED), ("good >&-", TAKEN), ("good >/dev/full", FAILED), ("2>&-", UNREADABLE)):
+        script = f"{command} {words}; exit ${{PIPESTATUS[0]}}"
+        done = subprocess.run(["bash", "-c", script], cwd=folder, capture_output=True, text=True)
+        yield done.returncode == wanted and "Traceback" not in done.stderr or f"{words}: {done.returncode} {done.stderr}"
+    yield from stand_ins(folder)
+
+
+def stand_ins(folder):
+    """What stands in for the program and answers something else than a verdict on the whole text is no verdict."""
+    sys.path.insert(0, str(ROOT / "python"))
+    from checking import routes, verdicts
+
+    verdicts.RUN, kept = folder / "stand_in", verdicts.RUN
+    for answer, status in ((r"ok\t0\t0\t0\n", 0), (r"ok\t1\t2\t2\n", 1), (r"no\t2\t1\n", 1), ("", 0), (r"ok\n", 0), (r"ok\t1\t2\t2\nno\t2\t1\n", 0)):
+        verdicts.RUN.write_text(f"#!/bin/sh\ncat >/dev/null\nprintf '{answer}'\nexit {status}\n")
+        verdicts.RUN.chmod(0o755)
+        try:
+            yield f"{answer}, {status}: {verdicts.verdict_on(GOOD.encode())}"
+        except verdicts.NoVerdict:
+            yield None
+    verdicts.RUN = kept
+    one, other = routes.Route("", (), 1, b"R\t0\t00000001\t1\t00000001", (), ()), routes.Route("", (), 2, b"R\t1\t00000001\t0\t00000001", (), ())
+    yield routes.confirmed([one, other], 10) and not routes.confirmed([one], 10) and not routes.confirmed([one, other], 11) or "confirmed"
+
+
+# ---- books as people break them
+
+
+def slip_fault(folder, number, text, line, words, meant):
     name = f"slip{number}"
     (folder / name).write_bytes(text)
     status, printed, _ = check(folder, name)
-    right = status == REFUSED and printed.startswith(f"{name}:{line}: refused (") and named in in_a_row(printed)
-    right = right and (f"probably meant so:\n\n    {meant}\n" in printed if meant else "probably meant" not in printed)
-    return None if right else f"{named}: {printed}"
+    right = status == REFUSED and printed.startswith(first_line(name, ("no", "2", str(line)))) and all(word in in_a_row(printed) for word in words)
+    right = right and (f"probably meant so:\n\n    {meant}\n" in printed if meant else "probably meant" not in printed) and "\x1b" not in printed
+    return None if right else f"{words}: {printed}"
 
 
 def slips(folder):
     return [slip_fault(folder, number, *slip) for number, slip in enumerate(SLIPS)]
 
 
+def refusals(folder):
+    for number, (text, refusal, line, words) in enumerate(REFUSED_BOOKS):
+        name = f"refused{number}"
+        (folder / name).write_bytes(text)
+        status, printed, _ = check(folder, name)
+        right = status == REFUSED and printed.startswith(first_line(name, ("no", str(refusal), str(line))))
+        yield right and all(word in in_a_row(printed) for word in words) or f"{words}: {printed}"
+
+
 def main():
     failed = False
     with tempfile.TemporaryDirectory() as made:
-        for part in (vectors, together, founding, shared_lines, shown_in_papers, no_books, slips):
+        for part in (vectors, together, founding, shared_lines, shown_in_papers, no_books, no_checker, slips, refusals):
             answers = list(part(Path(made)))
             faults = [answer for answer in answers if answer not in (None, True)]
             print(f"check, {part.__name__.replace('_', ' ')}: {len(answers)} cases, {len(faults)} wrong")

@@ -1,9 +1,22 @@
-"""Holds the words of ./check against the rules in Python, for tools/check_test.py: the chains that it shows are chains, the lines that it
-names are there, and once its advice is followed the line is no longer at fault."""
+"""Runs ./check, and holds its words against the rules in Python, for tools/check_test.py: the chains that it shows are chains, the lines that
+it names are there, and once its advice is followed the line is no longer at fault."""
 
 import re
+import subprocess
+import sys
+from pathlib import Path
 
 from rules import CATALOGUE, read_book
+
+ROOT = Path(__file__).resolve().parent.parent
+TAKEN, REFUSED, UNREADABLE, FAILED = 0, 1, 2, 3
+
+
+def check(folder, *names, given=b"", **more):
+    """(exit status, what it prints, what it says on standard error) of ./check on files of this folder."""
+    done = subprocess.run([sys.executable, "-S", ROOT / "check", *names], cwd=folder, input=given, capture_output=True, **more)
+    return done.returncode, done.stdout.decode(), done.stderr.decode()
+
 
 # ---- the chains that are shown
 
@@ -39,7 +52,7 @@ TOLD = {
     "2": (r"probably meant so:\s+(\S.*)\n", lambda fields, told: told.split("\t")),
     "3": (r"without it this one is (\w{8})", lambda fields, told: [told if field[1:] == told[1:] else field for field in fields]),
     "7": (r"so (\d+) is the last start|sits at start (\d+)", lambda fields, told: [*fields[:2], told]),
-    "8": (r"from start (\d+) on signal", lambda fields, told: [*fields[:2], told]),
+    "8": (r"at start (\d+), for one, signal", lambda fields, told: [*fields[:2], told]),
 }
 
 
@@ -64,6 +77,8 @@ def mend_fault(text, answer, printed):
     """What is left of the fault once the advice is followed, or None. Other identifiers of the line may still carry a flag."""
     _, refusal, line = answer
     new = mended(text, refusal, int(line), printed)
+    if new is None and refusal in ("7", "8") and "there is no other place" not in " ".join(printed.split()):
+        return f"{answer}: no start is told: {printed}"
     if new is None or new == text:
         return None
     left = read_book(new)[0]

@@ -48,9 +48,9 @@ def doubling_words(one, other):
 
 
 def repeated_words(one, other):
-    if one.book == other.book and one.line == other.line:
-        return f"Line {one.line} counts twice, since the file is named twice."
-    if one.book == other.book:
+    if (one.file, one.line) == (other.file, other.line):
+        return f"{one.book}:{one.line} counts twice, since the file is named twice. Name each file once."
+    if one.file == other.file:
         return f"Lines {one.line} and {other.line} are the same route, so the frame would be sent twice. Strike one of the two."
     return (
         f"{one.book}:{one.line} and {other.book}:{other.line} are the same route in two files, and each counts, as a repeated line in one "

@@ -7,11 +7,10 @@ from typing import NamedTuple
 
 from . import chains, refusals
 from .routes import DOUBLING, LOOP, routes_of
-from .texts import Unreadable, load, visible
+from .texts import Unreadable, load, printable, visible
 from .verdicts import NoVerdict, verdict_on
 
 TAKEN, REFUSED, UNREADABLE, FAILED = 0, 1, 2, 3
-MOST_ROUTES = 64
 WIDTH = 78
 
 HELP = """usage: ./check BOOK...
@@ -72,7 +71,7 @@ def report_together(books):
     """On the routes of all these books as one table. Each book is taken by itself."""
     routes = [route for book in books for route in routes_of(book)]
     # 65 routes tell that there are too many: more could be a text too long.
-    verdict = verdict_on(b"".join(route.text + b"\n" for route in routes[: MOST_ROUTES + 1]))
+    verdict = verdict_on(b"".join(route.text + b"\n" for route in routes[: refusals.MOST["R"] + 1]))
     if not verdict.refusal:
         return Report(TAKEN, [f"together: taken: {counted(len(routes), 'route')} of {len(books)} books, and no chain of them loops or doubles."])
     named = routes[verdict.line - 1]
@@ -85,9 +84,9 @@ def words_together(books, routes, verdict):
     else:
         each = ", ".join(f"{book.name} {len(list(routes_of(book)))}" for book in books)
         yield chains.shown(routes[verdict.line - 1])
-        yield f"It is route {verdict.line} of {len(routes)} ({each}), and {MOST_ROUTES} at most can be checked together."
+        yield f"It is route {verdict.line} of {len(routes)} ({each}), and {refusals.MOST['R']} at most can be checked together."
         yield refusals.TOO_MANY_ROUTES
-    if len({os.path.realpath(book.name) for book in books}) < len(books):
+    if len({book.file for book in books}) < len(books):
         yield "A file is named more than once, and its routes count each time. Name each file once."
 
 
@@ -102,7 +101,7 @@ def reports(names):
             books.append(load(name))
             report = report_on(books[-1])
         except Unreadable as fault:
-            report = Report(UNREADABLE, [f"{name}: not checked: {fault}."])
+            report = Report(UNREADABLE, [f"{printable(name)}: not checked: {fault}."])
         worst = max(worst, report.status)
         yield report
     if len(names) > 1 and worst == TAKEN:
@@ -117,15 +116,33 @@ def laid_out(paragraph):
     return "\n".join(line if line.startswith(" ") else textwrap.fill(line, WIDTH, break_on_hyphens=False, break_long_words=False) for line in lines)
 
 
+def say(text, stream=None):
+    """Prints, as long as somebody reads it: whoever stops reading still gets the exit status. What can't be written is a fault."""
+    stream = stream or sys.stdout
+    try:
+        print(text, file=stream, flush=True)
+    except OSError as fault:
+        os.dup2(os.open(os.devnull, os.O_WRONLY), stream.fileno())
+        if stream is sys.stdout and not isinstance(fault, BrokenPipeError):
+            raise NoVerdict(f"it can't be printed: {fault.strerror}") from fault
+
+
 def check_all(names):
     """Prints the reports, an empty line around longer ones, and gives the exit status."""
     worst, before = TAKEN, []
     for report in reports(names):
         gap = "\n" if before and len(before + report.paragraphs) > 2 else ""
         first, *words = report.paragraphs
-        print(gap + "\n\n".join([first, *map(laid_out, words)]), flush=True)
+        say(gap + "\n\n".join([first, *map(laid_out, words)]))
         worst, before = max(worst, report.status), report.paragraphs
     return worst
+
+
+def told_apart(words):
+    """The options and the names of books: behind `--` all are names."""
+    at = words.index("--") if "--" in words else len(words)
+    options = [word for word in words[:at] if word.startswith("-") and word != "-"]
+    return options, [word for word in words[:at] if word not in options] + words[at + 1 :]
 
 
 def misused(options, names):
@@ -137,18 +154,25 @@ def misused(options, names):
     return "" if names else "check: which book?"
 
 
+def open_streams():
+    """Standard output and error that take every character, and are there."""
+    for name in ("stdout", "stderr"):
+        if getattr(sys, name) is None:
+            setattr(sys, name, open(os.devnull, "w"))
+        getattr(sys, name).reconfigure(errors="backslashreplace")
+
+
 def main(words):
-    sys.stdout.reconfigure(errors="backslashreplace")
-    names = words[1:] if words[:1] == ["--"] else words
-    options = [] if words[:1] == ["--"] else [word for word in words if word.startswith("-") and word != "-"]
+    open_streams()
+    options, names = told_apart(words)
     if "-h" in options or "--help" in options:
-        print(HELP)
+        say(HELP)
         return TAKEN
     if fault := misused(options, names):
-        print(fault + "\n\n" + HELP, file=sys.stderr)
+        say(fault + "\n\n" + HELP, sys.stderr)
         return UNREADABLE
     try:
         return check_all(names)
     except NoVerdict as fault:
-        print(f"check: no verdict: {fault}", file=sys.stderr)
+        say(f"check: no verdict: {fault}", sys.stderr)
         return FAILED

@@ -1,18 +1,19 @@
-"""What each refusal means and how to mend it, in words: `sentence` for the first line, `advice` for what stands below it."""
+"""What each refusal means and how to mend it, in words: SENTENCES for the first line, `advice` for what stands below it."""
 
 from . import signals, slips
 from .texts import said_by
 from .verdicts import verdict_on
 
+# The headings of docs/BOOK.md.
 SENTENCES = {
-    1: "the text is longer than 32,768 bytes",
-    2: "the line is not formed as a line of a book",
-    3: "a number is over its limit, or there is no such signal",
-    4: "a signal stands before any message",
-    5: "the message is there already",
+    1: "the text is over 32,768 bytes",
+    2: "the line is ill formed",
+    3: "a number is over its limit, or the catalogue has no such signal",
+    4: "an S line before any M line",
+    5: "the identifier already has an M line",
     6: "the signal is already in this message",
     7: "the signal does not fit there",
-    8: "the signal's bits meet those of another signal of its message",
+    8: "the signal's bits meet an earlier signal of the message",
     9: "one line too many",
     10: "frames would go round in a loop",
     11: "a frame would arrive twice",
@@ -20,15 +21,20 @@ SENTENCES = {
 MOST = {"M": 64, "S": 256, "R": 64}
 LINES_NAMED = 8
 TOO_MANY_ROUTES = (
-    "Strike routes that nobody needs. Don't split them over several books to get below 64: routes that are not checked together are "
+    f"Strike routes that nobody needs. Don't split them over several books to get below {MOST['R']}: routes that are not checked together are "
     "not checked for loops, and a loop over two books is what drains a truck's battery."
+)
+SIGNAL_NUMBERS = (
+    "A signal's number is table x 100 + row of the standard (but 1301, 1302 are the software version, 1303, 1304 the hardware version, "
+    "1305 year, 1306 month, 1307 day); docs/SIGNALS.md lists them."
 )
 
 
 def list_of(numbers):
     """Line numbers in words, not all of many."""
     named = ", ".join(str(number) for number in numbers[:LINES_NAMED])
-    return named + (f" and {len(numbers) - LINES_NAMED} more" if len(numbers) > LINES_NAMED else "")
+    more = f" and {len(numbers) - LINES_NAMED} more" if len(numbers) > LINES_NAMED else ""
+    return f"line{'s' * (len(numbers) > 1)} {named}{more}"
 
 
 def too_long(book, line, said):
@@ -37,37 +43,46 @@ def too_long(book, line, said):
 
 # ---- the form of a line
 
-
-def same_slip(book, line, names):
-    """The other lines that have a slip of one of these names."""
-    return [number for number, text in enumerate(book.lines(), 1) if number != line and names & set(slips.of_line(text).words)]
+# Slips that leave nothing of the line to write otherwise.
+UNSEEN = {"a byte order mark", "CR LF", "an empty line"}
+# Slips that tend to be on many lines.
+HABITS = {"CR LF", "spaces", "commas", "quotes", "tabs too many", "small letters", "0x", "look-alike characters", "a name", "zeros in front"}
 
 
 def ill_formed(book, line, said):
-    whole = slips.of_file(book.text)
-    if whole:
-        yield whole
+    if whole := slips.of_file(book):
+        yield from whole
         return
     text = book.lines()[line - 1]
-    words, meant = slips.of_line(text)
-    yield from words.values()
-    last = line == len(book.lines()) and not book.ends_whole()
-    if last:
+    found = slips.of_line(text)
+    yield from (words for _, words in found.words)
+    unfinished = line == len(book.lines()) and not book.ends_whole()
+    if unfinished and "an empty line" not in found.names():
         yield "It is the last line and does not end with a newline: press Enter at its end, and save."
-    if not words and not last:
-        yield "A line is one of: " + "; ".join(slips.FIELDS.values()) + "; its fields parted by one tab."
-    if meant and set(words) - slips.UNSEEN and well_formed(book, line, meant):
-        yield "It was probably meant so:\n\n    " + meant
-    others = same_slip(book, line, set(words))
-    if others:
-        yield f"The same is so in {'line' if len(others) == 1 else 'lines'} {list_of(others)}."
+    if not set(found.names()) <= UNSEEN:
+        yield from written_so(book, line, found.meant)
+    elif not found.words and not unfinished:
+        yield from slips.form_of(text)
+    yield from on_other_lines(book, line, found.names())
 
 
-def well_formed(book, line, meant):
-    """Whether the proved checker no longer finds the form of this line wrong once it is written so."""
+def written_so(book, line, meant):
+    """The line as it was probably meant, where the proved checker then no longer finds its form wrong; else how such a line is written."""
     before = b"".join(text + b"\n" for text in book.lines()[: line - 1])
     verdict = verdict_on(before + meant.encode() + b"\n")
-    return (verdict.refusal, verdict.line) != (2, line)
+    if meant and (verdict.refusal, verdict.line) != (2, line):
+        yield "It was probably meant so:\n\n    " + meant
+    else:
+        yield from slips.form_of(book.lines()[line - 1])
+
+
+def on_other_lines(book, line, names):
+    """Which other lines have a slip that tends to be on many."""
+    others = [(number, slips.of_line(text).names()) for number, text in enumerate(book.lines(), 1) if number != line]
+    for name in names:
+        lines = [number for number, has in others if name in has]
+        if name in HABITS and lines:
+            yield f"Also with {name}: {list_of(lines)}."
 
 
 # ---- what a well-formed line says
@@ -79,7 +94,7 @@ def over_limit(book, line, said):
         if number not in signals.WIDTHS:
             table = signals.of_table(number)
             there = f"table {number // 100} has {table[0]} to {table[1]}" if table else f"there is no table {number // 100} with signals"
-            yield f"There is no signal {number}: {there}. A signal's number is table x 100 + row of the standard; docs/SIGNALS.md lists them."
+            yield f"There is no signal {number}: {there}. {SIGNAL_NUMBERS}"
         if start >= signals.FRAME_BITS:
             yield f"The start {start} is over 63, the last bit of a frame."
         return
@@ -103,7 +118,7 @@ def lonely(book, line, said):
 
 
 def earlier(book, line, said):
-    """The nearest line above that says the same first thing, within the message for an S line."""
+    """The nearest line above of the same kind and with the same first field."""
     for number in range(line - 1, 0, -1):
         other = said_by(book.lines()[number - 1])
         if other and other.kind == said.kind and other.fields[0] == said.fields[0]:
@@ -114,7 +129,7 @@ def earlier(book, line, said):
 def repeated_message(book, line, said):
     yield (
         f"Line {earlier(book, line, said)} is the M line of {said.fields[0]} already, and a message is described once. "
-        "Strike this one; move its S lines under the other, or they will belong to the message above."
+        "Strike this one, and move its S lines under the other: left here, they would belong to the message above."
     )
 
 
@@ -141,7 +156,7 @@ def meeting(book, line, said):
             yield f"Signal {mine.number} fills bits {mine.start} to {mine.last()}; signal {other.number} in line {other.line} fills {other.start} to {other.last()}."
     start = signals.free_start(mine, others)
     yield (
-        f"Move one of them: from start {start} on signal {mine.number} meets no other signal of the message."
+        f"Move one of them: at start {start}, for one, signal {mine.number} meets no other signal of the message."
         if start is not None
         else f"Move the other, or put one of them into another message: there is no other place for signal {mine.number} in this one."
     )
@@ -174,4 +189,4 @@ def advice(book, verdict):
     """The paragraphs below the first line of a refusal of one book, but for 10 and 11, which are about several lines."""
     line = verdict.line
     said = said_by(book.lines()[line - 1]) if line else None
-    return list(ADVICE[verdict.refusal](book, line, said))
+    return list(dict.fromkeys(ADVICE[verdict.refusal](book, line, said)))

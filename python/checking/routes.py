@@ -12,6 +12,7 @@ LOOP, DOUBLING = 10, 11
 
 class Route(NamedTuple):
     book: str  # the file's name
+    file: tuple  # which file it is
     line: int
     text: bytes  # the line without its newline
     start: tuple  # bus and identifier, as they are written
@@ -23,7 +24,7 @@ def routes_of(book):
     for number, line in enumerate(book.lines(), 1):
         said = said_by(line)
         if said and said.kind == "R":
-            yield Route(book.name, number, line, said.fields[:2], said.fields[2:])
+            yield Route(book.name, book.file, number, line, said.fields[:2], said.fields[2:])
 
 
 def reached(routes, begun):

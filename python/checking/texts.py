@@ -1,5 +1,6 @@
 """A route book as a file: its bytes, its lines as people count them, and how a line is shown to a person."""
 
+import os
 import re
 import sys
 from typing import NamedTuple
@@ -11,8 +12,9 @@ NAMES = {"\t": "TAB", "\r": "CR", " ": "SPACE", "\0": "NUL", "\ufeff": "BYTE ORD
 
 
 class Book(NamedTuple):
-    name: str
+    name: str  # as it is printed
     text: bytes  # no more of it than tells that it is too long
+    file: tuple  # which file it is, however it was named
 
     def lines(self):
         """The lines without their newlines; one that lacks its newline comes last."""
@@ -33,11 +35,15 @@ def load(name):
         if name == "-" and sys.stdin is None:
             raise ValueError("there is no standard input")
         if name == "-":
-            return Book("standard input", sys.stdin.buffer.read(MOST_BYTES + 1))
+            return Book("standard input", sys.stdin.buffer.read(MOST_BYTES + 1), ())
         with open(name, "rb") as file:
-            return Book(name, file.read(MOST_BYTES + 1))
+            about = os.fstat(file.fileno())
+            return Book(printable(name), file.read(MOST_BYTES + 1), (about.st_dev, about.st_ino))
     except (OSError, ValueError) as fault:
         raise Unreadable(getattr(fault, "strerror", None) or str(fault)) from fault
+
+
+# ---- how text is shown
 
 
 def characters(line):
@@ -48,17 +54,15 @@ def characters(line):
         return line.decode("latin-1")
 
 
+def printable(text):
+    """The text with every character that has no picture written out."""
+    return "".join(character if character.isprintable() else f"<U+{ord(character):04X}>" for character in text)
+
+
 def seen(text):
-    """Characters with what can't be seen written out, not all of many."""
-
-    def named(character):
-        if character in NAMES:
-            return f"<{NAMES[character]}>"
-        if character.isprintable() and not character.isspace():
-            return character
-        return f"<U+{ord(character):04X}>"
-
-    return "".join(named(character) for character in text[:SHOWN]) + (" .." if len(text) > SHOWN else "")
+    """The text with what can't be seen written out, blanks too, not all of a long one."""
+    named = "".join(f"<{NAMES[character]}>" if character in NAMES else character for character in text[:SHOWN])
+    return printable(named) + (" .." if len(text) > SHOWN else "")
 
 
 def visible(line):
@@ -66,13 +70,11 @@ def visible(line):
     return line.decode() if said_by(line) else seen(characters(line))
 
 
-# ---- what a well-formed line says
+# ---- what a well-formed line says: I an identifier, D a decimal number
 
-IDENTIFIER, DECIMAL = r"([0-9A-F]{8})", r"(0|[1-9][0-9]{0,4})"
-FORMS = [
-    (kind, re.compile(rf"{kind}\t" + r"\t".join(fields)))
-    for kind, fields in (("M", [IDENTIFIER]), ("S", [DECIMAL] * 2), ("R", [DECIMAL, IDENTIFIER] * 2))
-]
+KINDS = {"M": "I", "S": "DD", "R": "DIDI"}
+FIELD = {"I": r"([0-9A-F]{8})", "D": r"(0|[1-9][0-9]{0,4})"}
+LINES = {kind: re.compile(r"\t".join([kind, *(FIELD[field] for field in fields)])) for kind, fields in KINDS.items()}
 
 
 class Said(NamedTuple):
@@ -83,7 +85,7 @@ class Said(NamedTuple):
 def said_by(line):
     """What a well-formed line says, or None."""
     text = line.decode("latin-1")
-    for kind, form in FORMS:
+    for kind, form in LINES.items():
         if found := form.fullmatch(text):
             return Said(kind, found.groups())
     return None
