@@ -71,6 +71,8 @@ def example_books():
     assert read_book(contents("examples/truck.book"))[0] == ("ok", 14, 112, 16)
     printed = listing(contents("examples/truck.book"), contents("examples/frames.txt"))
     assert contents("examples/frames.listing") == printed.encode()
+    shown = re.findall(r"(?m)^    ([0-9A-F]{8}\t\d+\t\w+\t-?\d+)$", contents("README.md").decode())
+    assert shown and set(shown) <= set(printed.splitlines()), shown
 
 
 def books_of_the_page():

@@ -21,7 +21,8 @@ from the catalogue and from what the standard prints, and stops where the two do
 
 {lines}
 
-- **Signal**: table x 100 + row. 501 is row 1 of table 5.
+- **Signal**: table x 100 + row. 501 is row 1 of table 5. But in table 13 the two version rows are two signals each: 1301 and 1302
+  software, 1303 and 1304 hardware, 1305 year, 1306 month, 1307 day.
 - **Name in the standard**: as printed, with the Chinese name behind it. What it is, and its unit, are in English.
 - **Bits**: how many frame bits it takes. The number in them is its **raw count**.
 - **Codes**: every raw count that has a word, in decimal (the standard prints them in hexadecimal). **The number before a word is the
@@ -52,8 +53,8 @@ NOTES = """
 
 Names are as printed, slips and stray blanks included (`BMS_BattToalDCDCchgEny` in 404).
 
-- **201 to 203, 209, 210, 513, 515, 603 to 605, 701, 704, 1101 to 1103**: the printed range reaches 65535, which is printed as
-  invalid too. The mark wins.
+- **201 to 203, 209, 210, 513, 515, 603 to 605, 701, 704, 1101 to 1103**: the printed range reaches to raw count 65535,
+  which is printed as invalid too. The mark wins.
 - **203**: above 0 the pack is discharged, below 0 it is charged (5.1.3 of the standard).
 - **206**: 0 is high voltage on, 2 is off.
 - **206, 1806**: Current in these names means present; neither is a current.
@@ -65,12 +66,12 @@ Names are as printed, slips and stray blanks included (`BMS_BattToalDCDCchgEny` 
   printed formula gives 0 to 7.
 - **513 to 515**: Ex is outside the swap stations in 513 and 514, but 515 counts all swaps. 514 counts Ah, though its name ends in
   Eny like the energies of table 4.
-- **702 to 706, 904 to 907**: PackNum in these names is the number of a CSC, SnsNum that of a cell or a probe in it.
+- **702, 703, 705, 706, 904 to 907**: PackNum in these names is the number of a CSC, SnsNum that of a cell or a probe in it.
 - **703, 706, 904**: the printed unit is 箱, box, which is what is numbered; it is left out here. 706 numbers a cell, and no box.
 - **705, 706**: the printed offset is 1, so raw 0 reads as 1; 702 and 703 have offset 0. The order is another one too: 702 is the
   cell and 703 the CSC, 705 the CSC and 706 the cell.
 - **707 to 709**: printed with step 1, unit 0.1V and range `0~5`. The range is taken as volts: step 0.1 V, raw counts 0 to 50.
-- **710, 1701 to 1704**: no code is printed, so 65535 is a value, though 701 and 704 have it as invalid.
+- **403, 407, 408, 710, 1002, 1003, 1701 to 1704**: no code is printed, so 65535 is a value, though 701 and 704 have it as invalid.
 - **1104, 1105**: code 0 has no word and is within the printed range, so it is a value.
 - **1301 to 1304**: two rows of 16 bits are printed, with the range `0~65535`. Each half is a signal of 8 bits, with the raw counts
   0 to 254 and the code 255 of its own coding cell. 255 in 1302 or 1304 is a version without the part B, such as R001.
@@ -87,7 +88,8 @@ Names are as printed, slips and stray blanks included (`BMS_BattToalDCDCchgEny` 
 - **1802**: 0 requests high voltage on, and no code says that nothing is requested.
 - **1804**: `BMS_HVSts` sounds like high voltage; the Chinese name is that of the water cooling relay, and is followed here.
 - **1807**: 版本传感器 is a version sensor. Its own name and its codes are a liquid level (液位), and are followed here.
-- **1812**: the unit is printed Kw.
+- **1812**: the unit is printed Kw. `BTMS_ActPower` sounds like the present power; the Chinese name is that of the power wanted, and is
+  followed here.
 - **1922, 1923**: stand among the faults and are none: a state, and a count.
 """
 
