@@ -1,13 +1,17 @@
 /* touched: how much stack each call of the library writes to, from its return address down to the deepest byte, a line a call:
-   call, bytes. It is the second way to the figures of host/stack: each call runs on a stack of its own, filled with one byte
-   before, and what has another byte afterwards was written. The inputs are such that the deepest code runs.
-   touched N: pc_spread from the start of one chain of N routes, N from 1 to 64. */
+   call, bytes, how many of them were written below the stack pointer. It is the second way to the figures of host/stack: each
+   call runs on a stack of its own, filled with one byte before, and what has another byte afterwards was written. The processor
+   stops after each instruction, and what has changed below the stack pointer was written there. The inputs are such that the
+   deepest code runs. touched N: pc_spread from the start of one chain of N routes, N from 1 to 64. */
+#define _GNU_SOURCE
 #include "punnetcrest.h"
+#include <signal.h>
 #include <stdio.h>
 #include <stdlib.h>
 #include <string.h>
+#include <ucontext.h>
 
-enum { STACK = 65536 };
+enum { STACK = 65536, RED_ZONE = 128 };
 static uint8_t stack[STACK] __attribute__((aligned(64)));
 
 /* Every call goes through `enter`, which notes where its return address lies. */
@@ -18,8 +22,34 @@ __asm__(".text\nenter: movq %rsp, entry(%rip)\n\tjmp *target(%rip)\n");
 static void (*volatile through)(void) = enter;
 #define ENTER(call, ...) (target = (void (*)(void))call, ((__typeof__(&call))through)(__VA_ARGS__))
 
+/* After each instruction of a call. One that moves the stack pointer writes nothing below it. */
+static size_t below;
+static void after_a_step(int signal, siginfo_t *about, void *state) {
+    static uint8_t copy[RED_ZONE];
+    static const uint8_t *of;
+    const uint8_t *zone = (const uint8_t *)((ucontext_t *)state)->uc_mcontext.gregs[REG_RSP] - RED_ZONE;
+    int within = entry && zone + RED_ZONE <= entry;
+    (void)signal, (void)about;
+    for (size_t i = 0; within && zone == of && i < RED_ZONE - below; i++)
+        if (zone[i] != copy[i])
+            below = RED_ZONE - i;
+    of = within ? zone : NULL;
+    if (within)
+        memcpy(copy, zone, RED_ZONE);
+}
+
+static void watch_steps(void) {
+    static uint8_t room[65536];
+    stack_t aside = { .ss_sp = room, .ss_size = sizeof room };
+    struct sigaction action = { .sa_sigaction = after_a_step, .sa_flags = SA_SIGINFO | SA_ONSTACK };
+    sigaltstack(&aside, NULL);
+    sigaction(SIGTRAP, &action, NULL);
+}
+
+/* 0x100 is the flag by which the processor stops after each instruction. */
 static void on_the_stack(void (*call)(void)) {
-    __asm__ volatile("movq %%rsp, %%rbx\n\tmovq %0, %%rsp\n\tcall *%1\n\tmovq %%rbx, %%rsp"
+    __asm__ volatile("movq %%rsp, %%rbx\n\tmovq %0, %%rsp\n\tpushfq\n\torq $0x100, (%%rsp)\n\tpopfq\n\tcall *%1\n\t"
+                     "pushfq\n\tandq $~0x100, (%%rsp)\n\tpopfq\n\tmovq %%rbx, %%rsp"
                      :
                      : "r"(stack + STACK), "r"(call)
                      : "rax", "rbx", "rcx", "rdx", "rsi", "rdi", "r8", "r9", "r10", "r11", "xmm0", "xmm1", "xmm2", "xmm3", "xmm4", "xmm5", "xmm6",
@@ -29,9 +59,11 @@ static void on_the_stack(void (*call)(void)) {
 /* The most of two fillings, since what is written may be the byte that was there. */
 static size_t touched(void (*call)(void)) {
     size_t most = 0;
+    below = 0;
     for (int filling = 0x5A; filling <= 0xA5; filling += 0xA5 - 0x5A) {
         size_t lowest = 0, bytes;
         memset(stack, filling, STACK);
+        entry = NULL;
         on_the_stack(call);
         while (stack[lowest] == filling)
             lowest++;
@@ -90,7 +122,7 @@ static void make_text(int routes) {
 }
 
 static void say(const char *call, size_t bytes) {
-    printf("%s\t%u\n", call, (unsigned)bytes);
+    printf("%s\t%u\t%u\n", call, (unsigned)bytes, (unsigned)below);
     if (refusal) {
         fprintf(stderr, "touched: %s was refused: %u\n", call, (unsigned)refusal);
         exit(1);
@@ -99,6 +131,7 @@ static void say(const char *call, size_t bytes) {
 
 int main(int argc, char **argv) {
     make_text(argc > 1 ? atoi(argv[1]) : 1);
+    watch_steps();
     size_t by_book_read = touched(call_book_read);
     if (argc == 1) {
         say("pc_book_read", by_book_read);
