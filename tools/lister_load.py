@@ -1,6 +1,6 @@
 #!/usr/bin/env python3
 """A load for the frame lister: python3 tools/lister_load.py DIR writes DIR/book.txt, 10 messages with 6 signals each, and
-DIR/frames, 200,000 frame lines of these messages. The same bytes each time."""
+DIR/frames, 200,000 frame lines of these messages. The same bytes each time. It makes the folder where there is none."""
 
 import json
 import os
@@ -23,6 +23,7 @@ def message(rows):
 
 def main(folder):
     random.seed(7)
+    os.makedirs(folder, exist_ok=True)
     here = os.path.dirname(os.path.abspath(__file__))
     with open(os.path.join(here, "catalogue.json"), encoding="utf-8") as source:
         rows = [row for row in json.load(source) if row["bits"] in (8, 16)]
