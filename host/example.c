@@ -23,10 +23,16 @@ static const char stored_book[] = "M\t18FF21F3\n"
                                   "S\t502\t2\n"
                                   "S\t504\t56\n"
                                   "S\t503\t60\n"
+                                  "M\t18FF31EF\n"
+                                  "S\t501\t0\n"
+                                  "S\t502\t2\n"
+                                  "S\t504\t56\n"
+                                  "S\t503\t60\n"
                                   "R\t0\t18FFFAF3\t1\t18FFFAF3\n"
                                   "R\t0\t18FF21F3\t1\t18FF21F3\n"
                                   "R\t1\t18FF21F3\t2\t18FF21D0\n"
-                                  "R\t1\t18FF31D0\t0\t18FF31D0\n";
+                                  "R\t1\t18FF31D0\t0\t18FF31D0\n"
+                                  "R\t0\t18FF31D0\t2\t18FF31EF\n";
 
 /* The identifier that a Linux socket gives and takes (can_id of linux/can.h): flags above the identifier's own bits. */
 #define SOCKET_29_BITS 0x80000000u /* CAN_EFF_FLAG: an extended frame; without it the identifier has 11 bits */
@@ -91,30 +97,67 @@ static uint32_t first_of(uint32_t identifier) {
     return 0;
 }
 
-/* Reads a frame and keeps what it carries. */
-static uint32_t read_frame(uint32_t identifier, const uint8_t *bytes, size_t length) {
+/* A frame that came, and the counts that were read of it, none where it was refused. */
+struct came {
+    uint32_t identifier;
+    const uint8_t *bytes;
+    size_t length;
     uint32_t raws[PC_MOST_READINGS];
+    size_t count;
+    int has_checksum;
+};
+
+/* Reads a frame and keeps what it carries. */
+static uint32_t read_frame(struct came *frame) {
     uint8_t classes[PC_MOST_READINGS];
     int64_t thousandths[PC_MOST_READINGS];
-    size_t count;
-    uint32_t refusal = pc_frame_read(book, identifier, bytes, length, raws, PC_MOST_READINGS, classes, PC_MOST_READINGS,
-                                     thousandths, PC_MOST_READINGS, &count);
+    uint32_t refusal = pc_frame_read(book, frame->identifier, frame->bytes, frame->length, frame->raws, PC_MOST_READINGS,
+                                     classes, PC_MOST_READINGS, thousandths, PC_MOST_READINGS, &frame->count);
     if (refusal)
         return refusal;
-    for (size_t i = 0; i < count; i++) {
-        uint32_t number = book[PC_BOOK_NUMBERS + first_of(identifier) + i];
-        keep(number, raws[i]);
+    for (size_t i = 0; i < frame->count; i++) {
+        uint32_t number = book[PC_BOOK_NUMBERS + first_of(frame->identifier) + i];
+        keep(number, frame->raws[i]);
+        if (number == 503)
+            frame->has_checksum = 1;
         if (classes[i] == PC_VALUE)
             printf("%" PRIu32 " reads %" PRId64 "\n", number, thousandths[i]);
     }
     return PC_DONE;
 }
 
+/* Packs the counts of a frame under another identifier, for which the book has the same S lines. It is 25 too where that
+   message has as many signals, but others: they would be sent with counts that are not theirs. */
+static uint32_t pack_anew(const struct came *frame, uint32_t identifier, uint8_t *packed) {
+    uint32_t refusal = pc_frame_pack(book, identifier, frame->raws, frame->count, packed, PC_FRAME_BYTES);
+    const uint32_t *numbers = book + PC_BOOK_NUMBERS;
+    for (size_t i = 0; refusal == PC_DONE && i < frame->count; i++)
+        if (numbers[first_of(identifier) + i] != numbers[first_of(frame->identifier) + i])
+            refusal = PC_COUNT_OF_VALUES;
+    return refusal;
+}
+
+/* Hands a frame on to one place, as it came. The checksum 503 covers the identifier: a frame that carries it and gets another
+   identifier is packed anew, and where that is refused, it is counted and not sent there. */
+static void hand_on(const struct came *frame, uint32_t place) {
+    uint8_t packed[PC_FRAME_BYTES];
+    uint32_t refusal;
+    if (!frame->has_checksum || PC_IDENTIFIER(place) == frame->identifier) {
+        send_frame(place, frame->bytes, frame->length);
+        return;
+    }
+    refusal = pack_anew(frame, PC_IDENTIFIER(place), packed);
+    if (refusal)
+        count_refusal("pc_frame_pack", refusal);
+    else
+        send_frame(place, packed, sizeof packed);
+}
+
 /* The receive handler. It asks for the spread first, since a frame that can't be read may have routes all the same: a short
    one (21) is counted and handed on as it came, and one without a message in the book (22) is only handed on. Two refusals of
-   a reading stop the frame: a wrong checksum (23), and a book that is none (12), by which nothing is handed on.
-   No route here renames a frame that carries 503; such a one would have to be packed anew (docs/EMBEDDING.md). */
+   a reading stop the frame: a wrong checksum (23), and a book that is none (12), by which nothing is handed on. */
 static void on_receive(uint32_t bus, uint32_t identifier, const uint8_t *bytes, size_t length) {
+    struct came frame = { .identifier = identifier, .bytes = bytes, .length = length };
     uint32_t places[PC_MOST_ROUTES];
     size_t count;
     uint32_t refusal = pc_spread(book, bus, identifier, places, PC_MOST_ROUTES, &count);
@@ -122,13 +165,13 @@ static void on_receive(uint32_t bus, uint32_t identifier, const uint8_t *bytes, 
         count_refusal("pc_spread", refusal);
         return;
     }
-    refusal = read_frame(identifier, bytes, length);
+    refusal = read_frame(&frame);
     if (refusal != PC_DONE && refusal != PC_UNKNOWN_IDENTIFIER)
         count_refusal("pc_frame_read", refusal);
     if (refusal == PC_CHECKSUM || refusal == PC_NOT_A_BOOK)
         return;
     for (size_t i = 0; i < count; i++)
-        send_frame(places[i], bytes, length);
+        hand_on(&frame, places[i]);
 }
 
 /* What a socket gives. Only data frames with 29 bits go into the library, and without the flags. */
@@ -164,6 +207,7 @@ int main(void) {
     static const uint8_t relays[8] = { 0xD6, 0x70, 0x17, 0x00, 0x00, 0xFF, 0xFF, 0xFF };
     static const uint8_t locked[8] = { 0xF6, 0xFF, 0xFF, 0xFF, 0xFF, 0xFF, 0xFF, 0x65 };
     static const uint8_t spoilt[8] = { 0xF6, 0xFF, 0xFF, 0xFF, 0xFF, 0xFF, 0xFF, 0x75 };
+    static const uint8_t no_lock[8] = { 0xF4, 0xFF, 0xFF, 0xFF, 0xFF, 0xFF, 0xFF, 0x56 };
     if (read_book() != PC_DONE)
         return 1;
     pc_sleep_start(&last_wake, &asleep, 0);
@@ -171,8 +215,9 @@ int main(void) {
     on_socket(0, 0x98FF21F3, current, sizeof current); /* read, and handed on to two places */
     on_socket(0, 0x98FF21F3, current, 5);              /* 21: counted, and handed on as it came */
     on_socket(0, 0x98FFFAF3, current, sizeof current); /* 22: no message, handed on */
-    on_socket(1, 0x98FF31D0, locked, sizeof locked);   /* a checksum that is right */
+    on_socket(1, 0x98FF31D0, locked, sizeof locked);   /* a checksum that is right; packed anew where it is renamed */
     on_socket(1, 0x98FF31D0, spoilt, sizeof spoilt);   /* 23: counted, not handed on */
+    on_socket(1, 0x98FF31D0, no_lock, sizeof no_lock); /* 501 is reserved, which is not packed: 27 where it is renamed */
     on_socket(0, 0x00000123, current, sizeof current); /* an identifier of 11 bits */
     on_socket(0, 0xD8FF21F3, current, 0);              /* a remote frame */
     on_socket(0, 0x20000004, current, sizeof current); /* an error frame */
