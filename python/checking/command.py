@@ -21,7 +21,14 @@ those of several gateways on one truck: their R lines as one table, in the
 order of the files. Give it all the books of a truck at once, since books
 that are each right by themselves can loop together.
 
-A book of the name - is read from standard input. docs/BOOK.md has the format.
+This book has a message, a signal in it from frame bit 0 on, and a route from
+bus 0 to bus 1; one tab stands between fields (docs/BOOK.md has the rest):
+
+    M\t18FF21F3
+    S\t203\t0
+    R\t0\t18FF21F3\t1\t18FF21F3
+
+A book of the name - is read from standard input.
 
 Exit status: 0 taken; 1 refused; 2 a file is missing or can't be read, or the
 command was not understood; 3 the checker itself could not be built or run.
