@@ -2,7 +2,7 @@
 """Holds the papers against the tree: every definition, theorem, function and must-fail edit that they name is there, every link
 leads somewhere, and docs/PROMISES.md names every must-fail edit. What it lists as the working side is just what no promise rests on:
 the files of specs/ that no definition named there uses, however far down. And each public function has its law of one outcome, but
-for the parts of programs that it names. The header, CHANGELOG.md and README.md name one version.
+for the parts of programs that it names. The header, CHANGELOG.md and README.md name one version. The text that an edit changes is there.
 
 A reference is in backquotes: `crate: File name, name` (specs/ or proofs/), `crate: function()` (src/), `crate/edit` (must-fail/)."""
 
@@ -95,6 +95,14 @@ def without_law(promises):
                 yield f"{crate.name}::{name}: no law {law}, and docs/PROMISES.md does not name it as part of a program"
 
 
+def lost_edits():
+    """The must-fail edits whose first text does not stand just once in the file that they change, so that they would attack nothing."""
+    for edit in sorted(ROOT.glob("crates/*/must-fail/*.edit")):
+        file, old = (re.search(rf"(?m)^{word}: (.*)$", edit.read_text())[1] for word in ("file", "old"))
+        if (edit.parent.parent / file).read_text().count(old) != 1:
+            yield f"{edit.relative_to(ROOT)}: its first old: does not stand just once in {file}"
+
+
 def versions():
     """The versions that the header, the top of CHANGELOG.md and README.md name, where they are not one."""
     named = {
@@ -118,7 +126,7 @@ def main():
     for edit in sorted(ROOT.glob("crates/*/must-fail/*.edit")):
         if f"`{edit.parts[-3]}/{edit.stem}`" not in promises:
             faults.append(f"docs/PROMISES.md: {edit.parts[-3]}/{edit.stem} is not named")
-    faults += [*working_side(promises), *without_law(promises), *versions()]
+    faults += [*working_side(promises), *without_law(promises), *lost_edits(), *versions()]
     print("\n".join(faults) if faults else "papers: all that they name is there")
     sys.exit(bool(faults))
 
