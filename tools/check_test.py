@@ -7,6 +7,7 @@ on books as people break them; on what is no book at all; where the checker or i
 
 import os
 import re
+import shutil
 import subprocess
 import sys
 import tempfile
@@ -142,8 +143,11 @@ def no_books(folder):
 def no_checker(folder):
     """Without the kit, with output that nobody reads or nothing takes, or with an answer that is none: 1 comes from a verdict alone."""
     (folder / "good").write_text(GOOD)
-    path = [part for part in os.environ["PATH"].split(":") if not os.path.exists(f"{part}/rt")]
-    without = {name: value for name, value in os.environ.items() if name != "RATTLE_HOME"} | {"PATH": ":".join(path)}
+    path = folder / "without_rt"
+    path.mkdir()
+    for command in ("bash", "dirname", "find", "grep", "readlink", "uname"):
+        (path / command).symlink_to(shutil.which(command))
+    without = {name: value for name, value in os.environ.items() if name != "RATTLE_HOME"} | {"PATH": str(path)}
     status, printed, said = check(folder, "good", env=without)
     yield status == FAILED and not printed and "the Rattle kit is missing" in said and "no verdict" in said or f"{status} {printed}{said}"
     command = f"'{sys.executable}' -S '{ROOT}/check'"
