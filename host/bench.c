@@ -10,20 +10,20 @@
 #include <string.h>
 
 struct face {
-    uint32_t (*book_read)(const uint8_t *, size_t, uint32_t *, uint32_t *);
+    uint32_t (*book_read)(const uint8_t *, uint64_t, uint32_t *, uint32_t *);
     uint32_t (*class_of)(uint32_t, uint32_t, uint32_t *, int64_t *);
-    uint32_t (*frame_read)(const uint32_t *, uint32_t, const uint8_t *, size_t, uint32_t *, size_t, uint8_t *, size_t, int64_t *, size_t, size_t *);
-    uint32_t (*frame_pack)(const uint32_t *, uint32_t, const uint32_t *, size_t, uint8_t *, size_t);
-    uint32_t (*spread)(const uint32_t *, uint32_t, uint32_t, uint32_t *, size_t, size_t *);
-    uint32_t (*fault_sum)(const uint32_t *, size_t, uint32_t *);
-    uint32_t (*power_step)(uint32_t *, struct pc_observation);
+    uint32_t (*frame_read)(const uint32_t *, uint32_t, const uint8_t *, uint64_t, uint32_t *, uint64_t, uint8_t *, uint64_t, int64_t *, uint64_t, uint32_t *);
+    uint32_t (*frame_pack)(const uint32_t *, uint32_t, const uint32_t *, uint64_t, uint8_t *, uint64_t);
+    uint32_t (*spread)(const uint32_t *, uint32_t, uint32_t, uint32_t *, uint64_t, uint32_t *);
+    uint32_t (*fault_sum)(const uint32_t *, uint64_t, uint32_t *);
+    uint32_t (*power_step)(uint32_t *, const uint32_t *);
     uint32_t (*sleep_watch)(uint32_t *, uint32_t *, uint32_t, uint32_t);
 };
 
 static const struct face library = { pc_book_read, pc_class, pc_frame_read, pc_frame_pack, pc_spread, pc_fault_sum, pc_power_step, pc_sleep_watch };
 static const struct face plain = { plain_book_read, plain_class, plain_frame_read, plain_frame_pack, plain_spread, plain_fault_sum, plain_power_step, plain_sleep_watch };
 
-static uint32_t no_book_read(const uint8_t *a, size_t b, uint32_t *c, uint32_t *d) {
+static uint32_t no_book_read(const uint8_t *a, uint64_t b, uint32_t *c, uint32_t *d) {
     (void)a, (void)b, (void)c, (void)d;
     return 0;
 }
@@ -31,23 +31,23 @@ static uint32_t no_class(uint32_t a, uint32_t b, uint32_t *c, int64_t *d) {
     (void)a, (void)b, (void)c, (void)d;
     return 0;
 }
-static uint32_t no_frame_read(const uint32_t *a, uint32_t b, const uint8_t *c, size_t d, uint32_t *e, size_t f, uint8_t *g, size_t h, int64_t *i, size_t j, size_t *k) {
+static uint32_t no_frame_read(const uint32_t *a, uint32_t b, const uint8_t *c, uint64_t d, uint32_t *e, uint64_t f, uint8_t *g, uint64_t h, int64_t *i, uint64_t j, uint32_t *k) {
     (void)a, (void)b, (void)c, (void)d, (void)e, (void)f, (void)g, (void)h, (void)i, (void)j, (void)k;
     return 0;
 }
-static uint32_t no_frame_pack(const uint32_t *a, uint32_t b, const uint32_t *c, size_t d, uint8_t *e, size_t f) {
+static uint32_t no_frame_pack(const uint32_t *a, uint32_t b, const uint32_t *c, uint64_t d, uint8_t *e, uint64_t f) {
     (void)a, (void)b, (void)c, (void)d, (void)e, (void)f;
     return 0;
 }
-static uint32_t no_spread(const uint32_t *a, uint32_t b, uint32_t c, uint32_t *d, size_t e, size_t *f) {
+static uint32_t no_spread(const uint32_t *a, uint32_t b, uint32_t c, uint32_t *d, uint64_t e, uint32_t *f) {
     (void)a, (void)b, (void)c, (void)d, (void)e, (void)f;
     return 0;
 }
-static uint32_t no_fault_sum(const uint32_t *a, size_t b, uint32_t *c) {
+static uint32_t no_fault_sum(const uint32_t *a, uint64_t b, uint32_t *c) {
     (void)a, (void)b, (void)c;
     return 0;
 }
-static uint32_t no_power_step(uint32_t *a, struct pc_observation b) {
+static uint32_t no_power_step(uint32_t *a, const uint32_t *b) {
     (void)a, (void)b;
     return 0;
 }
@@ -81,11 +81,11 @@ static void make_book(uint32_t messages, uint32_t signals, uint32_t routes) {
 /* A book of one message of thirty relay and fault bits. */
 static void make_thirty_bits(void) {
     uint32_t line;
-    text.length = (size_t)sprintf((char *)text.bytes, "M\t18FF21F3\n");
+    text.length = (uint64_t)sprintf((char *)text.bytes, "M\t18FF21F3\n");
     for (int i = 0; i < 20; i++)
-        text.length += (size_t)sprintf((char *)text.bytes + text.length, "S\t%d\t%d\n", 310 + i, i);
+        text.length += (uint64_t)sprintf((char *)text.bytes + text.length, "S\t%d\t%d\n", 310 + i, i);
     for (int i = 0; i < 10; i++)
-        text.length += (size_t)sprintf((char *)text.bytes + text.length, "S\t%d\t%d\n", 1902 + i, 20 + 2 * i);
+        text.length += (uint64_t)sprintf((char *)text.bytes + text.length, "S\t%d\t%d\n", 1902 + i, 20 + 2 * i);
     plain_book_read(text.bytes, text.length, book, &line);
 }
 
@@ -94,13 +94,13 @@ static void make_refused(uint32_t last_from, uint32_t last_to, uint32_t refusal)
     uint32_t line;
     text.length = 0;
     for (uint32_t i = 0; i < 64; i++)
-        text.length += (size_t)sprintf((char *)text.bytes + text.length, "R\t0\t%08X\t0\t%08X\n", (unsigned)(i < 63 ? i : last_from), (unsigned)(i < 63 ? i + 1 : last_to));
+        text.length += (uint64_t)sprintf((char *)text.bytes + text.length, "R\t0\t%08X\t0\t%08X\n", (unsigned)(i < 63 ? i : last_from), (unsigned)(i < 63 ? i + 1 : last_to));
     if (plain_book_read(text.bytes, text.length, book, &line) != refusal)
         exit(3);
 }
 
 static uint32_t read_frame(const struct face *by) {
-    size_t count;
+    uint32_t count;
     return by->frame_read(book, message, frame, sizeof frame, raws, PC_MOST_READINGS, classes, PC_MOST_READINGS, thousandths, PC_MOST_READINGS, &count);
 }
 
@@ -180,7 +180,7 @@ static uint32_t call_frame_pack(uint32_t turn) {
 
 /* From the start of each route in turn. */
 static uint32_t call_spread(uint32_t turn) {
-    size_t count;
+    uint32_t count;
     uint32_t place = book[PC_BOOK_FROM + turn % book[PC_BOOK_ROUTES]];
     return face->spread(book, PC_BUS(place), PC_IDENTIFIER(place), places, PC_MOST_ROUTES, &count);
 }
@@ -196,7 +196,7 @@ static uint32_t call_power_step(uint32_t turn) {
     static uint32_t state;
     static const uint8_t walk[7][4] = { { 1, 1, 1, 1 }, { 2, 1, 1, 1 }, { 2, 2, 1, 1 }, { 2, 2, 2, 1 }, { 2, 1, 2, 1 }, { 2, 1, 1, 2 }, { 1, 1, 1, 2 } };
     const uint8_t *now = walk[turn / 2 % 7];
-    struct pc_observation seen = { now[0], now[1], now[2], now[3], 0, 20000, 6000, 5900 };
+    const uint32_t seen[PC_POWER_WORDS] = { now[0], now[1], now[2], now[3], 0, 20000, 6000, 5900 };
     return face->power_step(&state, seen);
 }
 

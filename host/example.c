@@ -41,9 +41,9 @@ static const char stored_book[] = "M\t18FF21F3\n"
 #define SOCKET_IDENTIFIER 0x1FFFFFFFu
 
 /* Every frame of the library is an extended one, so the flag is put back. */
-static void send_frame(uint32_t place, const uint8_t *bytes, size_t length) {
+static void send_frame(uint32_t place, const uint8_t *bytes, uint32_t length) {
     printf("send on socket %" PRIu32 ": %08" PRIX32 " ", PC_BUS(place), PC_IDENTIFIER(place) | SOCKET_29_BITS);
-    for (size_t i = 0; i < length; i++)
+    for (uint32_t i = 0; i < length; i++)
         printf("%02X", bytes[i]);
     printf("\n");
 }
@@ -51,7 +51,7 @@ static void send_frame(uint32_t place, const uint8_t *bytes, size_t length) {
 /* ---- The gateway's state: the book in force, what was last seen, and the two monitors. */
 
 static uint32_t books[2][PC_BOOK_WORDS], *book = books[0], damaged;
-static struct pc_observation seen = { 1, 1, 1, 0, 0, 20000, 0, 0 };
+static uint32_t seen[PC_POWER_WORDS] = { 1, 1, 1, 0, 0, 20000, 0, 0 }; /* all relays open, 0 A, 0 V */
 static uint32_t power = PC_POWER_START, last_wake, asleep;
 
 /* Counts a refusal; 12 says that the book's memory was damaged, and the main loop reads the text again. */
@@ -80,12 +80,12 @@ static uint32_t read_book(void) {
    of the readings. */
 static void keep(uint32_t number, uint32_t raw) {
     switch (number) {
-    case 201: seen.inside = raw; break;
-    case 202: seen.outside = raw; break;
-    case 203: seen.current = raw; break;
-    case 301: seen.main_positive = raw; break;
-    case 302: seen.main_negative = raw; break;
-    case 303: seen.precharge = raw; break;
+    case 201: seen[PC_SEEN_INSIDE] = raw; break;
+    case 202: seen[PC_SEEN_OUTSIDE] = raw; break;
+    case 203: seen[PC_SEEN_CURRENT] = raw; break;
+    case 301: seen[PC_SEEN_MAIN_POSITIVE] = raw; break;
+    case 302: seen[PC_SEEN_MAIN_NEGATIVE] = raw; break;
+    case 303: seen[PC_SEEN_PRECHARGE] = raw; break;
     }
 }
 
@@ -101,9 +101,9 @@ static uint32_t first_of(uint32_t identifier) {
 struct came {
     uint32_t identifier;
     const uint8_t *bytes;
-    size_t length;
+    uint32_t length;
     uint32_t raws[PC_MOST_READINGS];
-    size_t count;
+    uint32_t count;
     int has_checksum;
 };
 
@@ -115,7 +115,7 @@ static uint32_t read_frame(struct came *frame) {
                                      classes, PC_MOST_READINGS, thousandths, PC_MOST_READINGS, &frame->count);
     if (refusal)
         return refusal;
-    for (size_t i = 0; i < frame->count; i++) {
+    for (uint32_t i = 0; i < frame->count; i++) {
         uint32_t number = book[PC_BOOK_NUMBERS + first_of(frame->identifier) + i];
         keep(number, frame->raws[i]);
         if (number == 503)
@@ -131,7 +131,7 @@ static uint32_t read_frame(struct came *frame) {
 static uint32_t pack_anew(const struct came *frame, uint32_t identifier, uint8_t *packed) {
     uint32_t refusal = pc_frame_pack(book, identifier, frame->raws, frame->count, packed, PC_FRAME_BYTES);
     const uint32_t *numbers = book + PC_BOOK_NUMBERS;
-    for (size_t i = 0; refusal == PC_DONE && i < frame->count; i++)
+    for (uint32_t i = 0; refusal == PC_DONE && i < frame->count; i++)
         if (numbers[first_of(identifier) + i] != numbers[first_of(frame->identifier) + i])
             refusal = PC_COUNT_OF_VALUES;
     return refusal;
@@ -156,10 +156,9 @@ static void hand_on(const struct came *frame, uint32_t place) {
 /* The receive handler. It asks for the spread first, since a frame that can't be read may have routes all the same: a short
    one (21) is counted and handed on as it came, and one without a message in the book (22) is only handed on. Two refusals of
    a reading stop the frame: a wrong checksum (23), and a book that is none (12), by which nothing is handed on. */
-static void on_receive(uint32_t bus, uint32_t identifier, const uint8_t *bytes, size_t length) {
-    struct came frame = { .identifier = identifier, .bytes = bytes, .length = length };
-    uint32_t places[PC_MOST_ROUTES];
-    size_t count;
+static void on_receive(uint32_t bus, uint32_t identifier, const uint8_t *bytes, uint32_t length) {
+    struct came frame = { identifier, bytes, length, { 0 }, 0, 0 };
+    uint32_t places[PC_MOST_ROUTES], count;
     uint32_t refusal = pc_spread(book, bus, identifier, places, PC_MOST_ROUTES, &count);
     if (refusal) {
         count_refusal("pc_spread", refusal);
@@ -170,12 +169,12 @@ static void on_receive(uint32_t bus, uint32_t identifier, const uint8_t *bytes, 
         count_refusal("pc_frame_read", refusal);
     if (refusal == PC_CHECKSUM || refusal == PC_NOT_A_BOOK)
         return;
-    for (size_t i = 0; i < count; i++)
+    for (uint32_t i = 0; i < count; i++)
         hand_on(&frame, places[i]);
 }
 
 /* What a socket gives. Only data frames with 29 bits go into the library, and without the flags. */
-static void on_socket(uint32_t bus, uint32_t socket_identifier, const uint8_t *bytes, size_t length) {
+static void on_socket(uint32_t bus, uint32_t socket_identifier, const uint8_t *bytes, uint32_t length) {
     uint32_t flags = socket_identifier & (SOCKET_29_BITS | SOCKET_REMOTE | SOCKET_ERROR);
     if (flags == SOCKET_29_BITS)
         on_receive(bus, socket_identifier & SOCKET_IDENTIFIER, bytes, length);
@@ -223,7 +222,7 @@ int main(void) {
     on_socket(0, 0x20000004, current, sizeof current); /* an error frame */
     turn(10, 1);
 
-    seen.command = 1;
+    seen[PC_SEEN_COMMAND] = 1;
     on_socket(0, 0x98FF22F3, relays, sizeof relays);   /* read, no route */
     turn(20, 0);
 

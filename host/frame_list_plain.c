@@ -101,7 +101,8 @@ static void list_line(const uint8_t *line, size_t length) {
     uint32_t identifier, raws[PC_MOST_READINGS];
     uint8_t frame[8], classes[PC_MOST_READINGS];
     int64_t thousandths[PC_MOST_READINGS];
-    size_t bytes, count;
+    size_t bytes;
+    uint32_t count;
     if (!parse(line, length, &identifier, frame, &bytes)) {
         put_refusal(FRAME_LINE_ILL_FORMED);
         return;
@@ -115,7 +116,7 @@ static void list_line(const uint8_t *line, size_t length) {
     if (count == 0)
         return;
     uint32_t first = first_signal(identifier);
-    for (size_t i = 0; i < count; i++)
+    for (uint32_t i = 0; i < count; i++)
         list_reading(line, book[PC_BOOK_NUMBERS + first + i], raws[i], classes[i], thousandths[i]);
 }
 

@@ -161,7 +161,7 @@ static uint32_t refuse(uint32_t refusal, uint32_t at, uint32_t book[PC_BOOK_WORD
     return refusal;
 }
 
-uint32_t plain_book_read(const uint8_t *text, size_t text_length, uint32_t book[PC_BOOK_WORDS], uint32_t *line) {
+uint32_t plain_book_read(const uint8_t *text, uint64_t text_length, uint32_t book[PC_BOOK_WORDS], uint32_t *line) {
     struct reading r = { .book = book, .placed = 0 };
     uint32_t number = 0, lowest, refusal;
     memset(book, 0, PC_BOOK_WORDS * sizeof *book);

@@ -48,8 +48,8 @@ static int places_checksum(const uint32_t book[PC_BOOK_WORDS], uint32_t first, u
 }
 
 uint32_t plain_frame_read_tested(const uint32_t book[PC_BOOK_WORDS], uint32_t identifier, const uint8_t *frame,
-                                 size_t frame_length, uint32_t *raws, uint8_t *classes, int64_t *thousandths, size_t room,
-                                 size_t *count) {
+                                 uint64_t frame_length, uint32_t *raws, uint8_t *classes, int64_t *thousandths, uint64_t room,
+                                 uint32_t *count) {
     uint32_t first, end;
     if (frame_length != PC_FRAME_BYTES)
         return PC_NOT_EIGHT_BYTES;
@@ -72,10 +72,10 @@ uint32_t plain_frame_read_tested(const uint32_t book[PC_BOOK_WORDS], uint32_t id
     return PC_DONE;
 }
 
-uint32_t plain_frame_read(const uint32_t book[PC_BOOK_WORDS], uint32_t identifier, const uint8_t *frame, size_t frame_length,
-                          uint32_t *raws, size_t raws_length, uint8_t *classes, size_t classes_length,
-                          int64_t *thousandths, size_t thousandths_length, size_t *count) {
-    size_t room = raws_length;
+uint32_t plain_frame_read(const uint32_t book[PC_BOOK_WORDS], uint32_t identifier, const uint8_t *frame, uint64_t frame_length,
+                          uint32_t *raws, uint64_t raws_length, uint8_t *classes, uint64_t classes_length,
+                          int64_t *thousandths, uint64_t thousandths_length, uint32_t *count) {
+    uint64_t room = raws_length;
     if (classes_length < room)
         room = classes_length;
     if (thousandths_length < room)
@@ -86,7 +86,7 @@ uint32_t plain_frame_read(const uint32_t book[PC_BOOK_WORDS], uint32_t identifie
 }
 
 uint32_t plain_frame_pack(const uint32_t book[PC_BOOK_WORDS], uint32_t identifier, const uint32_t *values,
-                          size_t values_length, uint8_t *frame, size_t frame_length) {
+                          uint64_t values_length, uint8_t *frame, uint64_t frame_length) {
     uint32_t first, end;
     uint64_t word = ~(uint64_t)0;
     if (!plain_messages_taken(book))

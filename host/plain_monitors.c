@@ -17,7 +17,7 @@ static uint32_t largest(unsigned row) {
     return row <= 14 || row == 25 ? 3 : row == 23 ? 31 : 1;
 }
 
-uint32_t plain_fault_sum(const uint32_t *counts, size_t counts_length, uint32_t sum[PC_FAULT_WORDS]) {
+uint32_t plain_fault_sum(const uint32_t *counts, uint64_t counts_length, uint32_t sum[PC_FAULT_WORDS]) {
     uint32_t highest = 0, standing[4] = { 0, 0, 0, 0 }, set = 0;
     if (counts_length != FAULTS)
         return PC_NOT_27_FAULTS;
@@ -53,11 +53,11 @@ static int open_or_closed(uint32_t relay) {
     return relay == OPEN || relay == CLOSED;
 }
 
-static int shows(const struct pc_observation *seen, uint32_t main_negative, uint32_t precharge, uint32_t main_positive) {
-    return seen->main_negative == main_negative && seen->precharge == precharge && seen->main_positive == main_positive;
+static int shows(const uint32_t *seen, uint32_t main_negative, uint32_t precharge, uint32_t main_positive) {
+    return seen[PC_SEEN_MAIN_NEGATIVE] == main_negative && seen[PC_SEEN_PRECHARGE] == precharge && seen[PC_SEEN_MAIN_POSITIVE] == main_positive;
 }
 
-static int shows_picture_of(uint32_t state, const struct pc_observation *seen) {
+static int shows_picture_of(uint32_t state, const uint32_t *seen) {
     switch (state) {
     case PC_POWER_OFF:
         return shows(seen, OPEN, OPEN, OPEN);
@@ -75,18 +75,18 @@ static int shows_picture_of(uint32_t state, const struct pc_observation *seen) {
     }
 }
 
-static int precharge_complete(const struct pc_observation *seen) {
-    return seen->inside != INVALID_VOLTAGE && seen->outside != INVALID_VOLTAGE && seen->inside > 0 &&
-           100 * seen->outside >= 95 * seen->inside;
+static int precharge_complete(const uint32_t *seen) {
+    uint32_t inside = seen[PC_SEEN_INSIDE], outside = seen[PC_SEEN_OUTSIDE];
+    return inside != INVALID_VOLTAGE && outside != INVALID_VOLTAGE && inside > 0 && 100 * outside >= 95 * inside;
 }
 
-static int under_10_amps(const struct pc_observation *seen) {
-    return seen->current >= 19901 && seen->current <= 20099;
+static int under_10_amps(const uint32_t *seen) {
+    return seen[PC_SEEN_CURRENT] >= 19901 && seen[PC_SEEN_CURRENT] <= 20099;
 }
 
 /* Rules 3 to 5: the step to a state that shows, where it is allowed; else fault. */
-static uint32_t step_from(uint32_t state, const struct pc_observation *seen, int urgent) {
-    int up = seen->command == UP, down = seen->command == DOWN;
+static uint32_t step_from(uint32_t state, const uint32_t *seen, int urgent) {
+    int up = seen[PC_SEEN_COMMAND] == UP, down = seen[PC_SEEN_COMMAND] == DOWN;
     switch (state) {
     case PC_POWER_OFF:
         if (up && shows_picture_of(PC_POWER_RISING, seen))
@@ -120,11 +120,12 @@ static uint32_t step_from(uint32_t state, const struct pc_observation *seen, int
     return PC_POWER_FAULT;
 }
 
-static uint32_t next_state(uint32_t state, const struct pc_observation *seen) {
-    int urgent = seen->command == URGENT_DOWN || seen->emergency_off == 1;
+static uint32_t next_state(uint32_t state, const uint32_t *seen) {
+    uint32_t command = seen[PC_SEEN_COMMAND];
+    int urgent = command == URGENT_DOWN || seen[PC_SEEN_EMERGENCY_OFF] == 1;
     int all_open = shows(seen, OPEN, OPEN, OPEN);
     if (state == PC_POWER_FAULT)
-        return all_open && (seen->command == 0 || seen->command == DOWN) ? PC_POWER_OFF : PC_POWER_FAULT;
+        return all_open && (command == 0 || command == DOWN) ? PC_POWER_OFF : PC_POWER_FAULT;
     if (shows_picture_of(state, seen))
         return state;
     if (urgent && all_open)
@@ -132,16 +133,16 @@ static uint32_t next_state(uint32_t state, const struct pc_observation *seen) {
     return step_from(state, seen, urgent);
 }
 
-uint32_t plain_power_step(uint32_t *state, struct pc_observation seen) {
+uint32_t plain_power_step(uint32_t *state, const uint32_t seen[PC_POWER_WORDS]) {
     if (*state > PC_POWER_FAULT)
         return PC_NOT_A_POWER_STATE;
-    if (!open_or_closed(seen.main_negative) || !open_or_closed(seen.precharge) || !open_or_closed(seen.main_positive))
+    if (!open_or_closed(seen[PC_SEEN_MAIN_NEGATIVE]) || !open_or_closed(seen[PC_SEEN_PRECHARGE]) || !open_or_closed(seen[PC_SEEN_MAIN_POSITIVE]))
         return PC_RELAY_COUNT;
-    if (seen.command > 3 || seen.emergency_off > 3)
+    if (seen[PC_SEEN_COMMAND] > 3 || seen[PC_SEEN_EMERGENCY_OFF] > 3)
         return PC_COMMAND_COUNT;
-    if (seen.current > 65535 || seen.inside > 65535 || seen.outside > 65535)
+    if (seen[PC_SEEN_CURRENT] > 65535 || seen[PC_SEEN_INSIDE] > 65535 || seen[PC_SEEN_OUTSIDE] > 65535)
         return PC_READING_COUNT;
-    *state = next_state(*state, &seen);
+    *state = next_state(*state, seen);
     return PC_DONE;
 }
 

@@ -79,7 +79,7 @@ static uint32_t spread_from(const uint32_t book[PC_BOOK_WORDS], uint32_t place, 
 }
 
 uint32_t plain_spread(const uint32_t book[PC_BOOK_WORDS], uint32_t bus, uint32_t identifier, uint32_t *places,
-                      size_t places_length, size_t *count) {
+                      uint64_t places_length, uint32_t *count) {
     uint32_t spread[PC_MOST_ROUTES];
     if (!routes_taken(book))
         return PC_NOT_A_BOOK;

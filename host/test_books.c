@@ -96,11 +96,11 @@ void meet_count(const uint32_t book[PC_BOOK_WORDS], uint32_t count, uint32_t ref
 /* Gives the refusal, and how many places there are. */
 static uint32_t compare_spread(const uint32_t book[PC_BOOK_WORDS], uint32_t bus, uint32_t identifier, uint32_t room, uint32_t *found) {
     begin_case(SPREAD);
-    struct lent *b = lend("book", book, sizeof good), *places = lend("places", 0, 4 * room), *count = lend("count", 0, sizeof(size_t));
-    uint32_t library = pc_spread(L(b, uint32_t), bus, identifier, L(places, uint32_t), room, L(count, size_t));
-    uint32_t plain = plain_spread(P(b, uint32_t), bus, identifier, P(places, uint32_t), room, P(count, size_t));
+    struct lent *b = lend("book", book, sizeof good), *places = lend("places", 0, 4 * room), *count = lend("count", 0, 4);
+    uint32_t library = pc_spread(L(b, uint32_t), bus, identifier, L(places, uint32_t), room, L(count, uint32_t));
+    uint32_t plain = plain_spread(P(b, uint32_t), bus, identifier, P(places, uint32_t), room, P(count, uint32_t));
     judge(library, plain, 1);
-    *found = (uint32_t)*P(count, size_t);
+    *found = *P(count, uint32_t);
     return plain;
 }
 

@@ -88,11 +88,11 @@ static uint32_t compare_frame_read(const uint32_t book[PC_BOOK_WORDS], uint32_t 
     begin_case(FRAME_READ);
     struct lent *b = lend("book", book, 4 * PC_BOOK_WORDS), *frame = lend("frame", bytes, length);
     struct lent *raws = lend("raws", 0, 4 * rooms[0]), *classes = lend("classes", 0, rooms[1]);
-    struct lent *thousandths = lend("thousandths", 0, 8 * rooms[2]), *count = lend("count", 0, sizeof(size_t));
+    struct lent *thousandths = lend("thousandths", 0, 8 * rooms[2]), *count = lend("count", 0, 4);
     uint32_t library = pc_frame_read(L(b, uint32_t), identifier, L(frame, uint8_t), length, L(raws, uint32_t), rooms[0], L(classes, uint8_t),
-                                     rooms[1], L(thousandths, int64_t), rooms[2], L(count, size_t));
+                                     rooms[1], L(thousandths, int64_t), rooms[2], L(count, uint32_t));
     uint32_t plain = plain_frame_read(P(b, uint32_t), identifier, P(frame, uint8_t), length, P(raws, uint32_t), rooms[0], P(classes, uint8_t),
-                                      rooms[1], P(thousandths, int64_t), rooms[2], P(count, size_t));
+                                      rooms[1], P(thousandths, int64_t), rooms[2], P(count, uint32_t));
     judge(library, plain, 2);
     return plain;
 }

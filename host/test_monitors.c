@@ -42,7 +42,7 @@ void try_fault_sum(void) {
         meet_agreement(counts);
 }
 
-/* ---- The power step, of which every input is a number. */
+/* ---- The power step, of which every input is a number: the state, then what was seen, in the header's order. */
 
 enum { STATE, NEGATIVE, PRECHARGE, POSITIVE, COMMAND, EMERGENCY_OFF, CURRENT, INSIDE, OUTSIDE, INPUTS };
 enum { OPEN = 1, CLOSED = 2, UP = 1, DOWN = 2, INVALID = 65535 };
@@ -140,14 +140,11 @@ void try_power_step(void) {
         uint32_t i = below(INPUTS);
         inputs[i] = once_in(2) ? limits[i].around[below(4)] : any_number();
     }
-    const struct pc_observation seen = {
-        inputs[NEGATIVE], inputs[PRECHARGE], inputs[POSITIVE], inputs[COMMAND], inputs[EMERGENCY_OFF], inputs[CURRENT], inputs[INSIDE], inputs[OUTSIDE],
-    };
     begin_case(POWER_STEP);
-    struct lent *state = lend("state", &inputs[STATE], 4);
-    uint32_t library = pc_power_step(L(state, uint32_t), seen);
-    uint32_t plain = plain_power_step(P(state, uint32_t), seen);
-    judge(library, plain, 0);
+    struct lent *seen = lend("seen", &inputs[NEGATIVE], 4 * PC_POWER_WORDS), *state = lend("state", &inputs[STATE], 4);
+    uint32_t library = pc_power_step(L(state, uint32_t), L(seen, uint32_t));
+    uint32_t plain = plain_power_step(P(state, uint32_t), P(seen, uint32_t));
+    judge(library, plain, 1);
     meet_inputs(inputs);
 }
 

@@ -80,8 +80,9 @@ static uint32_t book[PC_BOOK_WORDS], line, refusal, class_code, values[4] = { 19
 static uint32_t raws[PC_MOST_READINGS], places[PC_MOST_ROUTES], counts[27], sum[PC_FAULT_WORDS], power, last_wake, asleep;
 static uint8_t frame[PC_FRAME_BYTES], classes[PC_MOST_READINGS];
 static int64_t thousandths[PC_MOST_READINGS];
-static size_t count;
-static struct pc_observation seen;
+static uint32_t count;
+/* From precharge to both: the step with the most tests. */
+static const uint32_t seen[PC_POWER_WORDS] = { 2, 2, 2, 1, 0, 20000, 6000, 5900 };
 
 static void call_book_read(void) {
     refusal = ENTER(pc_book_read, (const uint8_t *)text, strlen(text), book, &line);
@@ -98,10 +99,8 @@ static void call_frame_pack(void) {
 static void call_frame_read(void) {
     refusal = ENTER(pc_frame_read, book, 0x18FF21F3, frame, sizeof frame, raws, PC_MOST_READINGS, classes, PC_MOST_READINGS, thousandths, PC_MOST_READINGS, &count);
 }
-/* From precharge to both: the step with the most tests. */
 static void call_power_step(void) {
     power = PC_POWER_PRECHARGE;
-    seen = (struct pc_observation){ 2, 2, 2, 1, 0, 20000, 6000, 5900 };
     refusal = ENTER(pc_power_step, &power, seen);
 }
 static void call_sleep_start(void) {

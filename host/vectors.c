@@ -68,14 +68,14 @@ static void catalogue_case(void) {
 
 static void print_spread(uint32_t bus, uint32_t identifier, uint32_t room, const char *word) {
     uint32_t places[256];
-    size_t count;
+    uint32_t count;
     uint32_t refusal = FACE(spread)(book, bus, identifier, places, room, &count);
     if (refusal) {
         print_refusal(refusal);
         return;
     }
-    printf("%s\t%zu", word, count);
-    for (size_t i = 0; i < count; i++)
+    printf("%s\t%" PRIu32, word, count);
+    for (uint32_t i = 0; i < count; i++)
         printf("\t%08" PRIX32, places[i]);
     printf("\n");
 }
@@ -113,7 +113,7 @@ static void book_case(void) {
 
 static void read_case(void) {
     uint32_t identifier = hex(8), room = hex(2), bytes = hex(2), raws[256];
-    size_t count;
+    uint32_t count;
     uint8_t frame[256], classes[256];
     int64_t thousandths[256];
     for (uint32_t i = 0; i < bytes; i++)
@@ -124,8 +124,8 @@ static void read_case(void) {
         print_refusal(refusal);
         return;
     }
-    printf("read\t%zu", count);
-    for (size_t i = 0; i < count; i++)
+    printf("read\t%" PRIu32, count);
+    for (uint32_t i = 0; i < count; i++)
         printf("\t%" PRIu32 "\t%s\t%" PRId64, raws[i], class_words[classes[i]], thousandths[i]);
     printf("\n");
 }
@@ -214,15 +214,9 @@ static void power_case(void) {
         at++;
     else
         state = hex(1);
-    struct pc_observation seen;
-    seen.main_negative = hex(8);
-    seen.precharge = hex(8);
-    seen.main_positive = hex(8);
-    seen.command = hex(8);
-    seen.emergency_off = hex(8);
-    seen.current = hex(8);
-    seen.inside = hex(8);
-    seen.outside = hex(8);
+    uint32_t seen[PC_POWER_WORDS];
+    for (int i = 0; i < PC_POWER_WORDS; i++)
+        seen[i] = hex(8);
     end_of_line();
     uint32_t refusal = FACE(power_step)(&state, seen);
     if (refusal)

@@ -1,4 +1,4 @@
-/* Punnetcrest: route books, frames and monitors of a pack gateway. Link with libpunnetcrest.a (`rt staticlib punnetcrest`).
+/* Punnetcrest: route books, frames and monitors of a pack gateway. Link with libpunnetcrest.a (host/build).
 
    Every call returns a refusal number, 0 where it did what was asked. A refused call leaves everything lent to it as it
    was, with one exception: pc_book_read empties the book and gives the line. A call that is not refused writes what its
@@ -6,15 +6,17 @@
 
    The library has no memory of its own, takes none, and does no input or output: any number of threads may call it, each on
    memory that nobody else writes meanwhile. Every pointer points to the stated number of entries, is aligned for them and
-   is not null, also where the length is 0. What a call may write overlaps nothing else that it is lent. */
+   is not null, also where the length is 0. What a call may write overlaps nothing else that it is lent.
+
+   One header for every processor (host/build lists them). A length is 64 bits on each of them, whatever size_t has there; what
+   a call counts, and every other number, is 32 bits but for thousandths. No call takes or returns a struct. */
 #ifndef PUNNETCREST_H
 #define PUNNETCREST_H
 
-#include <stddef.h>
 #include <stdint.h>
 
 /* The version of the library. CHANGELOG.md says what each version asks of callers. */
-#define PC_VERSION "0.1.0"
+#define PC_VERSION "0.2.0"
 
 #ifdef __cplusplus
 extern "C" {
@@ -88,7 +90,7 @@ enum {
 
 /* Reads a book's text. Refusals 1 to 11: the book is then empty, every word 0, and *line is the line at fault, 0 for 1.
    Otherwise the book holds the text's tables and *line is 0. Whatever the book and *line held before is lost. */
-uint32_t pc_book_read(const uint8_t *text, size_t text_length, uint32_t book[PC_BOOK_WORDS], uint32_t *line);
+uint32_t pc_book_read(const uint8_t *text, uint64_t text_length, uint32_t book[PC_BOOK_WORDS], uint32_t *line);
 
 /* Classes one raw count of the signal with that number: *class_code is one of enum pc_class_code, *thousandths the
    reading of a value and 0 for any other class. Refusals 3 (no such signal), 26. */
@@ -97,20 +99,20 @@ uint32_t pc_class(uint32_t number, uint32_t raw, uint32_t *class_code, int64_t *
 /* Reads a frame: for each signal of the message, in the book's order, its raw count, its class (enum pc_class_code) and
    its thousandths, 0 where the class is no value. *count is how many there are. Refusals 12, 21, 22, 23, 24, where the room
    is the least of the three lengths; PC_MOST_READINGS is always enough. */
-uint32_t pc_frame_read(const uint32_t book[PC_BOOK_WORDS], uint32_t identifier, const uint8_t *frame, size_t frame_length,
-                       uint32_t *raws, size_t raws_length, uint8_t *classes, size_t classes_length,
-                       int64_t *thousandths, size_t thousandths_length, size_t *count);
+uint32_t pc_frame_read(const uint32_t book[PC_BOOK_WORDS], uint32_t identifier, const uint8_t *frame, uint64_t frame_length,
+                       uint32_t *raws, uint64_t raws_length, uint8_t *classes, uint64_t classes_length,
+                       int64_t *thousandths, uint64_t thousandths_length, uint32_t *count);
 
 /* Packs a frame from one raw count for each signal of the message, in the book's order. Bits of no signal are 1; 503 is
    filled in, and the value given for it ignored. Refusals 12, 22, 25, 21 (frame_length is not 8), then by the first bad
    value 26 or 27. */
-uint32_t pc_frame_pack(const uint32_t book[PC_BOOK_WORDS], uint32_t identifier, const uint32_t *values, size_t values_length,
-                       uint8_t *frame, size_t frame_length);
+uint32_t pc_frame_pack(const uint32_t book[PC_BOOK_WORDS], uint32_t identifier, const uint32_t *values, uint64_t values_length,
+                       uint8_t *frame, uint64_t frame_length);
 
 /* Gives every place that a frame from this place reaches, in the order of the spread; *count is how many, at most
    PC_MOST_ROUTES. Refusals 12, 61, 62. */
 uint32_t pc_spread(const uint32_t book[PC_BOOK_WORDS], uint32_t bus, uint32_t identifier, uint32_t *places,
-                   size_t places_length, size_t *count);
+                   uint64_t places_length, uint32_t *count);
 
 /* The fault sum over the raw counts of 1901 to 1927, in this order. Refusals 31, 32. */
 enum {
@@ -123,7 +125,7 @@ enum {
     PC_FAULT_AGREES = 6,          /* 1 if 1901 is the highest level, else 0 */
     PC_FAULT_WORDS = 7
 };
-uint32_t pc_fault_sum(const uint32_t *counts, size_t counts_length, uint32_t sum[PC_FAULT_WORDS]);
+uint32_t pc_fault_sum(const uint32_t *counts, uint64_t counts_length, uint32_t sum[PC_FAULT_WORDS]);
 
 /* The power monitor. Its state is one number, kept by the caller, who sets it to PC_POWER_START at first. An observation
    moves it as QC/T 1201.5-2023, 5.4.2, asks. Refusals 91, 41, 42, 43. */
@@ -137,17 +139,18 @@ enum pc_power {
     PC_POWER_FAULT = 6,
     PC_POWER_START = PC_POWER_OFF /* a new monitor's */
 };
-struct pc_observation {           /* raw counts */
-    uint32_t main_negative;       /* 302: 1 open, 2 closed */
-    uint32_t precharge;           /* 303 */
-    uint32_t main_positive;       /* 301 */
-    uint32_t command;             /* 1601 */
-    uint32_t emergency_off;       /* 1604 */
-    uint32_t current;             /* 203 */
-    uint32_t inside;              /* 201 */
-    uint32_t outside;             /* 202 */
+enum {                            /* what an observation has, as raw counts: where each of them stands */
+    PC_SEEN_MAIN_NEGATIVE = 0,    /* 302: 1 open, 2 closed */
+    PC_SEEN_PRECHARGE = 1,        /* 303 */
+    PC_SEEN_MAIN_POSITIVE = 2,    /* 301 */
+    PC_SEEN_COMMAND = 3,          /* 1601 */
+    PC_SEEN_EMERGENCY_OFF = 4,    /* 1604 */
+    PC_SEEN_CURRENT = 5,          /* 203 */
+    PC_SEEN_INSIDE = 6,           /* 201 */
+    PC_SEEN_OUTSIDE = 7,          /* 202 */
+    PC_POWER_WORDS = 8
 };
-uint32_t pc_power_step(uint32_t *state, struct pc_observation seen);
+uint32_t pc_power_step(uint32_t *state, const uint32_t seen[PC_POWER_WORDS]);
 
 /* The sleep watch. Its state is two numbers, kept by the caller. Times are in milliseconds and may run over.
    pc_sleep_start: awake at this time. It refuses nothing. */

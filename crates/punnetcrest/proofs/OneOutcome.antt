@@ -15,7 +15,6 @@ use contract.Monad.{Fun}
 use denote.Ref.{RefT, now, at-last}
 use Rattle.only.specs.Only.{Only, only-this}
 use Rattle.framing.proofs.CodedSlices.{codedSlices}
-use Rattle.punnetcrest.specs.declared.powering.Observed.{Observed}
 use Rattle.punnetcrest.specs.Booking.{BookRead}
 use Rattle.punnetcrest.specs.Classing.{classed}
 use Rattle.punnetcrest.specs.Packing.{packed}
@@ -69,9 +68,9 @@ module _ {M : Type 1} (𝓤 : URA M) (H : Heap 𝓤) (A : Atoms 𝓤) (mem : Mem
   one-frame-pack κs book identifier values frame =
       only-this 𝓤 _ (coded× codedℕ (codedList codedℕ)) (packed (now book) identifier (now values) (now frame)) (λ x. refl)
 
-  pub one-power-step : (κs : Lfts 1) (state : RefT ℕ) (seen : Observed)
+  pub one-power-step : (κs : Lfts 2) (state : RefT ℕ) (seen : RefT (List ℕ))
       → Only 𝓤 (λ (x : ℕ × ℕ). power-step.clauses 𝓤 H A mem run κs (state, (seen, tt)) .ensures tt (x .0) (at-last state (x .1), (seen, tt)))
-  one-power-step κs state seen = only-this 𝓤 _ (coded× codedℕ codedℕ) (stepped (now state) seen) (λ x. refl)
+  one-power-step κs state seen = only-this 𝓤 _ (coded× codedℕ codedℕ) (stepped (now state) (now seen)) (λ x. refl)
 
   pub one-sleep-start : (κs : Lfts 2) (last asleep : RefT ℕ) (time : ℕ)
       → Only 𝓤 (λ (x : ℕ × (ℕ × ℕ)). sleep-start.clauses 𝓤 H A mem run κs (last, (asleep, (time, tt))) .ensures tt (x .0) (at-last last (x .1 .0), (at-last asleep (x .1 .1), (time, tt))))

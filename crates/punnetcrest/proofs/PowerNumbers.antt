@@ -1,5 +1,6 @@
 -- From the monitor's own answer to what the call returns and leaves; and the number that the header gives a new monitor. Assumes nothing.
 use Prim.Native.Nat.{ℕ}
+use mathlib.Core.List.{List}
 use mathlib.Core.Path.{_≡_, refl, sym, ap, _∙_}
 use Rattle.power.specs.declared.Observation.{Observation}
 use Rattle.power.specs.declared.State as S
@@ -8,7 +9,6 @@ use Rattle.power.specs.declared.StateOrNone.the-variants.{State}
 use Rattle.power.specs.declared.Stepped.{Stepped}
 use Rattle.power.specs.States.{stateNumber, stateNumbered}
 use Rattle.power.specs.Refusals.{powerRefusal, stepOf}
-use Rattle.punnetcrest.specs.declared.powering.Observed.{Observed}
 use Rattle.punnetcrest.specs.Powering.{powerStart, seenIn, steppedInNumbers, steppedFrom, stepped}
 
 -- PC_POWER_START is PC_POWER_OFF, which is 0
@@ -16,10 +16,10 @@ pub starts-at-0 : powerStart ≡ 0
 starts-at-0 = refl
 
 -- what the call does is told by the state that the number stands for
-pub told : (state : ℕ) (seen : Observed) {given from : StateOrNone} → given ≡ stateNumbered state → given ≡ from → steppedFrom from state seen ≡ stepped state seen
+pub told : (state : ℕ) (seen : List ℕ) {given from : StateOrNone} → given ≡ stateNumbered state → given ≡ from → steppedFrom from state seen ≡ stepped state seen
 told state seen e t = ap (λ (n : StateOrNone). steppedFrom n state seen) (sym t ∙ e)
 
-pub as-stepped : (state : ℕ) (seen : Observed) (s : Stepped) {given : StateOrNone} {from : S.State} {observed : Observation}
+pub as-stepped : (state : ℕ) (seen : List ℕ) (s : Stepped) {given : StateOrNone} {from : S.State} {observed : Observation}
     → given ≡ stateNumbered state → given ≡ State from → observed ≡ seenIn seen → s ≡ stepOf from observed
     → (powerRefusal (s .answer), stateNumber (s .state)) ≡ stepped state seen
 as-stepped state seen s e t at stepped-so = ap steppedInNumbers (rw at at stepped-so) ∙ told state seen e t

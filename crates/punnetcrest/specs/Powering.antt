@@ -1,5 +1,7 @@
 -- The power monitor in numbers: what a call returns, with *state as it leaves it. Assumes nothing.
 use Prim.Native.Nat.{ℕ}
+use mathlib.Core.List.{List}
+use lib.ListN.{getD}
 use Rattle.catalogue.specs.declared.Raw.{Raw}
 use Rattle.power.specs.declared.Observation.{Observation}
 use Rattle.power.specs.declared.StateOrNone.{StateOrNone}
@@ -8,7 +10,6 @@ use Rattle.power.specs.declared.Stepped.{Stepped}
 use Rattle.power.specs.States.{stateNumber, stateNumbered}
 use Rattle.power.specs.Rules.{startsAs}
 use Rattle.power.specs.Refusals.{powerRefusal, stepOf}
-use Rattle.punnetcrest.specs.declared.powering.Observed.{Observed}
 
 -- PC_POWER_START, the first *state: "A monitor starts off"
 abbrev pub powerStart : ℕ
@@ -18,31 +19,31 @@ powerStart = stateNumber startsAs
 abbrev pub notAPowerState : ℕ
 notAPowerState = 91
 
--- the observation, field by field
-abbrev raw : ℕ → Raw
-raw count = record { 0 = count }
+-- the observation that is lent as eight raw counts: the relays 302, 303 and 301, then 1601, 1604, 203, 201 and 202
+abbrev seenAt : List ℕ → ℕ → Raw
+seenAt seen place = record { 0 = getD seen place 0 }
 
-abbrev pub seenIn : Observed → Observation
+abbrev pub seenIn : List ℕ → Observation
 seenIn seen =
     record {
-      «main_negative» = raw (seen .«main_negative»);
-      precharge = raw (seen .precharge);
-      «main_positive» = raw (seen .«main_positive»);
-      command = raw (seen .command);
-      «emergency_off» = raw (seen .«emergency_off»);
-      current = raw (seen .current);
-      inside = raw (seen .inside);
-      outside = raw (seen .outside);
+      «main_negative» = seenAt seen 0;
+      precharge = seenAt seen 1;
+      «main_positive» = seenAt seen 2;
+      command = seenAt seen 3;
+      «emergency_off» = seenAt seen 4;
+      current = seenAt seen 5;
+      inside = seenAt seen 6;
+      outside = seenAt seen 7;
     }
 
 abbrev pub steppedInNumbers : Stepped → ℕ × ℕ
 steppedInNumbers s = (powerRefusal (s .answer), stateNumber (s .state))
 
 -- the step from the state that a number stands for; a number that stands for none is kept
-abbrev pub steppedFrom : StateOrNone → ℕ → Observed → ℕ × ℕ
+abbrev pub steppedFrom : StateOrNone → ℕ → List ℕ → ℕ × ℕ
 steppedFrom (State from) kept seen = steppedInNumbers (stepOf from (seenIn seen))
 steppedFrom NoState kept seen = (notAPowerState, kept)
 
 -- pc_power_step
-abbrev pub stepped : ℕ → Observed → ℕ × ℕ
+abbrev pub stepped : ℕ → List ℕ → ℕ × ℕ
 stepped state seen = steppedFrom (stateNumbered state) state seen

@@ -6,31 +6,37 @@ ghost use Rattle.punnetcrest.specs.Powering.{seenIn, stepped};
 
 const NOT_A_POWER_STATE: u32 = 91;
 
-// Raw counts, as a C caller hands them over: the relays 302, 303 and 301, then 1601, 1604, 203, 201 and 202.
-#[repr(C)]
-pub struct Observed {
-    pub main_negative: u32,
-    pub precharge: u32,
-    pub main_positive: u32,
-    pub command: u32,
-    pub emergency_off: u32,
-    pub current: u32,
-    pub inside: u32,
-    pub outside: u32,
-}
+// An observation as a C caller lends it: raw counts, and where each of them stands.
+pub const SEEN_WORDS: usize = 8;
 
-fn observation_of(seen: Observed) -> power::Observation
-    ensures { λ r. ⌜ r ≡ seenIn seen ⌝ }
+const MAIN_NEGATIVE: usize = 0;
+
+const PRECHARGE: usize = 1;
+
+const MAIN_POSITIVE: usize = 2;
+
+const COMMAND: usize = 3;
+
+const EMERGENCY_OFF: usize = 4;
+
+const CURRENT: usize = 5;
+
+const INSIDE: usize = 6;
+
+const OUTSIDE: usize = 7;
+
+fn observation_of(seen: &[u32; SEEN_WORDS]) -> power::Observation
+    ensures { λ r. ⌜ r ≡ seenIn (now (seen .entry)) ⌝ }
 {
     power::Observation {
-        main_negative: Raw(seen.main_negative),
-        precharge: Raw(seen.precharge),
-        main_positive: Raw(seen.main_positive),
-        command: Raw(seen.command),
-        emergency_off: Raw(seen.emergency_off),
-        current: Raw(seen.current),
-        inside: Raw(seen.inside),
-        outside: Raw(seen.outside),
+        main_negative: Raw(seen[MAIN_NEGATIVE]),
+        precharge: Raw(seen[PRECHARGE]),
+        main_positive: Raw(seen[MAIN_POSITIVE]),
+        command: Raw(seen[COMMAND]),
+        emergency_off: Raw(seen[EMERGENCY_OFF]),
+        current: Raw(seen[CURRENT]),
+        inside: Raw(seen[INSIDE]),
+        outside: Raw(seen[OUTSIDE]),
     }
 }
 
@@ -48,8 +54,8 @@ fn number_of(answer: power::PowerAnswer) -> u32
 
 // One observation.
 #[no_mangle]
-pub extern "C" fn pc_power_step(state: &mut u32, seen: Observed) -> u32
-    ensures { λ r. ⌜ (r, now (state .exit)) ≡ stepped (now (state .entry)) seen ⌝ }
+pub extern "C" fn pc_power_step(state: &mut u32, seen: &[u32; SEEN_WORDS]) -> u32
+    ensures { λ r. ⌜ (r, now (state .exit)) ≡ stepped (now (state .entry)) (now (seen .entry)) ⌝ }
 {
     let held = power::State::numbered(*state);
     match held {

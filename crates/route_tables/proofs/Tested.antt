@@ -13,8 +13,7 @@ use Rattle.chains.specs.Chain.{IsSound}
 use Rattle.chains.specs.Tells.{Tells}
 use Rattle.books.specs.Words.{froms, tos, routesOf}
 use Rattle.route_tables.specs.Tables.{RoutesTaken}
-use Rattle.books.proofs.RouteColumns.{froms-are, tos-are}
-use Rattle.route_tables.proofs.Shown.{NoMore, few-shown, few-counted, no-more-froms, no-more-tos, froms-shown, tos-shown, stand-shown}
+use Rattle.route_tables.proofs.Shown.{NoMore, few-counted, no-more-froms, no-more-tos, froms-shown, tos-shown, stand-shown}
 
 -- one column, of which n entries count
 module _ (entries wanted : List ℕ) (n count : ℕ) (same : entries ≡ wanted) (counted : n ≡ count) where
@@ -33,17 +32,9 @@ module _ (entries wanted : List ℕ) (n count : ℕ) (same : entries ≡ wanted)
   part : take n entries ≡ take count wanted
   part = ap (λ (c : List ℕ). take n c) same ∙ ap (λ (m : ℕ). take m wanted) counted
 
--- a taken book has no more routes than it may have, and their places are the first entries of the columns
-module _ (w : List ℕ) (n : ℕ) (counted : n ≡ routeCountOf w) where
-  pub few-taken : RoutesTaken w → n ≤ routeLimit
-  few-taken r = omega (arith, few-counted w (r .stand))
-
-  module _ (taken : RoutesTaken w) {entries l : List ℕ} where
-    pub froms-lent : entries ≡ fromsOf w → l ≡ take n entries → l ≡ froms (routesOf w)
-    froms-lent e f = f ∙ part entries (fromsOf w) n (routeCountOf w) e counted ∙ froms-are w (routesOf w) (few-shown w) (taken .stand)
-
-    pub tos-lent : entries ≡ tosOf w → l ≡ take n entries → l ≡ tos (routesOf w)
-    tos-lent e f = f ∙ part entries (tosOf w) n (routeCountOf w) e counted ∙ tos-are w (routesOf w) (few-shown w) (taken .stand)
+-- a taken book has no more routes than it may have
+pub few-taken : (w : List ℕ) (n : ℕ) → n ≡ routeCountOf w → RoutesTaken w → n ≤ routeLimit
+few-taken w n counted r = omega (arith, few-counted w (r .stand))
 
 -- the tests, each of which a taken book passes
 module _ (w f t : List ℕ) (n : ℕ) (counted : n ≡ routeCountOf w) (from : f ≡ fromsOf w) (to : t ≡ tosOf w) where

@@ -3,7 +3,6 @@
 // text is taken with those tables.
 ghost use mathlib.Core.Path.{_≡_};
 ghost use Rattle.record.specs.Columns.{routeCountOf};
-ghost use Rattle.books.specs.Words.{froms, tos, routesOf};
 ghost use Rattle.chains.specs.Tells.{Tells};
 ghost use Rattle.route_tables.specs.Tables.{RoutesTaken};
 use record::BOOK_WORDS;
@@ -36,22 +35,4 @@ pub fn routes_taken(book: &[u32; BOOK_WORDS]) -> bool
         return false;
     }
     gateway_checker::sound(first(froms, n), first(tos, n))
-}
-
-// The places that the routes lead from, in book order.
-pub fn from_places(book: &[u32; BOOK_WORDS]) -> &[u32]
-    requires { ⌜ RoutesTaken (now book) ⌝ }
-    ensures { λ r. ⌜ now r ≡ froms (routesOf (now (book .entry))) ⌝ }
-{
-    let n = count(book);
-    first(record::froms(book), n)
-}
-
-// The places that they lead to, in step with those.
-pub fn to_places(book: &[u32; BOOK_WORDS]) -> &[u32]
-    requires { ⌜ RoutesTaken (now book) ⌝ }
-    ensures { λ r. ⌜ now r ≡ tos (routesOf (now (book .entry))) ⌝ }
-{
-    let n = count(book);
-    first(record::tos(book), n)
 }

@@ -50,7 +50,7 @@ module _ (rs : List Route) (bus identifier : ℕ) (room : List ℕ) where
   s = spreadAlong rs bus identifier
 
   -- by a table there is an answer
-  pub by-table : (x : Sent × List ℕ) × SpreadBy rs bus identifier room (sentNumber (x .0)) (placeCount (x .0)) (x .1)
+  by-table : (x : Sent × List ℕ) × SpreadBy rs bus identifier room (sentNumber (x .0)) (placeCount (x .0)) (x .1)
   by-table = go (place-or-not bus identifier) (decLe (length s) (length room))
     where
       go : Dec (IsPlace bus identifier) → Dec (length s ≤ length room) → (x : Sent × List ℕ) × SpreadBy rs bus identifier room (sentNumber (x .0)) (placeCount (x .0)) (x .1)
@@ -59,7 +59,7 @@ module _ (rs : List Route) (bus identifier : ℕ) (room : List ℕ) where
       go (yes p) (yes l) = ((sent.Places (length s), s ++ drop (length s) room), spreads p l)
 
   -- and no other
-  pub by-table-once : {y n : ℕ} {a : List ℕ} {z m : ℕ} {b : List ℕ} → SpreadBy rs bus identifier room y n a → SpreadBy rs bus identifier room z m b → _≡_ {A = SpreadLeft} (y, (n, a)) (z, (m, b))
+  by-table-once : {y n : ℕ} {a : List ℕ} {z m : ℕ} {b : List ℕ} → SpreadBy rs bus identifier room y n a → SpreadBy rs bus identifier room z m b → _≡_ {A = SpreadLeft} (y, (n, a)) (z, (m, b))
   by-table-once (no-place x) (no-place y) = refl
   by-table-once (no-place x) (no-room p l) = absurd (x p)
   by-table-once (no-place x) (spreads p l) = absurd (x p)

@@ -1,69 +1,77 @@
--- The spread by a sound table fits where there are as many entries as a book may have routes; and what the call answers by what it gathered. Assumes nothing.
-use mathlib.Core.Path.{_≡_, refl, sym, ap, _∙_, subst}
+-- The spread by the routes of a taken book fits a room for as many places as a book may have routes; and what the call answers by what it
+-- gathered there. Assumes nothing.
+use mathlib.Core.Path.{_≡_, sym, ap, _∙_, subst}
 use Prim.Native.Nat.{ℕ, _<_, _≤_}
 use native.Mathlib.Omega.{arith}
 use mathlib.Core.List.{List, _++_}
-use lib.ListN.{length, take, drop, length-map}
+use lib.ListN.{length, take, drop, replicate, length-map, length-replicate}
 use Rattle.record.specs.Limits.{routeLimit}
+use Rattle.record.specs.Columns.{routeCountOf}
 use Rattle.record.specs.Place.{placeKey}
+use Rattle.chains.specs.Chain.{IsSound}
 use Rattle.chains.specs.Spread.{spreadOf}
 use Rattle.chains.proofs.Spreads.{spread-few}
 use Rattle.books.specs.Book.{Route}
-use Rattle.books.specs.Words.{froms, tos, routesSideBySide, routesOf}
-use Rattle.books.proofs.RouteColumns.{side-froms, side-tos, routes-side}
-use Rattle.sending.specs.Writing.{Ready, Written}
+use Rattle.books.specs.Words.{froms, tos, routesOf}
+use Rattle.books.proofs.RouteColumns.{froms-are, tos-are}
+use Rattle.sending.specs.Writing.{liveFroms, liveTos, spreadIn, Ready, Written}
 use Rattle.route_tables.specs.Tables.{RoutesTaken}
-use Rattle.route_tables.proofs.Shown.{few-shown}
-use Rattle.routes.specs.Answers.{IsPlace, spreadAlong, SpreadBy, no-room, spreads, SpreadAnswer, by-routes}
-use Rattle.routes.specs.Gathered.{SoundTable, Gathered}
+use Rattle.route_tables.proofs.Shown.{few-shown, few-counted}
+use Rattle.routes.specs.Answers.{IsPlace, spreadAlong, SpreadBy, no-room, spreads}
 use Rattle.routes.proofs.Front.{front}
 
-module _ (fs ts : List ℕ) (table : SoundTable fs ts) (p : ℕ) (room : List ℕ) (entries : routeLimit ≤ length room) where
-  few : length (spreadOf fs ts p) ≤ length fs
-  few = spread-few fs ts (table .sound .loop-free) (table .sound .single) (table .pairs) p
+module _ (w : List ℕ) (taken : RoutesTaken w) where
+  -- the routes that are counted are the book's
+  from-live : liveFroms w ≡ froms (routesOf w)
+  from-live = froms-are w (routesOf w) (few-shown w) (taken .stand)
 
-  pub ready : Ready fs ts (spreadOf fs ts p) room 0
-  ready = record { free = table .sound .loop-free; pairs = table .pairs; space = omega (arith, few, table .few) }
+  to-live : liveTos w ≡ tos (routesOf w)
+  to-live = tos-are w (routesOf w) (few-shown w) (taken .stand)
 
-  pub gathered : (after : List ℕ) (n : ℕ) → Written (spreadOf fs ts p) room 0 after n → Gathered (spreadOf fs ts p) after n
-  gathered after n written =
-      let f = front (spreadOf fs ts p) room after n (omega (arith, few, table .few)) written in
-      record { many = f .0; few = omega (arith, few, f .0, table .few); front = f .1 }
+  live-count : length (liveFroms w) ≡ routeCountOf w
+  live-count = ap length from-live ∙ length-map (routesOf w) (λ (r : Route). r .from) ∙ sym (taken .stand .count)
 
--- what was gathered is the spread by the routes between the places
-module _ (fs ts : List ℕ) (pairs : length fs ≡ length ts) (bus identifier : ℕ) where
-  along : spreadAlong (routesSideBySide fs ts) bus identifier ≡ spreadOf fs ts (placeKey bus identifier)
-  along = rw (side-froms fs ts pairs, side-tos fs ts pairs) refl
+  in-step : length (liveFroms w) ≡ length (liveTos w)
+  in-step = live-count ∙ taken .stand .count ∙ sym (length-map (routesOf w) (λ (r : Route). r .to)) ∙ ap length (sym to-live)
 
-  module _ (place : ℕ) (is : place ≡ placeKey bus identifier) (at : IsPlace bus identifier) (room places : List ℕ) (n : ℕ) (g : Gathered (spreadOf fs ts place) places n) where
-    same : spreadOf fs ts place ≡ spreadAlong (routesSideBySide fs ts) bus identifier
-    same = ap (spreadOf fs ts) is ∙ sym along
+  live-sound : IsSound (liveFroms w) (liveTos w)
+  live-sound = rw (from-live, to-live) (taken .sound)
 
-    counted : n ≡ length (spreadAlong (routesSideBySide fs ts) bus identifier)
-    counted = g .many ∙ ap length same
+  few : (p : ℕ) → length (spreadIn w p) ≤ routeLimit
+  few p = omega (arith, spread-few (liveFroms w) (liveTos w) (live-sound .loop-free) (live-sound .single) in-step p, live-count, few-counted w (taken .stand))
 
-    pub too-small : length room < n → SpreadBy (routesSideBySide fs ts) bus identifier room 62 0 room
-    too-small l = no-room at (omega (arith, counted))
+  pub ready : (p : ℕ) → Ready w (spreadIn w p) 0
+  ready p = record { few = few-counted w (taken .stand); whole = live-count; free = live-sound .loop-free; space = omega (arith, few p) }
 
-    pub written : n ≤ length room → (after : List ℕ) → after ≡ take n places ++ drop n room → SpreadBy (routesSideBySide fs ts) bus identifier room 0 n after
-    written l after e =
-        let s = spreadAlong (routesSideBySide fs ts) bus identifier in
-        let f : after ≡ s ++ drop (length s) room = e ∙ ap (λ (t : List ℕ). t ++ drop n room) (g .front ∙ same) ∙ ap (λ (k : ℕ). s ++ drop k room) counted in
-        subst (λ (k : ℕ). SpreadBy (routesSideBySide fs ts) bus identifier room 0 k after) (sym counted)
-        (subst (λ (t : List ℕ). SpreadBy (routesSideBySide fs ts) bus identifier room 0 (length s) t) (sym f) (spreads at (omega (arith, counted))))
+  abbrev empty : List ℕ
+  empty = replicate routeLimit 0
 
--- the columns of a taken book's routes are a sound table, and the routes between them are its routes
-module _ (w fs ts : List ℕ) (taken : RoutesTaken w) (from : fs ≡ froms (routesOf w)) (to : ts ≡ tos (routesOf w)) where
-  pub table : SoundTable fs ts
-  table = record {
-    pairs = ap length from ∙ length-map (routesOf w) (λ (r : Route). r .from) ∙ sym (length-map (routesOf w) (λ (r : Route). r .to)) ∙ ap length (sym to);
-    few = omega (arith, ap length from, length-map (routesOf w) (λ (r : Route). r .from), few-shown w);
-    sound = rw (from, to) (taken .sound);
-  }
+  -- what is gathered in an empty room of that size
+  module _ (bus identifier place : ℕ) (is : place ≡ placeKey bus identifier) (after : List ℕ) (n : ℕ) (h : Written (spreadIn w place) empty 0 after n) where
+    abbrev s : List ℕ
+    s = spreadAlong (routesOf w) bus identifier
 
-  its-routes : routesSideBySide fs ts ≡ routesOf w
-  its-routes = rw (from, to) (routes-side (routesOf w))
+    same : spreadIn w place ≡ s
+    same = ap (spreadIn w) is ∙ (rw (from-live, to-live))
 
-  -- so what is answered by the columns is answered by the words
-  pub by-columns : {bus identifier : ℕ} {room : List ℕ} {why n : ℕ} {after : List ℕ} → SpreadBy (routesSideBySide fs ts) bus identifier room why n after → SpreadAnswer w bus identifier room why n after
-  by-columns {bus} {identifier} {room} {why} {n} {after} a = by-routes taken (subst (λ (rs : List Route). SpreadBy rs bus identifier room why n after) its-routes a)
+    fits : length (spreadIn w place) ≤ length empty
+    fits = omega (arith, few place, length-replicate {A = ℕ} routeLimit 0)
+
+    counted : n ≡ length s
+    counted = front (spreadIn w place) empty after n fits h .0 ∙ ap length same
+
+    gathered : take n after ≡ s
+    gathered = front (spreadIn w place) empty after n fits h .1 ∙ same
+
+    pub enough : n ≤ routeLimit
+    enough = omega (arith, counted, ap length same, few place)
+
+    module _ (at : IsPlace bus identifier) (room : List ℕ) where
+      pub too-small : length room < n → SpreadBy (routesOf w) bus identifier room 62 0 room
+      too-small l = no-room at (omega (arith, counted))
+
+      pub written : n ≤ length room → (left : List ℕ) → left ≡ take n after ++ drop n room → SpreadBy (routesOf w) bus identifier room 0 n left
+      written l left e =
+          let f : left ≡ s ++ drop (length s) room = e ∙ ap (λ (t : List ℕ). t ++ drop n room) gathered ∙ ap (λ (k : ℕ). s ++ drop k room) counted in
+          subst (λ (k : ℕ). SpreadBy (routesOf w) bus identifier room 0 k left) (sym counted)
+          (subst (λ (t : List ℕ). SpreadBy (routesOf w) bus identifier room 0 (length s) t) (sym f) (spreads at (omega (arith, counted))))

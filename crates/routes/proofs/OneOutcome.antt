@@ -1,4 +1,4 @@
--- The contracts of `spread` and `spread_by` allow one outcome and no other: an answer, with what stands in the room at exit. Assumes nothing.
+-- The contract of `spread` allows one outcome and no other: an answer, with what stands in the room at exit. Assumes nothing.
 use mathlib.Core.Path.{refl}
 use mathlib.Core.List.{List}
 use Prim.Native.Nat.{ℕ}
@@ -13,13 +13,11 @@ use contract.Lifetimes.{Lfts}
 use contract.Monad.{Fun}
 use denote.Ref.{RefT, now, at-last}
 use Rattle.only.specs.Only.{Only}
-use Rattle.books.specs.Words.{routesSideBySide}
-use Rattle.routes.specs.Answers.{sentNumber, placeCount, SpreadBy, SpreadAnswer}
+use Rattle.routes.specs.Answers.{sentNumber, placeCount, SpreadAnswer}
 use Rattle.routes.specs.declared.Sent.{Sent}
-use Rattle.routes.proofs.Decided.{by-table, by-table-once, answered, answer-once, same-sent}
+use Rattle.routes.proofs.Decided.{answered, answer-once, same-sent}
 use Rattle.routes.proofs.Sent as the-answer
 use Rattle.routes.proofs.spread as spread
-use Rattle.routes.proofs.spread_by as spread-by
 
 module _ {M : Type 1} (𝓤 : URA M) (H : Heap 𝓤) (A : Atoms 𝓤) (mem : Memory → SProp 𝓤) (run : Routine → Fun 𝓤) where
   pub one-spread : (κs : Lfts 2) (book : RefT (List ℕ)) (bus identifier : ℕ) (room : RefT (List ℕ))
@@ -33,18 +31,4 @@ module _ {M : Type 1} (𝓤 : URA M) (H : Heap 𝓤) (A : Atoms 𝓤) (mem : Mem
         says = λ x. refl;
         there = there .1;
         alone = λ x h. same-sent (answer-once (now book) bus identifier (now room) h (there .1));
-      }
-
-  pub one-spread-by : (κs : Lfts 3) (froms tos : RefT (List ℕ)) (bus identifier : ℕ) (room : RefT (List ℕ))
-      → Only 𝓤 (λ (x : Sent × List ℕ). spread-by.clauses 𝓤 H A mem run κs (froms, (tos, (bus, (identifier, (room, tt))))) .ensures tt (x .0) (froms, (tos, (bus, (identifier, (at-last room (x .1), tt))))))
-  one-spread-by κs froms tos bus identifier room =
-      let rs = routesSideBySide (now froms) (now tos) in
-      let there = by-table rs bus identifier (now room) in
-      record {
-        coded = coded× (the-answer.the-row .coded) (codedList codedℕ);
-        outcome = there .0;
-        Says = λ x. SpreadBy rs bus identifier (now room) (sentNumber (x .0)) (placeCount (x .0)) (x .1);
-        says = λ x. refl;
-        there = there .1;
-        alone = λ x h. same-sent (by-table-once rs bus identifier (now room) h (there .1));
       }
