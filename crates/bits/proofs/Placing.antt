@@ -3,12 +3,33 @@
 use mathlib.Core.Path.{_≡_, sym, ap, _∙_, subst, subst⁻¹}
 use mathlib.Core.Logic.{_⊎_, inl, inr}
 use Prim.Native.Nat.{ℕ, _+_, _-_, _*_, _/_, _%_, _^_, _≤_, _<_}
-use native.Mathlib.Nat.{add-assoc, mul-assoc, mod-lt, add-mul, one-mul}
+use native.Mathlib.Nat.{add-assoc, add-comm, mul-assoc, mod-lt, add-mul}
 use native.Mathlib.Omega.{arith}
-use lib.Dec.{lit<}
-use lib.Pow.{pow-add, pow-pos, shr-shr, shr-lt, shl-exact, mod-pow-add, field, mod-mod-pow, high, low, split, ones-split, ones-lt}
+use lib.Pow.{pow-add, pow-pos, shr-shr, shr-lt, shl-shr, mod-pow-add, field, mod-mod-pow, high, low, split, ones-split, ones-lt}
 use lib.Arith.{digits-lt}
 use Rattle.bits.specs.Word.{fieldOf, placed}
+
+-- ---- a field
+
+-- what lies past a field of b bits is shifted out of a number of b + k
+shifted-out : (x b k : ℕ) → x % 2 ^ (b + k) * 2 ^ k % 2 ^ (b + k) / 2 ^ k ≡ x % 2 ^ b
+shifted-out x b k =
+    field (x % 2 ^ (b + k) * 2 ^ k) b k
+    ∙ ap (λ (m : ℕ). m % 2 ^ b) (shl-shr (x % 2 ^ (b + k)) k)
+    ∙ ap (λ (m : ℕ). x % 2 ^ m % 2 ^ b) (add-comm b k)
+    ∙ mod-mod-pow x k b
+
+pub taken-out : (w s b n : ℕ) → b ≤ 32 → n ≡ w / 2 ^ s % 2 ^ 32 → n * 2 ^ (32 - b) % 2 ^ 32 / 2 ^ (32 - b) ≡ fieldOf w s b
+unfolding fieldOf
+taken-out w s b n h e =
+    let whole : 32 ≡ b + (32 - b) = omega (arith, h) in
+    ap (λ (m : ℕ). m * 2 ^ (32 - b) % 2 ^ 32 / 2 ^ (32 - b)) e
+    ∙ ap (λ (m : ℕ). w / 2 ^ s % 2 ^ m * 2 ^ (32 - b) % 2 ^ m / 2 ^ (32 - b)) whole
+    ∙ shifted-out (w / 2 ^ s) b (32 - b)
+
+pub field-lt : (w s b : ℕ) → fieldOf w s b < 2 ^ b
+unfolding fieldOf
+field-lt w s b = mod-lt (w / 2 ^ s) (pow-pos b)
 
 -- ---- a placement
 
@@ -80,9 +101,6 @@ module _ (w s b v : ℕ) (small : v < 2 ^ b) where
       rw (placed-is w s b v) (subst⁻¹ (λ (m : ℕ). w / 2 ^ (b + s) * 2 ^ (b + s) + (v * 2 ^ s + w % 2 ^ s) < m) (ap (λ (m : ℕ). 2 ^ m) e ∙ pow-add 2 d (b + s)) (digits-lt hi rest-lt))
 
 -- ---- what the code's shifts are
-
-pub one-shl : (b : ℕ) → b < 64 → (1 * 2 ^ b) % 2 ^ 64 ≡ 2 ^ b
-one-shl b h = shl-exact 1 b 64 (lit< tt) (omega arith) ∙ one-mul (2 ^ b)
 
 pub field-le : (w s b : ℕ) → fieldOf w s b * 2 ^ s ≤ w
 unfolding fieldOf

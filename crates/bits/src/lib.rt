@@ -43,19 +43,26 @@ fn low(word: u64) -> u8
     (word % 256) as u8
 }
 
-fn field(word: u64, start: u32, bits: u32) -> u64
-    requires { ⌜ Fits start bits ⌝ }
-    ensures { λ r. ⌜ (r ≡ fieldOf word start bits) × (r < 2 ^ bits) ⌝ }
+// The lower 32 bits of a number.
+fn low_half(word: u64) -> u32
+    ensures { λ r. ⌜ (r ≡ word % 2 ^ 32) × (r < 2 ^ 32) ⌝ }
 {
-    (word >> start) % (1 << bits)
+    (word % 4294967296) as u32
 }
 
-// The count of `bits` bits at `start`.
+// The count of `bits` bits at `start`: of the 32 bits from there on, those past the count are shifted out.
 pub fn take(word: u64, start: u32, bits: u32) -> u32
     requires { ⌜ Fits start bits ⌝ }
     ensures { λ r. ⌜ r ≡ fieldOf word start bits ⌝ }
 {
-    field(word, start, bits) as u32
+    let past = 32 - bits;
+    (low_half(word >> start) << past) >> past
+}
+
+fn wide_count(count: u32) -> u64
+    ensures { λ r. ⌜ r ≡ count ⌝ }
+{
+    count as u64
 }
 
 // `word` with `count` in place of the `bits` bits at `start`.
@@ -63,7 +70,8 @@ pub fn place(word: u64, start: u32, bits: u32, count: u32) -> u64
     requires { ⌜ Fits start bits × (count < 2 ^ bits) ⌝ }
     ensures { λ r. ⌜ r ≡ placed word start bits count ⌝ }
 {
-    word - (field(word, start, bits) << start) + ((count as u64) << start)
+    let old = wide_count(take(word, start, bits));
+    word - (old << start) + (wide_count(count) << start)
 }
 
 // The eight bytes of a number into a lent frame, the lowest first.

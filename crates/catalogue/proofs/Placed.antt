@@ -119,37 +119,37 @@ not-past : (b : Bool) (p q : ℕ) → cond b noPlace p ≡ q → q < noPlace →
 not-past true p q e l = absurd (omega (arith, e, l))
 not-past false p q e l = e
 
-module _ (above : List ℕ) (number n k : ℕ) (column : above ≡ surpluses) (h : number < numberLimit) (e : n ≡ number) (at : k ≡ hundred number) where
+module _ (above : List ℕ) (n k : ℕ) (column : above ≡ surpluses) (h : n < numberLimit) (at : k ≡ hundred n) where
   few : k < 20
-  few = let below : number < 2000 = h in omega (arith, at, below)
+  few = let below : n < 2000 = h in omega (arith, at, below)
 
   pub in-above : k < length above
   in-above = rw column few
 
   pub no-less : getD above k 0 ≤ n
-  no-less = rw (column, e, at) (surplus-within number h)
+  no-less = rw (column, at) (surplus-within n h)
 
   -- of a signal that the catalogue has
-  pub known-there : placeOf number < noPlace → n - getD above k 0 ≡ placeOf number
+  pub known-there : placeOf n < noPlace → n - getD above k 0 ≡ placeOf n
   known-there known =
-      rw (column, e, at)
-      (not-past (leb (getD bounds (hundred number) 0) (number - getD surpluses (hundred number) 0)) (number - getD surpluses (hundred number) 0) (placeOf number)
-      (computed-place number h) known)
+      rw (column, at)
+      (not-past (leb (getD bounds (hundred n) 0) (n - getD surpluses (hundred n) 0)) (n - getD surpluses (hundred n) 0) (placeOf n)
+      (computed-place n h) known)
 
   module _ (ends : List ℕ) (ends-column : ends ≡ bounds) where
     pub in-ends : k < length ends
     in-ends = rw ends-column few
 
     module _ (bound : ℕ) (b : bound ≡ getD ends k 0) where
-      told : cond (leb bound (n - getD above k 0)) noPlace (n - getD above k 0) ≡ placeOf number
-      told = rw (b, column, ends-column, e, at) (computed-place number h)
+      told : cond (leb bound (n - getD above k 0)) noPlace (n - getD above k 0) ≡ placeOf n
+      told = rw (b, column, ends-column, at) (computed-place n h)
 
-      pub past-it : bound ≤ n - getD above k 0 → placeOf number ≡ noPlace
+      pub past-it : bound ≤ n - getD above k 0 → placeOf n ≡ noPlace
       past-it p = sym told ∙ ap (λ (t : Bool). cond t noPlace (n - getD above k 0)) (le-leb bound (n - getD above k 0) p)
 
-      pub there : n - getD above k 0 < bound → (n - getD above k 0 ≡ placeOf number) × (n - getD above k 0 < noPlace)
+      pub there : n - getD above k 0 < bound → (n - getD above k 0 ≡ placeOf n) × (n - getD above k 0 < noPlace)
       there p =
-          let most : bound ≤ noPlace = rw (b, ends-column, at) (bound-within number h) in
+          let most : bound ≤ noPlace = rw (b, ends-column, at) (bound-within n h) in
           (ap (λ (t : Bool). cond t noPlace (n - getD above k 0)) (sym (lt-leb bound (n - getD above k 0) p)) ∙ told, omega (arith, p, most))
 
 -- ---- what is found

@@ -1,8 +1,9 @@
 // The place of a signal in the constant table, from its number: numbers go by the hundred, a hundred for each table of the standard.
-// A const array is built anew at every read, so a caller that asks for many signals holds the columns and lends them.
+// A const array is built anew at every read, so a caller that asks for many signals holds the columns and lends them. Numbers and places
+// are computed in 32 bits, which is what most gateways have.
 ghost use mathlib.Core.Path.{_≡_};
 ghost use Prim.Native.Nat.{_<_};
-ghost use Rattle.catalogue.specs.Places.{placeOf, noPlace, hundred, surpluses, bounds, Placed};
+ghost use Rattle.catalogue.specs.Places.{placeOf, noPlace, numberLimit, hundred, surpluses, bounds, Placed};
 
 // How many hundreds there are with signals in them, or below one that has.
 pub const HUNDREDS: usize = 20;
@@ -13,7 +14,7 @@ pub const PLACES: usize = 199;
 const NUMBER_LIMIT: u32 = 2000;
 
 // What the numbers of a hundred's signals have more than their places.
-const SURPLUSES: [usize; HUNDREDS] = [
+const SURPLUSES: [u32; HUNDREDS] = [
     0,
     101,
     201,
@@ -60,7 +61,7 @@ const BOUNDS: [u8; HUNDREDS] = [
     199,
 ];
 
-pub fn surpluses() -> [usize; HUNDREDS]
+pub fn surpluses() -> [u32; HUNDREDS]
     ensures { λ r. ⌜ r ≡ surpluses ⌝ }
 {
     SURPLUSES
@@ -78,10 +79,10 @@ fn wide(number: u32) -> usize
     number as usize
 }
 
-fn size(bound: u8) -> usize
+fn size(bound: u8) -> u32
     ensures { λ r. ⌜ r ≡ bound ⌝ }
 {
-    bound as usize
+    bound as u32
 }
 
 // What looking for a signal finds: its place in the table.
@@ -92,13 +93,14 @@ pub enum Place {
 
 // Of 1 to 100, 101 to 200 and so on, the hundred that a number is in: below the limit a product and a shift tell it.
 fn hundred_of(number: u32) -> usize
+    requires { ⌜ number < numberLimit ⌝ }
     ensures { λ r. ⌜ r ≡ hundred number ⌝ }
 {
-    wide(number) * 5242 / 524288
+    wide(number * 5242 / 524288)
 }
 
 // The place of a signal in the table.
-pub fn place_of(number: u32, above: &[usize], ends: &[u8]) -> Place
+pub fn place_of(number: u32, above: &[u32], ends: &[u8]) -> Place
     requires { ⌜ (now above ≡ surpluses) × (now ends ≡ bounds) ⌝ }
     ensures { λ r. ⌜ Placed number r ⌝ }
 {
@@ -106,17 +108,17 @@ pub fn place_of(number: u32, above: &[usize], ends: &[u8]) -> Place
         return Place::Nowhere;
     }
     let hundred = hundred_of(number);
-    let place = wide(number) - above[hundred];
+    let place = number - above[hundred];
     if place >= size(ends[hundred]) {
         return Place::Nowhere;
     }
-    Place::At(place)
+    Place::At(wide(place))
 }
 
 // The place of a signal that the catalogue has.
-pub fn known_place(number: u32, above: &[usize]) -> usize
+pub fn known_place(number: u32, above: &[u32]) -> usize
     requires { ⌜ (now above ≡ surpluses) × (placeOf number < noPlace) ⌝ }
     ensures { λ r. ⌜ r ≡ placeOf number ⌝ }
 {
-    wide(number) - above[hundred_of(number)]
+    wide(number - above[hundred_of(number)])
 }

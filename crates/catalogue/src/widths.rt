@@ -17,7 +17,7 @@ fn wide(bits: u8) -> u32
 
 // The bits of a signal, from the table's column and by the columns of its place, which the caller holds; 0 where the catalogue has
 // no such signal.
-pub fn bits_at(number: u32, widths: &[u8], above: &[usize], ends: &[u8]) -> u32
+pub fn bits_at(number: u32, widths: &[u8], above: &[u32], ends: &[u8]) -> u32
     requires { ⌜ TableColumns (now above) (now ends) (now widths) ⌝ }
     ensures { λ r. ⌜ r ≡ bitsOf number ⌝ }
 {
@@ -38,7 +38,7 @@ pub fn bits_of(number: u32) -> u32
 }
 
 // The bits of a signal that the catalogue has, as those of a taken book are: its place is not tested again.
-pub fn known_bits(number: u32, widths: &[u8], above: &[usize]) -> u32
+pub fn known_bits(number: u32, widths: &[u8], above: &[u32]) -> u32
     requires { ⌜ WidthColumns (now above) (now widths) × (0 < bitsOf number) ⌝ }
     ensures { λ r. ⌜ r ≡ bitsOf number ⌝ }
 {

@@ -9,12 +9,16 @@ use lib.Seq.{length-take-le}
 use Rattle.only.specs.Outcomes.{OneResult, OneContent, result-is, content-is}
 use Rattle.books.specs.Lines.{isIn}
 use Rattle.columns.specs.Identifiers.{distinctAfter}
+use Rattle.columns.proofs.length_of as length-of
 use Rattle.columns.proofs.part as part
 use Rattle.columns.proofs.begin as begin
 use Rattle.columns.proofs.holds as holds
 use Rattle.columns.proofs.distinct as distinct
 
 module _ (M : Type 1) where
+  pub one-length-of : OneResult M length-of.ended length-of.clauses
+  one-length-of = result-is (λ c. length (now (c .arguments .0))) refl
+
   pub one-part : OneContent M part.ended part.clauses (λ c s. s)
       (λ c. (c .arguments .1 .0 ≤ c .arguments .1 .1 .0) × (c .arguments .1 .1 .0 ≤ length (now (c .arguments .0))))
   one-part =

@@ -4,6 +4,7 @@ ghost use mathlib.Core.List.{[], _∷_};
 ghost use Prim.Native.Nat.{_-_, _≤_, _<_};
 ghost use lib.ListN.{length, getD, take, drop};
 ghost use Rattle.books.specs.Lines.{isIn};
+ghost use Rattle.record.specs.Limits.{messageLimit, signalLimit};
 ghost use Rattle.columns.specs.Identifiers.{distinctAfter};
 ghost use Rattle.columns.specs.Slots.{identifierSlots, identifierSlot};
 use record::IDENTIFIER_LIMIT;
@@ -13,6 +14,15 @@ use record::wide;
 const SLOTS: usize = 256;
 
 const SLOT_PRIME: u32 = 251;
+
+// How many entries a column of a book, or a part of one, has. A loop that counts them down does so in 32 bits, which is what most
+// gateways have.
+pub fn length_of(column: &[u32]) -> u32
+    requires { ⌜ length (now column) ≤ signalLimit ⌝ }
+    ensures { λ r. ⌜ r ≡ length (now (column .entry)) ⌝ }
+{
+    column.len() as u32
+}
 
 // The entries from `first` on, up to `end`.
 pub fn part(column: &[u32], first: usize, end: usize) -> &[u32]
@@ -57,11 +67,13 @@ fn slot(identifier: u32) -> usize
 // Whether the identifiers are within the limit, and none stands there twice.
 // An identifier is looked for among those before it only where one of them fell into the same slot.
 pub fn distinct(ids: &[u32]) -> bool
+    requires { ⌜ length (now ids) ≤ messageLimit ⌝ }
     ensures { λ r. ⌜ r ≡ distinctAfter [] (now (ids .entry)) ⌝ }
 {
     let mut used = [0u8; SLOTS];
+    let mut left = length_of(ids);
     let mut at: usize = 0;
-    while at < ids.len() {
+    while left > 0 {
         let identifier = ids[at];
         if identifier >= IDENTIFIER_LIMIT {
             return false;
@@ -74,6 +86,7 @@ pub fn distinct(ids: &[u32]) -> bool
         }
         used[place] = 1;
         at += 1;
+        left -= 1;
     }
     true
 }

@@ -84,7 +84,7 @@ fn read_by(
         &mut *classes,
         &mut *thousandths,
     ) {
-        Reading::Read(n) => print_readings(n, &*raws, &*classes, &*thousandths),
+        Reading::Read(n) => print_readings(n as usize, &*raws, &*classes, &*thousandths),
         Reading::NotABook => print_refusal(12),
         Reading::NotEightBytes => print_refusal(21),
         Reading::UnknownIdentifier => print_refusal(22),

@@ -3,8 +3,9 @@ use mathlib.Core.Path.{_≡_, refl, sym, ap, _∙_}
 use mathlib.Core.Bool.{true, false}
 use mathlib.Core.List.{List}
 use mathlib.Core.Option.{none, some}
-use Prim.Native.Nat.{ℕ, _-_, _<_}
-use lib.ListN.{length, getD}
+use Prim.Native.Nat.{ℕ, _-_, _≤_, _<_}
+use native.Mathlib.Omega.{arith}
+use lib.ListN.{length, getD, drop, length-take, length-drop}
 use borrow.Author.Tests.{eq-eqb, ne-eqb}
 use Rattle.bits.specs.Frame.{frameBytes}
 use Rattle.bits.specs.Word.{wordOf, bytesOf}
@@ -21,7 +22,8 @@ use Rattle.framing.specs.Reading.{Slices, readByMessage, readByMessages, readin
 use Rattle.framing.specs.Packing.{judgedValues, packByMessage, packing}
 use Rattle.framing.proofs.WellPlaced.{sound-message}
 use Rattle.framing.proofs.FrameSent.{put-or}
-use Rattle.record.specs.Columns.{numbersOf, startsOf}
+use Rattle.record.specs.Limits.{signalLimit}
+use Rattle.record.specs.Columns.{numbersAt, numbersOf, startsOf}
 use Rattle.messages.specs.Signals.{AllFit, messageFrom, Readable}
 use Rattle.messages.specs.Put.{Packable, packInto}
 use Rattle.frames.specs.Lookup.{part, Spans}
@@ -108,8 +110,11 @@ module _ (w : List ℕ) (identifier from to : ℕ) (s : Spans w identifier from 
   fit : AllFit (sideBySide (part from to ns) (part from to ss))
   fit = rw (n, t) (s .fit)
 
+  few : length (part from to ns) ≤ signalLimit
+  few = omega (arith, length-take (to - from) (drop from ns), length-drop from ns, ap length n, length-take signalLimit (drop numbersAt w))
+
   pub readable : Readable (part from to ns) (part from to ss)
-  readable = record { same = same; fit = fit }
+  readable = record { few = few; same = same; fit = fit }
 
   pub packable : (vs : List ℕ) → length vs ≡ to - from → Packable (part from to ns) (part from to ss) vs
-  packable vs e = record { same = same; many = e ∙ sym many ∙ side-length (part from to ns) (part from to ss) same; fit = fit }
+  packable vs e = record { few = few; same = same; many = e ∙ sym many ∙ side-length (part from to ns) (part from to ss) same; fit = fit }

@@ -24,7 +24,7 @@ known-class : (o : Option Row) (raw : Raw) → 1 ≤ bitsIn o → raw .0 < 2 ^ b
 known-class none raw h k = absurd (omega arith)
 known-class (some r) raw h k = rw (lt-leb (2 ^ r .bits) (raw .0) k) (not-refused raw r)
 
-read-class : (frame : List ℕ) (p : Placement) → Sits p → classNumber (placedClass frame p) ≡ 0
+pub read-class : (frame : List ℕ) (p : Placement) → Sits p → classNumber (placedClass frame p) ≡ 0
 unfolding classOf bitsOf
 read-class frame p s = known-class (rowOf (p .number)) (record { 0 = countOf frame p }) (s .fits .some) (raw-lt frame (p .start) (bitsOf (p .number)))
 

@@ -19,6 +19,7 @@ use Rattle.books.specs.Book.{Placement, Message}
 use Rattle.books.specs.Words.{messagesOf}
 use Rattle.books.proofs.Columns.{taken-stands}
 use Rattle.catalogue.specs.Find.{bitsOf}
+use Rattle.catalogue.specs.Class.{classNumber}
 use Rattle.catalogue.specs.declared.Class.{Class}
 use Rattle.catalogue.specs.declared.Class.the-variants.{Value, Invalid, Absent, Error, Reserved, Outside, NotInCatalogue, TooWide}
 use Rattle.framing.specs.declared.Reading.{Reading}
@@ -29,22 +30,27 @@ use Rattle.framing.specs.Reading.{Slices, classCode, checksumHolds, read
 use Rattle.framing.specs.Packing.{packable, packing, packedFrame}
 use Rattle.framing.specs.Packed.{CarriesValues, OnesElsewhere}
 use Rattle.framing.specs.Demand.{placementAt, Counted, reservedCode, outsideCode, NoneBarred, PacksAgain}
-use Rattle.framing.proofs.WellPlaced.{WellPlaced, sound-message, sits-at}
+use Rattle.framing.proofs.WellPlaced.{WellPlaced, Sits, sound-message, sits-at}
+use Rattle.framing.proofs.Classes.{read-class}
 use Rattle.framing.proofs.PackedOnce.{packed-frame}
 use Rattle.framing.proofs.Putting.{Accepted, accepted-judged}
 use Rattle.framing.proofs.FrameSent.{is-packed, sum-placed}
 use Rattle.framing.proofs.Answers.{WasRead, read-was, was-read, was-packed}
 use Rattle.framing.proofs.ReadBack.{carried-at}
 
-neither-packs : (c : Class) → (classCode c ≡ reservedCode → ⊥) → (classCode c ≡ outsideCode → ⊥) → packable c ≡ true
-neither-packs (Value t) r o = refl
-neither-packs (Invalid x) r o = refl
-neither-packs (Absent x) r o = refl
-neither-packs (Error x) r o = refl
-neither-packs (Reserved x) r o = absurd (r refl)
-neither-packs (Outside x) r o = absurd (o refl)
-neither-packs NotInCatalogue r o = absurd (o refl)
-neither-packs TooWide r o = absurd (o refl)
+neither-packs : (c : Class) → classNumber c ≡ 0 → (classCode c ≡ reservedCode → ⊥) → (classCode c ≡ outsideCode → ⊥) → packable c ≡ true
+neither-packs (Value t) k r o = refl
+neither-packs (Invalid x) k r o = refl
+neither-packs (Absent x) k r o = refl
+neither-packs (Error x) k r o = refl
+neither-packs (Reserved x) k r o = absurd (r refl)
+neither-packs (Outside x) k r o = absurd (o refl)
+neither-packs NotInCatalogue k r o = absurd (omega (arith, k))
+neither-packs TooWide k r o = absurd (omega (arith, k))
+
+-- a placement that is none, where one is asked for past the last
+abbrev noPlacement : Placement
+noPlacement = record { number = 0; start = 0 }
 
 module _ (frame : List ℕ) where
   abbrev pub Counts : List Placement → List ℕ
@@ -54,17 +60,18 @@ module _ (frame : List ℕ) where
   Codes ps = map (λ (p : Placement). classCode (placedClass frame p)) ps
 
   -- counts that were read, none of them reserved or outside, are accepted
-  again : (ps : List Placement) → ((i : ℕ) → i < length ps → (getD (Codes ps) i 0 ≡ reservedCode → ⊥) × (getD (Codes ps) i 0 ≡ outsideCode → ⊥)) → Accepted ps (Counts ps)
-  again [] h = Accepted.none
-  again (p ∷ ps) h =
-      one p (h 0 (omega arith)) (again ps (λ i b. h (suc i) (omega arith)))
+  again : (ps : List Placement) → ((i : ℕ) → i < length ps → Sits (getD ps i noPlacement))
+      → ((i : ℕ) → i < length ps → (getD (Codes ps) i 0 ≡ reservedCode → ⊥) × (getD (Codes ps) i 0 ≡ outsideCode → ⊥)) → Accepted ps (Counts ps)
+  again [] s h = Accepted.none
+  again (p ∷ ps) s h =
+      one p (s 0 (omega arith)) (h 0 (omega arith)) (again ps (λ i b. s (suc i) (omega arith)) (λ i b. h (suc i) (omega arith)))
     where
-      one : (p : Placement) → (classCode (placedClass frame p) ≡ reservedCode → ⊥) × (classCode (placedClass frame p) ≡ outsideCode → ⊥) → Accepted ps (Counts ps) → Accepted (p ∷ ps) (countOf frame p ∷ Counts ps)
-      one p n a = go (eqb (p .number) checksumNumber) refl
+      one : (p : Placement) → Sits p → (classCode (placedClass frame p) ≡ reservedCode → ⊥) × (classCode (placedClass frame p) ≡ outsideCode → ⊥) → Accepted ps (Counts ps) → Accepted (p ∷ ps) (countOf frame p ∷ Counts ps)
+      one p s n a = go (eqb (p .number) checksumNumber) refl
         where
           go : (b : Bool) → eqb (p .number) checksumNumber ≡ b → Accepted (p ∷ ps) (countOf frame p ∷ Counts ps)
           go true e = Accepted.skip (eqb-true (p .number) checksumNumber e) a
-          go false e = Accepted.fine (eqb-false (p .number) checksumNumber e) (raw-lt frame (p .start) (bitsOf (p .number))) (neither-packs (placedClass frame p) (n .0) (n .1)) a
+          go false e = Accepted.fine (eqb-false (p .number) checksumNumber e) (raw-lt frame (p .start) (bitsOf (p .number))) (neither-packs (placedClass frame p) (read-class frame p s) (n .0) (n .1)) a
 
 counts-at : (frame : List ℕ) (ps : List Placement) (d : Placement) (i : ℕ) → i < length ps → getD (Counts frame ps) i 0 ≡ countOf frame (getD ps i d)
 counts-at frame [] d i h = absurd (not-suc-le-zero h)
@@ -117,7 +124,7 @@ module _ (words : List ℕ) (identifier : ℕ) (frame : List ℕ) (small : (k : 
       ∙ List·getD-append (Codes frame (m .placements)) (drop (length (Codes frame (m .placements))) (slices .classes)) 0 i (omega (arith, codes-many))
 
   fine : Accepted (m .placements) Raws
-  fine = again frame (m .placements) (λ i h. let none' = none i (omega (arith, count)) in (λ c. none' .0 (code-at i h ∙ c), λ c. none' .1 (code-at i h ∙ c)))
+  fine = again frame (m .placements) (sits-at sound noPlacement) (λ i h. let none' = none i (omega (arith, count)) in (λ c. none' .0 (code-at i h ∙ c), λ c. none' .1 (code-at i h ∙ c)))
 
   -- bit j of a count is bit j of the other
   kept : (i : ℕ) → i < length (m .placements) → Counted m i → (j : ℕ) → j < bitsOf (placementAt m i .number)

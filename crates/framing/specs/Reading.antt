@@ -26,8 +26,8 @@ readingNumber UnknownIdentifier = 22
 readingNumber WrongChecksum = 23
 readingNumber TooLittleRoom = 24
 
--- the code of a class in the lent slice of classes; the last two do not come, as a placed signal is in the catalogue and its count fits
--- (proofs/Classes.antt)
+-- the code of a class in the lent slice of classes; the last two do not come there, as a placed signal is in the catalogue and its count
+-- fits (proofs/Classes.antt)
 abbrev pub classCode : Class → ℕ
 classCode (Value t) = 0
 classCode (Invalid r) = 1
@@ -35,8 +35,8 @@ classCode (Absent r) = 2
 classCode (Error r) = 3
 classCode (Reserved r) = 4
 classCode (Outside r) = 5
-classCode NotInCatalogue = 5
-classCode TooWide = 5
+classCode NotInCatalogue = 6
+classCode TooWide = 7
 
 -- the thousandths of a value; 0 where the class is no value
 abbrev pub thousandthsOf : Class → ℤ

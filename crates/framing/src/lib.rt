@@ -4,7 +4,7 @@
 // What reading a frame answers.
 pub enum Reading {
     // This many placements were read.
-    Read(usize),
+    Read(u32),
     // The message and signal tables are those of no taken book.
     NotABook,
     // The frame is not 8 bytes.

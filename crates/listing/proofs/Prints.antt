@@ -36,13 +36,10 @@ lines-same identifier word h (AllFit.more {p} {ps} f fs) =
     ∙ ap (λ (l : List ℕ). readingLine identifier (p .number) (placedClass (bytesOf word) p) ++ l) (lines-same identifier word h fs)
 
 module _ (identifier word : ℕ) (h : word < 2 ^ 64) (ns ss : List ℕ) (same : length ss ≡ length ns) (fit : AllFit (sideBySide ns ss)) where
-  check-word : checkHolds identifier word ns ≡ checksumHolds (messageFrom identifier ns ss) (bytesOf word)
-  check-word = check-same identifier word ns ss h (record { same = same; fit = fit })
-
   text-same : messageText identifier word ns ss ≡ messageListing identifier (bytesOf word) (some (messageFrom identifier ns ss))
   unfolding messageText messageListing
   text-same =
-      ap (λ (b : Bool). cond b (wordLines identifier word (sideBySide ns ss)) (refusedFrameLine identifier (readingNumber WrongChecksum))) check-word
+      ap (λ (b : Bool). cond b (wordLines identifier word (sideBySide ns ss)) (refusedFrameLine identifier (readingNumber WrongChecksum))) (check-same identifier word ns ss h same)
       ∙ ap (λ (l : List ℕ). cond (checksumHolds (messageFrom identifier ns ss) (bytesOf word)) l (refusedFrameLine identifier (readingNumber WrongChecksum))) (lines-same identifier word h fit)
 
 -- ---- what each answer on the way prints

@@ -28,7 +28,7 @@ fn list_frame(
     identifier: u32,
     word: u64,
     widths: &[u8],
-    above: &[usize],
+    above: &[u32],
     out: &mut [u8],
     at: usize,
 ) -> Fitted
@@ -59,7 +59,7 @@ pub fn list_line(
     book: &[u32; BOOK_WORDS],
     line: &[u8],
     widths: &[u8],
-    above: &[usize],
+    above: &[u32],
     out: &mut [u8],
     at: usize,
 ) -> Fitted

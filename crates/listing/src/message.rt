@@ -25,7 +25,7 @@ fn put_signals(
     numbers: &[u32],
     starts: &[u32],
     widths: &[u8],
-    above: &[usize],
+    above: &[u32],
 ) -> usize
     requires { ⌜ WidthColumns (now above) (now widths) × Roomy (now out) at (now numbers) (now starts) ⌝ }
     ensures { λ r. ⌜ SignalsPut (now (out .entry)) at identifier word (now (numbers .entry)) (now (starts .entry)) (now (out .exit)) r ⌝ }
@@ -52,7 +52,7 @@ fn list_signals(
     numbers: &[u32],
     starts: &[u32],
     widths: &[u8],
-    above: &[usize],
+    above: &[u32],
 ) -> Fitted
     requires { ⌜ WidthColumns (now above) (now widths) × Listable (now out) at (now numbers) (now starts) ⌝ }
     ensures { λ r. ⌜ PutIfFits (now (out .entry)) at (wordLines identifier word (sideBySide (now (numbers .entry)) (now (starts .entry)))) (now (out .exit)) r ⌝ }
@@ -92,7 +92,7 @@ pub fn list_message(
     numbers: &[u32],
     starts: &[u32],
     widths: &[u8],
-    above: &[usize],
+    above: &[u32],
 ) -> Fitted
     requires { ⌜ WidthColumns (now above) (now widths) × Listable (now out) at (now numbers) (now starts) ⌝ }
     ensures { λ r. ⌜ PutIfFits (now (out .entry)) at (messageText identifier word (now (numbers .entry)) (now (starts .entry))) (now (out .exit)) r ⌝ }

@@ -1,28 +1,26 @@
 -- Each contract allows one outcome and no other: a result, with what stands in what was lent at exit. Assumes nothing.
 use mathlib.Core.Path.{refl}
 use mathlib.Core.Option.{some}
-use base.Stored.{codedℕ, coded×, codedList}
+use base.Stored.{codedℕ, codedℤ, coded×, codedList}
 use denote.Ref.{now}
 use Rattle.only.specs.Outcomes.{OneResult, OneOutcome, result-is, outcome-is}
 use Rattle.bits.specs.Word.{bytesOf}
-use Rattle.framing.specs.Reading.{classCode, thousandthsOf, readByMessage}
+use Rattle.framing.specs.Reading.{readByMessage}
 use Rattle.framing.proofs.CodedSlices.{codedSlices}
 use Rattle.framing.proofs.Reading as the-reading
 use Rattle.framing.proofs.Packing as the-packing
-use Rattle.messages.specs.Signals.{checkHolds, messageFrom}
+use Rattle.messages.specs.Signals.{numbersOfClass, checkHolds, messageFrom}
 use Rattle.messages.specs.Put.{packInto}
-use Rattle.messages.proofs.classes.code_of as code-of
-use Rattle.messages.proofs.classes.thousandths_of as thousandths-of
+use Rattle.messages.proofs.classes.class_numbers as class-numbers
 use Rattle.messages.proofs.checksum.checked as checked
 use Rattle.messages.proofs.reading.read_message as read-message
 use Rattle.messages.proofs.packing.pack_message as pack-message
 
 module _ (M : Type 1) where
-  pub one-code-of : OneResult M code-of.ended code-of.clauses
-  one-code-of = result-is (λ c. classCode (c .arguments .0)) refl
-
-  pub one-thousandths-of : OneResult M thousandths-of.ended thousandths-of.clauses
-  one-thousandths-of = result-is (λ c. thousandthsOf (c .arguments .0)) refl
+  pub one-class-numbers : OneOutcome M class-numbers.ended class-numbers.clauses
+  one-class-numbers =
+      outcome-is (coded× codedℤ codedℕ) (λ c o. (o .0, o .1 .1 .1 .0)) (λ c x. (x .0, (tt, (tt, (x .1, tt))))) (λ c o. refl) (λ c x. refl)
+      (λ c. numbersOfClass (c .arguments .0) (c .arguments .1 .0)) refl
 
   pub one-checked : OneResult M checked.ended checked.clauses
   one-checked = result-is (λ c. checkHolds (c .arguments .0) (c .arguments .1 .0) (now (c .arguments .1 .1 .0))) refl

@@ -16,9 +16,13 @@ use Rattle.books.specs.Words.{sideBySide}
 use Rattle.books.proofs.Sides.{side-numbers}
 use Rattle.catalogue.specs.Find.{bitsOf}
 use Rattle.catalogue.specs.Class.{classOf}
+use Rattle.catalogue.specs.declared.Class.{Class}
+use Rattle.catalogue.specs.declared.Class.the-variants as Class
+use Rattle.catalogue.specs.declared.Class.the-variants.{Value, Invalid, Absent, Error, Reserved, Outside, NotInCatalogue}
 use Rattle.framing.specs.declared.Packing.{Packing}
 use Rattle.framing.specs.declared.Packing.the-variants as Answer
 use Rattle.framing.specs.Messages.{checksumNumber, checksumStart, checksumBits}
+use Rattle.framing.specs.Reading.{classCode}
 use Rattle.framing.specs.Packing.{packable, judgedValues}
 use Rattle.framing.specs.Putting.{allOnes, put, withChecksum, putFrame}
 use Rattle.messages.specs.Signals.{summedWord, messageFrom}
@@ -39,6 +43,27 @@ module _ (identifier word : ℕ) (ns : List ℕ) where
   summed-nowhere e = rw e refl
 
 -- ---- one value
+
+-- the code of its class says whether it is sent
+pub fine-code : {k : ℕ} (c : Class) → k ≡ classCode c → k < 4 → packable c ≡ true
+fine-code (Value t) e h = refl
+fine-code (Invalid r) e h = refl
+fine-code (Absent r) e h = refl
+fine-code (Error r) e h = refl
+fine-code (Reserved r) e h = absurd (omega (arith, e, h))
+fine-code (Outside r) e h = absurd (omega (arith, e, h))
+fine-code NotInCatalogue e h = absurd (omega (arith, e, h))
+fine-code Class.TooWide e h = absurd (omega (arith, e, h))
+
+pub barred-code : {k : ℕ} (c : Class) → k ≡ classCode c → 4 ≤ k → packable c ≡ false
+barred-code (Value t) e h = absurd (omega (arith, e, h))
+barred-code (Invalid r) e h = absurd (omega (arith, e, h))
+barred-code (Absent r) e h = absurd (omega (arith, e, h))
+barred-code (Error r) e h = absurd (omega (arith, e, h))
+barred-code (Reserved r) e h = refl
+barred-code (Outside r) e h = refl
+barred-code NotInCatalogue e h = refl
+barred-code Class.TooWide e h = refl
 
 module _ (w : ℕ) (p : Placement) (v : ℕ) where
   pub put-skips : p .number ≡ checksumNumber → Word w ≡ putOne w p v

@@ -40,18 +40,21 @@ count-same word h p f = sym (read-bytes word (p .start) (bitsOf (p .number)) h (
 pub class-same : (word : ℕ) → word < 2 ^ 64 → (p : Placement) → Fits (p .start) (bitsOf (p .number)) → classFrom word p ≡ placedClass (bytesOf word) p
 class-same word h p f = ap (λ (x : ℕ). classOf (p .number) (record { 0 = x })) (count-same word h p f)
 
+-- the check on the word is the check on the frame
+pub check-same : (identifier word : ℕ) (ns ss : List ℕ) → word < 2 ^ 64 → length ss ≡ length ns → checkHolds identifier word ns ≡ checksumHolds (messageFrom identifier ns ss) (bytesOf word)
+unfolding checkHolds checksumHolds
+check-same identifier word ns ss hw same =
+    ap (λ (l : List ℕ). not (isIn checksumNumber l) || eqb (fieldOf word checksumStart checksumBits) (checksumOf identifier (bytesOf word))) (sym (side-numbers ns ss same))
+    ∙ ap (λ (n : ℕ). not (isIn checksumNumber (numbers (sideBySide ns ss))) || eqb n (checksumOf identifier (bytesOf word))) (sym (read-bytes word checksumStart checksumBits hw (lit≤ tt)))
+
 module _ (identifier word : ℕ) (ns ss : List ℕ) (hw : word < 2 ^ 64) (r : Readable ns ss) where
   abbrev M : Message
   M = messageFrom identifier ns ss
 
-  -- the check on the word is the check on the frame
-  pub check-same : checkHolds identifier word ns ≡ checksumHolds M (bytesOf word)
-  unfolding checkHolds checksumHolds
-  check-same =
-      ap (λ (l : List ℕ). not (isIn checksumNumber l) || eqb (fieldOf word checksumStart checksumBits) (checksumOf identifier (bytesOf word))) (sym (side-numbers ns ss (r .same)))
-      ∙ ap (λ (n : ℕ). not (isIn checksumNumber (numbers (sideBySide ns ss))) || eqb n (checksumOf identifier (bytesOf word))) (sym (read-bytes word checksumStart checksumBits hw (lit≤ tt)))
-
   module _ (lent : Slices) where
+    check : checkHolds identifier word ns ≡ checksumHolds M (bytesOf word)
+    check = check-same identifier word ns ss hw (r .same)
+
     wrote : {A : Type 0} (f g : Placement → A) (l : List A) → ((p : Placement) → Fits (p .start) (bitsOf (p .number)) → f p ≡ g p) → length ns ≤ length l
         → sets l 0 (map f (sideBySide ns ss)) ≡ written (map g (sideBySide ns ss)) l
     wrote f g l h n =
@@ -60,21 +63,21 @@ module _ (identifier word : ℕ) (ns ss : List ℕ) (hw : word < 2 ^ 64) (r : Re
 
     pub refused-check : checkHolds identifier word ns ≡ false → _≡_ {A = Reading × Slices} (WrongChecksum, lent) (readByMessage (some M) (bytesOf word) lent)
     unfolding readByMessage
-    refused-check e = rw (sym check-same ∙ e) refl
+    refused-check e = rw (sym check ∙ e) refl
 
     pub refused-room : checkHolds identifier word ns ≡ true → room lent < length ns → _≡_ {A = Reading × Slices} (TooLittleRoom, lent) (readByMessage (some M) (bytesOf word) lent)
     unfolding readByMessage
-    refused-room e h = rw (sym check-same ∙ e, side-length ns ss (r .same), lt-leb (length ns) (room lent) h) refl
+    refused-room e h = rw (sym check ∙ e, side-length ns ss (r .same), lt-leb (length ns) (room lent) h) refl
 
-    pub was-read : checkHolds identifier word ns ≡ true → length ns ≤ room lent → (out : Slices)
+    pub was-read : checkHolds identifier word ns ≡ true → length ns ≤ room lent → (count : ℕ) → count ≡ length ns → (out : Slices)
         → out .raws ≡ sets (lent .raws) 0 (map (rawIn word) (sideBySide ns ss))
         → out .classes ≡ sets (lent .classes) 0 (map (codeIn word) (sideBySide ns ss))
         → out .thousandths ≡ sets (lent .thousandths) 0 (map (readingIn word) (sideBySide ns ss))
-        → _≡_ {A = Reading × Slices} (Read (length ns), out) (readByMessage (some M) (bytesOf word) lent)
+        → _≡_ {A = Reading × Slices} (Read count, out) (readByMessage (some M) (bytesOf word) lent)
     unfolding readByMessage
-    was-read e h out a b c =
+    was-read e h count many out a b c =
         let raws = a ∙ wrote (rawIn word) (countOf (bytesOf word)) (lent .raws) (count-same word hw) (omega arith) in
         let classes = b ∙ wrote (codeIn word) (λ (p : Placement). classCode (placedClass (bytesOf word) p)) (lent .classes) (λ p f. ap classCode (class-same word hw p f)) (omega arith) in
         let thousandths = c ∙ wrote (readingIn word) (λ (p : Placement). thousandthsOf (placedClass (bytesOf word) p)) (lent .thousandths) (λ p f. ap thousandthsOf (class-same word hw p f)) (omega arith) in
         let done : out ≡ readings (bytesOf word) (sideBySide ns ss) lent = λ i. record { raws = raws i; classes = classes i; thousandths = thousandths i } in
-        rw (sym check-same ∙ e, side-length ns ss (r .same), le-leb (length ns) (room lent) h) (ap (λ (x : Slices). (Read (length ns), x)) done)
+        rw (sym check ∙ e, side-length ns ss (r .same), le-leb (length ns) (room lent) h) (λ i. (Read (many i), done i))

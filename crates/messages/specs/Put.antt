@@ -3,9 +3,10 @@
 use mathlib.Core.Path.{_≡_}
 use mathlib.Core.Bool.{cond}
 use mathlib.Core.List.{List, [], _∷_}
-use Prim.Native.Nat.{ℕ, _^_}
+use Prim.Native.Nat.{ℕ, _^_, _≤_}
 use lib.Dec.{eqb, leb}
 use lib.ListN.{length}
+use Rattle.record.specs.Limits.{signalLimit}
 use Rattle.bits.specs.Word as Word
 use Rattle.books.specs.Book.{Placement, Message}
 use Rattle.books.specs.Words.{sideBySide}
@@ -35,8 +36,9 @@ putAll (Word w) (p ∷ ps) (v ∷ vs) = putAll (putOne w p v) ps vs
 putAll TooWide (p ∷ ps) (v ∷ vs) = TooWide
 putAll ReservedOrOutside (p ∷ ps) (v ∷ vs) = ReservedOrOutside
 
--- as many values as placements, which lie within the frame
+-- as many values as placements, which lie within the frame and are no more than a book may have
 pub record Packable (ns ss vs : List ℕ) : Type 0 where
+  pub few : length ns ≤ signalLimit
   pub same : length ss ≡ length ns
   pub many : length vs ≡ length ns
   pub fit : AllFit (sideBySide ns ss)

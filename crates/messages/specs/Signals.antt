@@ -8,6 +8,7 @@ use lib.Dec.{eqb}
 use lib.IntN.{ℤ}
 use lib.ListN.{length}
 use lib.Seq.{sets}
+use Rattle.record.specs.Limits.{signalLimit}
 use Rattle.bits.specs.Word.{Fits, bytesOf, fieldOf}
 use Rattle.bits.specs.Word as Word
 use Rattle.bits.specs.Checksum.{checksumOf}
@@ -16,6 +17,7 @@ use Rattle.books.specs.Lines.{isIn}
 use Rattle.books.specs.Words.{sideBySide}
 use Rattle.catalogue.specs.Find.{bitsOf}
 use Rattle.catalogue.specs.Class.{classOf}
+use Rattle.catalogue.specs.declared.Raw.{Raw}
 use Rattle.catalogue.specs.declared.Class.{Class}
 use Rattle.framing.specs.Lending.{Lent}
 use Rattle.framing.specs.Messages.{checksumNumber, checksumStart, checksumBits}
@@ -26,13 +28,18 @@ pub data AllFit : List Placement → Type 0 where
   none : AllFit []
   more : {p : Placement} {ps : List Placement} → Fits (p .start) (bitsOf (p .number)) → AllFit ps → AllFit (p ∷ ps)
 
--- numbers and starts of placements that lie within the frame, and three slices that have room for their readings
+-- numbers and starts of placements that lie within the frame, no more than a book may have, and three slices that have room for their readings
 pub record InStep (ns ss : List ℕ) (raws classes thousandths : ℕ) : Type 0 where
+  pub few : length ns ≤ signalLimit
   pub same : length ss ≡ length ns
   pub fit : AllFit (sideBySide ns ss)
   pub raw-room : length ns ≤ raws
   pub class-room : length ns ≤ classes
   pub thousandth-room : length ns ≤ thousandths
+
+-- the thousandths of a raw count of the signal with a number, and the code of its class
+abbrev pub numbersOfClass : ℕ → Raw → ℤ × ℕ
+numbersOfClass number raw = (thousandthsOf (classOf number raw), classCode (classOf number raw))
 
 -- the raw count of a placement in a frame's word, its class code and its thousandths
 abbrev pub rawIn : ℕ → Placement → ℕ
@@ -64,8 +71,9 @@ checkHolds identifier word ns =
 abbrev pub messageFrom : ℕ → List ℕ → List ℕ → Message
 messageFrom identifier ns ss = record { identifier = identifier; placements = sideBySide ns ss }
 
--- numbers and starts of placements that lie within a frame
+-- numbers and starts of placements that lie within a frame, no more than a book may have
 pub record Readable (ns ss : List ℕ) : Type 0 where
+  pub few : length ns ≤ signalLimit
   pub same : length ss ≡ length ns
   pub fit : AllFit (sideBySide ns ss)
 

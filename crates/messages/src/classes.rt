@@ -1,10 +1,14 @@
 // A class in numbers: its code, and the thousandths of a value.
 ghost use mathlib.Core.Path.{_≡_};
+ghost use Prim.Native.Nat.{ℕ};
+ghost use lib.IntN.{ℤ};
 ghost use Rattle.framing.specs.Reading.{classCode, thousandthsOf};
+ghost use Rattle.messages.specs.Signals.{numbersOfClass};
 use catalogue::Class;
+use catalogue::Raw;
 
 // The code of a class.
-pub fn code_of(class: Class) -> u8
+fn code_of(class: Class) -> u8
     ensures { λ r. ⌜ r ≡ classCode class ⌝ }
 {
     match class {
@@ -14,13 +18,13 @@ pub fn code_of(class: Class) -> u8
         Class::Error(_) => 3,
         Class::Reserved(_) => 4,
         Class::Outside(_) => 5,
-        Class::NotInCatalogue => 5,
-        Class::TooWide => 5,
+        Class::NotInCatalogue => 6,
+        Class::TooWide => 7,
     }
 }
 
 // The thousandths of a value, and 0 where the class is no value.
-pub fn thousandths_of(class: Class) -> i64
+fn thousandths_of(class: Class) -> i64
     ensures { λ r. ⌜ r ≡ thousandthsOf class ⌝ }
 {
     match class {
@@ -33,4 +37,14 @@ pub fn thousandths_of(class: Class) -> i64
         Class::NotInCatalogue => 0,
         Class::TooWide => 0,
     }
+}
+
+// The class of one raw count of the signal with a number: its code goes where it is lent, and the answer is its thousandths. Whoever
+// reads, packs or classes a count asks here, so that the class itself, which is no number, never goes through memory.
+pub fn class_numbers(number: u32, raw: Raw, code: &mut u8) -> i64
+    ensures { λ r. ⌜ _≡_ {A = ℤ × ℕ} (r, now (code .exit)) (numbersOfClass number raw) ⌝ }
+{
+    let class = catalogue::class_of(number, raw);
+    *code = code_of(class);
+    thousandths_of(class)
 }

@@ -7,7 +7,6 @@ mod packing;
 mod reading;
 
 pub use checksum::checked;
-pub use classes::code_of;
-pub use classes::thousandths_of;
+pub use classes::class_numbers;
 pub use packing::pack_message;
 pub use reading::read_message;

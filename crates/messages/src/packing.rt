@@ -7,15 +7,17 @@ ghost use Rattle.books.specs.Words.{sideBySide};
 ghost use Rattle.catalogue.specs.Find.{bitsOf};
 ghost use Rattle.catalogue.specs.Places.{WidthColumns};
 ghost use Rattle.framing.specs.Lending.{PacksInto};
-ghost use Rattle.framing.specs.Packing.{packable};
 ghost use Rattle.framing.specs.Putting.{allOnes};
 ghost use Rattle.messages.specs.Signals.{messageFrom};
 ghost use Rattle.messages.specs.Put.{Packable, putOne, putAll, packInto};
 use crate::checksum::summed;
-use catalogue::Class;
+use crate::classes::class_numbers;
 use catalogue::Raw;
 use framing::Packing;
 use record::CHECKSUM;
+
+// The code of the first class that is not sent: reserved, and after it outside.
+const RESERVED: u8 = 4;
 
 // A word with counts put in, or why one is not.
 pub enum PutWord {
@@ -24,30 +26,8 @@ pub enum PutWord {
     ReservedOrOutside,
 }
 
-fn is_packable(class: Class) -> bool
-    ensures { λ r. ⌜ r ≡ packable class ⌝ }
-{
-    match class {
-        Class::Value(_) => true,
-        Class::Invalid(_) => true,
-        Class::Absent(_) => true,
-        Class::Error(_) => true,
-        Class::Reserved(_) => false,
-        Class::Outside(_) => false,
-        Class::NotInCatalogue => false,
-        Class::TooWide => false,
-    }
-}
-
 // The word with one more value at its place; 503 is skipped. The bits come from the catalogue's columns, which are lent.
-fn put_one(
-    word: u64,
-    number: u32,
-    start: u32,
-    value: u32,
-    widths: &[u8],
-    above: &[usize],
-) -> PutWord
+fn put_one(word: u64, number: u32, start: u32, value: u32, widths: &[u8], above: &[u32]) -> PutWord
     requires { ⌜ WidthColumns (now above) (now widths) × Fits start (bitsOf number) ⌝ }
     ensures { λ r. ⌜ r ≡ putOne word (record { number = number; start = start }) value ⌝ }
 {
@@ -58,30 +38,28 @@ fn put_one(
     if catalogue::is_too_wide(bits, value) {
         return PutWord::TooWide;
     }
-    if is_packable(catalogue::class_of(number, Raw(value))) {
-        return PutWord::Word(bits::place(word, start, bits, value));
+    let mut code: u8 = 0;
+    class_numbers(number, Raw(value), &mut code);
+    if code >= RESERVED {
+        return PutWord::ReservedOrOutside;
     }
-    PutWord::ReservedOrOutside
+    PutWord::Word(bits::place(word, start, bits, value))
 }
 
 // A word of ones with each value but that of 503 at its place.
-fn put_all(
-    numbers: &[u32],
-    starts: &[u32],
-    values: &[u32],
-    widths: &[u8],
-    above: &[usize],
-) -> PutWord
+fn put_all(numbers: &[u32], starts: &[u32], values: &[u32], widths: &[u8], above: &[u32]) -> PutWord
     requires { ⌜ WidthColumns (now above) (now widths) × Packable (now numbers) (now starts) (now values) ⌝ }
     ensures { λ r. ⌜ r ≡ putAll (PutWord.Word allOnes) (sideBySide (now (numbers .entry)) (now (starts .entry))) (now (values .entry)) ⌝ }
 {
     let mut word: u64 = 0xffff_ffff_ffff_ffff;
+    let mut left = columns::length_of(numbers);
     let mut i: usize = 0;
-    while i < numbers.len() {
+    while left > 0 {
         match put_one(word, numbers[i], starts[i], values[i], widths, above) {
             PutWord::Word(next) => {
                 word = next;
                 i += 1;
+                left -= 1;
             }
             PutWord::TooWide => return PutWord::TooWide,
             PutWord::ReservedOrOutside => return PutWord::ReservedOrOutside,

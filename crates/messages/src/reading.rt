@@ -10,8 +10,7 @@ ghost use Rattle.framing.specs.Lending.{ReadsInto};
 ghost use Rattle.framing.specs.Reading.{readByMessage};
 ghost use Rattle.messages.specs.Signals.{InStep, SignalsRead, messageFrom, Readable};
 use crate::checksum::checked;
-use crate::classes::code_of;
-use crate::classes::thousandths_of;
+use crate::classes::class_numbers;
 use catalogue::Raw;
 use framing::Reading;
 
@@ -22,7 +21,7 @@ pub fn read_signals(
     numbers: &[u32],
     starts: &[u32],
     widths: &[u8],
-    above: &[usize],
+    above: &[u32],
     raws: &mut [u32],
     classes: &mut [u8],
     thousandths: &mut [i64],
@@ -30,16 +29,19 @@ pub fn read_signals(
     requires { ⌜ WidthColumns (now above) (now widths) × InStep (now numbers) (now starts) (length (now raws)) (length (now classes)) (length (now thousandths)) ⌝ }
     ensures { λ _. ⌜ SignalsRead word (sideBySide (now (numbers .entry)) (now (starts .entry))) raws classes thousandths ⌝ }
 {
+    let mut left = columns::length_of(numbers);
     let mut i: usize = 0;
-    while i < numbers.len() {
+    while left > 0 {
         let number = numbers[i];
         let bits = catalogue::known_bits(number, widths, above);
         let raw = bits::take(word, starts[i], bits);
-        let class = catalogue::class_of(number, Raw(raw));
+        let mut code: u8 = 0;
+        let reading = class_numbers(number, Raw(raw), &mut code);
         raws[i] = raw;
-        classes[i] = code_of(class);
-        thousandths[i] = thousandths_of(class);
+        classes[i] = code;
+        thousandths[i] = reading;
         i += 1;
+        left -= 1;
     }
 }
 
@@ -65,8 +67,7 @@ pub fn read_message(
     if !checked(identifier, word, numbers) {
         return Reading::WrongChecksum;
     }
-    let count = numbers.len();
-    if least(raws.len(), least(classes.len(), thousandths.len())) < count {
+    if least(raws.len(), least(classes.len(), thousandths.len())) < numbers.len() {
         return Reading::TooLittleRoom;
     }
     let above = catalogue::surpluses();
@@ -81,5 +82,5 @@ pub fn read_message(
         classes,
         thousandths,
     );
-    Reading::Read(count)
+    Reading::Read(columns::length_of(numbers))
 }

@@ -19,7 +19,7 @@ use Rattle.placing.specs.declared.Filled.{Filled}
 use Rattle.placing.specs.Placing.{FrameRoom}
 use Rattle.placing.specs.Filling.{marked, Fills, FilledMore}
 use Rattle.placing.proofs.Covering.{covers-none, covers-more, same-meeting}
-use Rattle.placing.proofs.Runs.{run-bits}
+use Rattle.placing.proofs.Runs.{runOf, run-bits}
 use Rattle.placing.proofs.Marks.{marked-none, marked-more}
 
 pub fills-none : (f : Filled) → f .bits ≡ 0 → f .marks ≡ 0 → Fills [] f
@@ -39,9 +39,9 @@ fills-once ps f g h k =
 -- there is a mask with the bits of a run more, and one with a mark more
 pub more-there : (f : Filled) (number start bits : ℕ) → FrameRoom start bits → (g : Filled) × FilledMore f number start bits g
 more-there f number start bits r = (
-  record { bits = bitOr (f .bits) ((1 * 2 ^ bits % 2 ^ 64 - 1) * 2 ^ start % 2 ^ 64); marks = bitOr (f .marks) (1 * 2 ^ (number % width) % 2 ^ 64) },
+  record { bits = bitOr (f .bits) (runOf start bits); marks = bitOr (f .marks) (1 * 2 ^ (number % width) % 2 ^ 64) },
   record {
-    bits-more = λ k. bit-or (f .bits) _ k ∙ ap (λ (t : Bool). bit (f .bits) k || t) (run-bits start bits (r .few) (r .to) k);
+    bits-more = λ k. bit-or (f .bits) _ k ∙ ap (λ (t : Bool). bit (f .bits) k || t) (run-bits start bits (r .to) k);
     marks-more = λ j. bit-with (f .marks) (number % width) j (omega arith);
   },
 )

@@ -1,7 +1,7 @@
 -- One signal against its frame. Assumes nothing.
 use mathlib.Core.Path.{_≡_, refl, sym, ap, _∙_}
 use mathlib.Core.Bool.{Bool, true, false, _||_, not, or-true, or-false, Bool·not-not}
-use Prim.Native.Nat.{ℕ, _+_, _≤_, _<_}
+use Prim.Native.Nat.{ℕ, _+_, _-_, _≤_, _<_}
 use native.Mathlib.Nat.{pos-of-ne-zero}
 use native.Mathlib.Omega.{arith}
 use lib.Dec.{eqb, leb, ltb}
@@ -52,21 +52,21 @@ module _ (n s : ℕ) where
   unfolding unknownOrOver
   known e g = rw (ne-eqb _ _ e, lt-leb _ _ g)
 
--- a frame has room for a signal that stands alone
+-- a signal that stands alone has bits
+pub has-bits : (p : Placement) → standsAlone p ≡ true → 0 < bitsOf (p .number)
+unfolding unknownOrOver
+has-bits p h =
+    let n = neither (eqb (bitsOf (p .number)) 0 || leb frameBits (p .start)) (misplaced p) h in
+    pos-of-ne-zero (eqb-false _ _ (both-false (eqb (bitsOf (p .number)) 0) (leb frameBits (p .start)) (n .0) .0))
+
+-- and a frame has room for them
 pub alone-room : (n s b : ℕ) → b ≡ bitsOf n → standsAlone (placement n s) ≡ true → FrameRoom s b
 unfolding unknownOrOver
 alone-room n s b e h =
     let p = placement n s in
     let a = neither (unknownOrOver p) (misplaced p) h in
     let u = both-false (eqb (bitsOf n) 0) (leb frameBits s) (a .0) in
-    record { from = leb-false _ _ (u .1); few = omega (arith, e, few-bits n); to = not-past n s b e (a .1) }
-
--- and it has bits
-pub has-bits : (p : Placement) → standsAlone p ≡ true → 0 < bitsOf (p .number)
-unfolding unknownOrOver
-has-bits p h =
-    let n = neither (eqb (bitsOf (p .number)) 0 || leb frameBits (p .start)) (misplaced p) h in
-    pos-of-ne-zero (eqb-false _ _ (both-false (eqb (bitsOf (p .number)) 0) (leb frameBits (p .start)) (n .0) .0))
+    record { from = leb-false _ _ (u .1); some = rw e (has-bits p h); few = omega (arith, e, few-bits n); to = not-past n s b e (a .1) }
 
 -- ---- a signal that has bits, by where they end and by the start of its own
 checksum-bits : bitsOf checksumNumber ≡ 4
@@ -77,15 +77,18 @@ counter-bits : bitsOf counterNumber ≡ 4
 unfolding bitsOf rowOf rows
 counter-bits = refl
 
-module _ (n s b : ℕ) (known-bits : (0 < b) × (b ≡ bitsOf n)) (end : ℕ) (ends : end ≡ s + b) where
-  pub alone-past : frameBits < end → false ≡ standsAlone (placement n s)
+module _ (n s b : ℕ) (known-bits : (0 < b) × (b ≡ bitsOf n)) where
+  few : b ≤ frameBits
+  few = omega (arith, known-bits .1, few-bits n)
+
+  pub alone-past : frameBits - b < s → false ≡ standsAlone (placement n s)
   alone-past h =
-      sym (ap (λ (t : Bool). not (unknownOrOver (placement n s) || t)) (past-end n s b (known-bits .1) (omega (arith, ends, h)))
+      sym (ap (λ (t : Bool). not (unknownOrOver (placement n s) || t)) (past-end n s b (known-bits .1) (omega (arith, few, h)))
       ∙ ap not (or-true (unknownOrOver (placement n s))))
 
-  module _ (h : end ≤ frameBits) where
+  module _ (h : s ≤ frameBits - b) where
     inside : s + b ≤ frameBits
-    inside = omega (arith, ends, h)
+    inside = omega (arith, few, h)
 
     only-misplaced : standsAlone (placement n s) ≡ not (misplaced (placement n s))
     only-misplaced =

@@ -2,13 +2,12 @@
 use mathlib.Core.Path.{_≡_, refl, sym, ap, _∙_, subst}
 use mathlib.Core.Bool.{Bool, true, false, _&&_}
 use Prim.Native.Nat.{ℕ, zero, suc, _+_, _-_, _*_, _/_, _%_, _^_, _≤_, _<_}
-use native.Mathlib.Nat.{mul-one, one-mul, div-one, pow-succ', suc-add, zero-add}
+use native.Mathlib.Nat.{mul-one, div-one, pow-succ', suc-add, zero-add}
 use native.Mathlib.Omega.{arith}
 use lib.Bits.{shifted-half, shifted-even}
-use lib.Pow.{pow-pos, shl-exact, ones-lt}
+use lib.Pow.{pow-pos, shl-exact, ones-lt, ones-split, high}
 use lib.Dec.{eqb, leb, ltb}
 use borrow.Author.Tests.{lt-ltb, le-ltb, le-leb, lt-leb, ltb-true, ltb-false}
-use Rattle.rows.specs.Rule.{mostBits}
 use Rattle.masks.specs.Bit.{width, bit}
 use Rattle.masks.proofs.Bits.{bit-zero, bit-suc}
 use Rattle.books.specs.Belonging.{inRun}
@@ -47,17 +46,22 @@ shifted-at x (suc a) k =
     ∙ ap (λ (n : ℕ). bit n (a + k)) (shifted-half x a)
     ∙ shifted-at x a k
 
--- 1 << b, which a word holds
-pub one-shifted : (b : ℕ) → b ≤ mostBits → 1 * 2 ^ b % 2 ^ 64 ≡ 2 ^ b
-one-shifted b h = shl-exact 1 b 64 (omega arith) (omega arith) ∙ one-mul (2 ^ b)
+-- of the ones of a word, b are left
+ones-left : (b : ℕ) → b ≤ width → (2 ^ 64 - 1) / 2 ^ (64 - b) ≡ 2 ^ b - 1
+ones-left b h =
+    let e : 64 ≡ b + (64 - b) = omega (arith, h) in
+    ap (λ (n : ℕ). (2 ^ n - 1) / 2 ^ (64 - b)) e ∙ ap (λ (n : ℕ). n / 2 ^ (64 - b)) (ones-split b (64 - b)) ∙ high (2 ^ b - 1) (64 - b) (ones-lt (64 - b))
 
 -- b ones from bit s on
-pub run-bits : (s b : ℕ) → b ≤ mostBits → s + b ≤ width → (k : ℕ) → bit ((1 * 2 ^ b % 2 ^ 64 - 1) * 2 ^ s % 2 ^ 64) k ≡ inRun s b k
+abbrev pub runOf : ℕ → ℕ → ℕ
+runOf s b = (2 ^ 64 - 1) / 2 ^ (64 - b) * 2 ^ s % 2 ^ 64
+
+pub run-bits : (s b : ℕ) → s + b ≤ width → (k : ℕ) → bit (runOf s b) k ≡ inRun s b k
 unfolding inRun
-run-bits s b h g k = ap (λ (n : ℕ). bit n k) value ∙ at (ltb k s) refl
+run-bits s b g k = ap (λ (n : ℕ). bit n k) value ∙ at (ltb k s) refl
   where
-    value : (1 * 2 ^ b % 2 ^ 64 - 1) * 2 ^ s % 2 ^ 64 ≡ (2 ^ b - 1) * 2 ^ s
-    value = ap (λ (n : ℕ). (n - 1) * 2 ^ s % 2 ^ 64) (one-shifted b h) ∙ shl-exact b s 64 (ones-lt b) (omega arith)
+    value : runOf s b ≡ (2 ^ b - 1) * 2 ^ s
+    value = ap (λ (n : ℕ). n * 2 ^ s % 2 ^ 64) (ones-left b (omega (arith, g))) ∙ shl-exact b s 64 (ones-lt b) (omega arith)
 
     past : (t : Bool) → ltb (k - s) b ≡ t → s ≤ k → ltb (k - s) b ≡ ltb k (s + b)
     past true e l = e ∙ sym (lt-ltb k (s + b) (omega (arith, ltb-true (k - s) b e)))

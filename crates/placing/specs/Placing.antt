@@ -9,8 +9,9 @@ use Rattle.books.specs.Lines.{unknownOrOver, misplaced, frameBits}
 abbrev pub standsAlone : Placement → Bool
 standsAlone p = not (unknownOrOver p || misplaced p)
 
--- a frame has room for so many bits from start on
+-- a frame has room for so many bits, one or more, from start on
 pub record FrameRoom (start bits : ℕ) : Type 0 where
   pub from : start < frameBits
+  pub some : 0 < bits
   pub few : bits ≤ mostBits
   pub to : start + bits ≤ frameBits

@@ -2,7 +2,7 @@
 ghost use mathlib.Core.Path.{_≡_};
 ghost use mathlib.Core.Bool.{Bool};
 ghost use mathlib.Core.List.{List};
-ghost use Prim.Native.Nat.{ℕ, _+_, _≤_, _<_};
+ghost use Prim.Native.Nat.{ℕ, _≤_, _<_};
 ghost use lib.ListN.{length};
 ghost use Rattle.rows.specs.Rule.{mostBits};
 ghost use Rattle.catalogue.specs.Find.{bitsOf};
@@ -15,7 +15,7 @@ ghost use Rattle.masks.specs.Bit.{bit};
 ghost use Rattle.placing.specs.Placing.{standsAlone, FrameRoom};
 ghost use Rattle.placing.specs.Filling.{Marks, FilledMore};
 ghost use Rattle.placing.specs.Stamps.{Below, stampedTest};
-ghost use Rattle.record.specs.Limits.{startLimit};
+ghost use Rattle.record.specs.Limits.{signalLimit, startLimit};
 use catalogue::Place;
 use record::CHECKSUM;
 use record::CHECKSUM_START;
@@ -24,7 +24,8 @@ use record::COUNTER_START;
 
 const FRAME_BITS: u32 = 64;
 
-const FRAME_END: u64 = 64;
+// Ones in every bit of a frame.
+const ALL_BITS: u64 = 0xffff_ffff_ffff_ffff;
 
 // The bits of the two signals that have a start of their own.
 const FIXED_BITS: u32 = 4;
@@ -49,13 +50,6 @@ pub fn is_misplaced(number: u32, start: u32, bits: u32) -> bool
     false
 }
 
-// Where so many bits end, whatever the start is.
-fn end_of(start: u32, bits: u32) -> u64
-    ensures { λ r. ⌜ r ≡ start + bits ⌝ }
-{
-    start as u64 + bits as u64
-}
-
 fn wide(bits: u8) -> u32
     ensures { λ r. ⌜ r ≡ bits ⌝ }
 {
@@ -67,7 +61,7 @@ fn stands_alone(number: u32, start: u32, bits: u32) -> bool
     requires { ⌜ (0 < bits) × (bits ≡ bitsOf number) ⌝ }
     ensures { λ r. ⌜ r ≡ standsAlone (placement number start) ⌝ }
 {
-    if end_of(start, bits) > FRAME_END {
+    if start > FRAME_BITS - bits {
         return false;
     }
     if bits == FIXED_BITS {
@@ -86,7 +80,7 @@ pub fn run(start: u32, bits: u32) -> u64
     requires { ⌜ FrameRoom start bits ⌝ }
     ensures { λ r. ⌜ ((k : ℕ) → bit r k ≡ inRun start bits k) ⌝ }
 {
-    ((1u64 << bits) - 1) << start
+    (ALL_BITS >> (FRAME_BITS - bits)) << start
 }
 
 // What the signals of a message fill: a mask of their frame bits, and one of their numbers' marks.
@@ -131,18 +125,19 @@ pub fn is_repeated(numbers: &[u32], filled: Filled, number: u32) -> bool
 pub fn well_placed(
     numbers: &[u32],
     starts: &[u32],
-    above: &[usize],
+    above: &[u32],
     ends: &[u8],
     widths: &[u8],
     stamps: &mut [u8],
     stamp: u8,
 ) -> bool
-    requires { ⌜ (length (now starts) ≡ length (now numbers)) × TableColumns (now above) (now ends) (now widths) × Below (now stamps) stamp ⌝ }
+    requires { ⌜ (length (now numbers) ≤ signalLimit) × (length (now starts) ≡ length (now numbers)) × TableColumns (now above) (now ends) (now widths) × Below (now stamps) stamp ⌝ }
     ensures { λ r. ⌜ _≡_ {A = Bool × List ℕ} (r, now (stamps .exit)) (stampedTest (sideBySide (now (numbers .entry)) (now (starts .entry))) stamp (now (stamps .entry))) ⌝ }
 {
     let mut filled: u64 = 0;
+    let mut left = columns::length_of(numbers);
     let mut at: usize = 0;
-    while at < numbers.len() {
+    while left > 0 {
         let number = numbers[at];
         let start = starts[at];
         let Place::At(place) = catalogue::place_of(number, above, ends) else {
@@ -162,6 +157,7 @@ pub fn well_placed(
         stamps[place] = stamp;
         filled = masks::either(filled, here);
         at += 1;
+        left -= 1;
     }
     true
 }

@@ -9,7 +9,7 @@ pub extern "C" fn pc_spread(
     bus: u32,
     identifier: u32,
     places: &mut [u32],
-    count: &mut usize,
+    count: &mut u32,
 ) -> u32
     ensures { λ r. ⌜ SpreadCall (now (book .entry)) bus identifier (now (places .entry)) (now (count .entry)) r (now (places .exit)) (now (count .exit)) ⌝ }
 {

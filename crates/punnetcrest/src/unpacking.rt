@@ -20,7 +20,7 @@ fn number_of(answer: Reading) -> u32
 }
 
 // How many readings were written, or the count as it was.
-fn count_after(answer: Reading, count: usize) -> usize
+fn count_after(answer: Reading, count: u32) -> u32
     ensures { λ r. ⌜ r ≡ readingCountAfter answer count ⌝ }
 {
     match answer {
@@ -42,7 +42,7 @@ pub extern "C" fn pc_frame_read(
     raws: &mut [u32],
     classes: &mut [u8],
     thousandths: &mut [i64],
-    count: &mut usize,
+    count: &mut u32,
 ) -> u32
     ensures { λ r. ⌜ FrameRead (now (book .entry)) identifier (now (frame .entry)) (roomLent (now (raws .entry)) (now (classes .entry)) (now (thousandths .entry)) (now (count .entry))) r
         (roomLent (now (raws .exit)) (now (classes .exit)) (now (thousandths .exit)) (now (count .exit))) ⌝ }

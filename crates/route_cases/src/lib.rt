@@ -43,7 +43,7 @@ fn print_answer(
     room: &mut [u32],
 ) {
     match routes::spread(book, bus, identifier, &mut *room) {
-        Sent::Places(n) => print_places(word, &*room, n),
+        Sent::Places(n) => print_places(word, &*room, n as usize),
         Sent::NotABook => {
             io::write_all(STDOUT_FILENO, b"no\t12\n");
         }

@@ -9,7 +9,6 @@ use Rattle.record.specs.Limits.{routeLimit}
 use Rattle.record.specs.Columns.{routeCountOf}
 use Rattle.record.specs.Place.{placeKey}
 use Rattle.chains.specs.Chain.{IsSound}
-use Rattle.chains.specs.Spread.{spreadOf}
 use Rattle.chains.proofs.Spreads.{spread-few}
 use Rattle.books.specs.Book.{Route}
 use Rattle.books.specs.Words.{froms, tos, routesOf}

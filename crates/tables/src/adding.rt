@@ -46,7 +46,7 @@ pub fn add_signal(
     filled: Filled,
     number: u32,
     start: u32,
-    above: &[usize],
+    above: &[u32],
     bounds: &[u8],
     widths: &[u8],
 ) -> AddedSignal

@@ -4,7 +4,7 @@ ghost use mathlib.Core.Bool.{_&&_};
 ghost use Prim.Native.Nat.{_+_, _≤_, _<_};
 ghost use lib.ListN.{length, drop};
 ghost use Rattle.books.specs.Words.{sideBySide, messagesTaken};
-ghost use Rattle.books.specs.Lines.{messageLimit};
+ghost use Rattle.books.specs.Lines.{messageLimit, signalLimit};
 ghost use Rattle.catalogue.specs.Places.{TableColumns};
 ghost use Rattle.placing.specs.Stamps.{Below};
 ghost use Rattle.zeros.specs.Zeros.{zeros};
@@ -43,17 +43,18 @@ fn well_parted(
     ends: &[u32],
     numbers: &[u32],
     starts: &[u32],
-    above: &[usize],
+    above: &[u32],
     bounds: &[u8],
     widths: &[u8],
     stamps: &mut [u8],
 ) -> bool
-    requires { ⌜ (length (now starts) ≡ length (now numbers)) × (length (now ends) ≤ messageLimit) × TableColumns (now above) (now bounds) (now widths) × Below (now stamps) 1 ⌝ }
+    requires { ⌜ (length (now starts) ≡ length (now numbers)) × (length (now numbers) ≤ signalLimit) × (length (now ends) ≤ messageLimit) × TableColumns (now above) (now bounds) (now widths) × Below (now stamps) 1 ⌝ }
     ensures { λ r. ⌜ r ≡ parted 0 (now (ends .entry)) (sideBySide (now (numbers .entry)) (now (starts .entry))) ⌝ }
 {
     let mut begin: usize = 0;
+    let mut left = columns::length_of(ends);
     let mut at: usize = 0;
-    while at < ends.len() {
+    while left > 0 {
         let end = wide(ends[at]);
         if end < begin {
             return false;
@@ -74,6 +75,7 @@ fn well_parted(
         }
         begin = end;
         at += 1;
+        left -= 1;
     }
     begin == numbers.len()
 }

@@ -45,7 +45,7 @@ fn take_line(
     book: &mut [u32; BOOK_WORDS],
     filled: Filled,
     line: Line,
-    above: &[usize],
+    above: &[u32],
     bounds: &[u8],
     widths: &[u8],
 ) -> Step

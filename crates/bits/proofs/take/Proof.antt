@@ -1,19 +1,30 @@
--- `bits::take` meets its contract: a field of at most 32 bits is below 2 ^ 32.
--- Assumes nothing.
-use native.Mathlib.Nat.{lt-of-lt-of-le}
-use lib.Pow.{pow-mono}
+-- `bits::take` meets its contract: what lies past the count is shifted out. Assumes nothing.
+use Rattle.bits.proofs.Placing.{taken-out}
 use borrow.Author.Needs.{needs}
 use Rattle.bits.proofs.take.Statement.{statement}
 use Rattle.bits.proofs.take.Tie as tie
+use Rattle.bits.proofs.take.Reads as reads
+use Rattle.bits.proofs.take.Lts as lts
+use Rattle.bits.proofs.low_half.Reads as low-half-reads
 
-field-requires : tie.Need-field-requires
-field-requires c κs = search needs
+sub-past : tie.Need-sub-past
+sub-past c = search needs
 
-cast-result : tie.Need-cast-result
-cast-result c = record { fits = lt-of-lt-of-le (c .field .ensures .1) (pow-mono {i = c .before .args .bits} {j = 32} (c .before .pre .most)) }
+shr-low-half : tie.Need-shr-low-half
+shr-low-half c = search needs
+
+low-half-requires : tie.Need-low-half-requires
+low-half-requires c κs = search needs
+
+shl-result : tie.Need-shl-result
+shl-result c = search needs
+
+shr-result : tie.Need-shr-result
+shr-result c = search needs
 
 returns : tie.Need-returns
-returns c = search needs
+returns c = taken-out _ _ _ _ (c .before .pre .most) (c .low-half .ensures .0)
 
 pub take-spec : {M : Type 1} → statement M
-take-spec = tie.close (tie.spec field-requires cast-result returns)
+take-spec =
+    tie.close (tie.spec sub-past shr-low-half low-half-requires shl-result shr-result returns)

@@ -8,23 +8,18 @@ use Rattle.sending.proofs.from_of.Lts as lts
 use Rattle.record.proofs.froms.Reads as froms-reads
 use Rattle.record.proofs.wide.Reads as wide-reads
 
--- src/lib.rt:19:9
 froms-requires : tie.Need-froms-requires
 froms-requires c κs = search needs
 
--- src/lib.rt:20:11
 wide-requires : tie.Need-wide-requires
 wide-requires c κs = search needs
 
--- src/lib.rt:20:5
 mul-result : tie.Need-mul-result
 mul-result c = search needs
 
--- src/lib.rt:20:5
 shared-slice-read-result : tie.Need-shared-slice-read-result
 shared-slice-read-result c = search needs
 
--- src/lib.rt:15:1
 returns : tie.Need-returns
 returns c = column-entry (c .before .before .froms .ensures .0) (c .before .wide .ensures) (c .before .before .before .pre)
 

@@ -7,19 +7,15 @@ use Rattle.sending.proofs.put.Reads as reads
 use Rattle.sending.proofs.put.Lts as lts
 use Rattle.record.proofs.wide.Reads as wide-reads
 
--- src/lib.rt:37:10
 wide-requires : tie.Need-wide-requires
 wide-requires c κs = search needs
 
--- src/lib.rt:37:5
 mul-room : tie.Need-mul-room
 mul-room c = search needs
 
--- src/lib.rt:37:5
 element-write-room : tie.Need-element-write-room
 element-write-room c = search needs
 
--- src/lib.rt:33:1
 returns : tie.Need-returns
 returns c = rw (c .wide .ensures) refl
 

@@ -8,23 +8,18 @@ use Rattle.sending.proofs.to_of.Lts as lts
 use Rattle.record.proofs.tos.Reads as tos-reads
 use Rattle.record.proofs.wide.Reads as wide-reads
 
--- src/lib.rt:28:9
 tos-requires : tie.Need-tos-requires
 tos-requires c κs = search needs
 
--- src/lib.rt:29:9
 wide-requires : tie.Need-wide-requires
 wide-requires c κs = search needs
 
--- src/lib.rt:29:5
 mul-result : tie.Need-mul-result
 mul-result c = search needs
 
--- src/lib.rt:29:5
 shared-slice-read-result : tie.Need-shared-slice-read-result
 shared-slice-read-result c = search needs
 
--- src/lib.rt:24:1
 returns : tie.Need-returns
 returns c = column-entry (c .before .before .tos .ensures .0) (c .before .wide .ensures) (c .before .before .before .pre)
 

@@ -1,42 +1,25 @@
 -- `punnetcrest::classing::pc_class` meets its contract: the class of the count decides what is returned and what is left. Assumes nothing.
-use mathlib.Core.Path.{sym, _∙_}
 use mir.Syntax.{w64}
 use mir.ValLaws.{toZ-ofZ}
-use Rattle.punnetcrest.proofs.ClassNumbers.{class-refused, class-given}
+use Rattle.punnetcrest.proofs.ClassNumbers.{refused-3, refused-26, class-given}
 use borrow.Author.Needs.{needs}
 use Rattle.punnetcrest.proofs.classing.pc_class.Statement.{statement}
 use Rattle.punnetcrest.proofs.classing.pc_class.Tie as tie
+use Rattle.punnetcrest.proofs.classing.pc_class.Reads as reads
+use Rattle.punnetcrest.proofs.classing.pc_class.Lts as lts
+use Rattle.messages.proofs.class_numbers.Reads as class-numbers-reads
 
-class-of-requires : tie.Need-class-of-requires
-class-of-requires c κs = search needs
-
-refusal-of-requires : tie.Need-refusal-of-requires
-refusal-of-requires c κs = search needs
+class-numbers-requires : tie.Need-class-numbers-requires
+class-numbers-requires c κs = search needs
 
 returns : tie.Need-returns
-returns c = rw (c .before .refusal-of .ensures) (class-refused _ _ _ _ (c .before .before .class-of .ensures) (rw (c .before .refusal-of .ensures) at (c .if1 .taken)))
-
-thousandths-of-requires : tie.Need-thousandths-of-requires
-thousandths-of-requires c κs = search needs
-
-code-of-requires : tie.Need-code-of-requires
-code-of-requires c κs = search needs
-
-cast-class-code : tie.Need-cast-class-code
-cast-class-code c = search needs
+returns c = refused-3 _ _ _ _ (c .before .class-numbers .ensures) (c .if1 .taken)
 
 returns-2 : tie.Need-returns-2
-returns-2 c = rw (toZ-ofZ w64 (c .before .thousandths-of .result) (search needs), c .code-of .ensures, c .before .thousandths-of .ensures)
-    (class-given _ _ _ _ (c .before .before .before .before .class-of .ensures) (sym (c .before .before .before .refusal-of .ensures) ∙ c .before .before .if1 .left))
+returns-2 c = refused-26 _ _ _ _ (c .before .before .class-numbers .ensures) (c .if2 .taken)
+
+returns-3 : tie.Need-returns-3
+returns-3 c = rw (toZ-ofZ w64 (c .before .before .before .class-numbers .result) (search needs)) (class-given _ _ _ _ (c .before .before .before .class-numbers .ensures) (c .before .before .if1 .left) (c .before .if2 .left))
 
 pub pc-class-spec : {M : Type 1} → statement M
-pc-class-spec =
-    tie.close
-    (tie.spec
-    class-of-requires
-    refusal-of-requires
-    returns
-    thousandths-of-requires
-    code-of-requires
-    cast-class-code
-    returns-2)
+pc-class-spec = tie.close (tie.spec class-numbers-requires returns returns-2 returns-3)

@@ -28,7 +28,7 @@ unfolding afterRefusal
 returns-2 c = λ ps e. rw (e .listed, sym (c .before .before .before .is-repeated .ensures) ∙ c .before .before .if1 .left, sym (c .before .is-misplaced .ensures) ∙ c .if2 .taken)
 
 run-requires : tie.Need-run-requires
-run-requires c κs = record { from = c .before .before .before .before .before .pre .1; few = c .before .before .before .before .before .pre .3; to = not-past _ _ _ (c .before .before .before .before .before .pre .4) (sym (c .before .is-misplaced .ensures) ∙ c .if2 .left) }
+run-requires c κs = record { from = c .before .before .before .before .before .pre .1; some = c .before .before .before .before .before .pre .2; few = c .before .before .before .before .before .pre .3; to = not-past _ _ _ (c .before .before .before .before .before .pre .4) (sym (c .before .is-misplaced .ensures) ∙ c .if2 .left) }
 
 meet-requires : tie.Need-meet-requires
 meet-requires c κs = search needs
