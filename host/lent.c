@@ -1,24 +1,14 @@
-#define _DEFAULT_SOURCE                   /* for MAP_ANONYMOUS */
 #include "lent.h"
 #include <string.h>
-#include <sys/mman.h>
-
-/* LENT_ROOM bytes between two closed stretches of as many; null where there are none. */
-static uint8_t *open_between(void) {
-    uint8_t *closed = mmap(0, 3 * LENT_ROOM, PROT_NONE, MAP_PRIVATE | MAP_ANONYMOUS, -1, 0);
-    if (closed == MAP_FAILED || mprotect(closed + LENT_ROOM, LENT_ROOM, PROT_READ | PROT_WRITE) != 0)
-        return 0;
-    return closed + LENT_ROOM;
-}
 
 int lent_open(struct lent *block) {
-    block->was = open_between();
-    block->library = open_between();
-    block->plain = open_between();
+    block->was = closed_between();
+    block->library = closed_between();
+    block->plain = closed_between();
     return block->was && block->library && block->plain;
 }
 
-/* Where the watched bytes begin: behind a block that begins at a closed page, before one that ends there. */
+/* Where the watched bytes begin: behind a block that begins at a closed stretch, before one that ends there. */
 static size_t watched(const struct lent *block) {
     return block->first == 0 ? block->bytes : block->first - LENT_WATCHED;
 }
@@ -53,8 +43,21 @@ void *lent_plain(const struct lent *block) {
     return block->plain + block->first;
 }
 
+/* Whether the stretch at the block's other end, where it is not really closed, holds what it was filled with, as far as is looked. */
+static int still_filled(const struct lent *block, const uint8_t *copy) {
+    const uint8_t *past = block->first == 0 ? copy - LENT_WATCHED : copy + LENT_ROOM;
+    for (size_t i = 0; !closed_by_machine && i < LENT_WATCHED; i++)
+        if (past[i] != CLOSED_FILLING)
+            return 0;
+    return 1;
+}
+
 const char *lent_fault(const struct lent *block, int must_stay) {
     size_t at = begin(block), beside = watched(block);
+    if (!still_filled(block, block->library))
+        return "the library wrote past its end";
+    if (!still_filled(block, block->plain))
+        return "the plain implementation wrote past its end";
     if (memcmp(block->was + beside, block->library + beside, LENT_WATCHED) != 0)
         return "the library wrote beside it";
     if (memcmp(block->was + beside, block->plain + beside, LENT_WATCHED) != 0)

@@ -1,13 +1,14 @@
 /* Lent memory under watch: three copies of one block, as it was, as the library left it and as the plain implementation left
-   it. At one end of a block is a page that is closed, where a call that reads or writes past that end is stopped by the
-   machine; at the other are bytes that nobody may write. */
+   it. At one end of a block is a stretch that is closed (closed.h), where a call that reads or writes past that end is stopped by
+   the machine; at the other are bytes that nobody may write. */
 #ifndef LENT_H
 #define LENT_H
 
 #include "chance.h"
+#include "closed.h"
 
-/* The bytes between two closed stretches, whole pages on every machine, and how many of them beside a block are watched. */
-enum { LENT_ROOM = 65536, LENT_WATCHED = 64 };
+/* The bytes between two closed stretches, and how many of them beside a block are watched. */
+enum { LENT_ROOM = CLOSED_ROOM, LENT_WATCHED = 64 };
 
 struct lent {
     const char *name;
@@ -18,7 +19,7 @@ struct lent {
 /* Gives the block its memory, once for all that is lent in it. 0 where there is none. */
 int lent_open(struct lent *block);
 
-/* Lends so many bytes with these contents, or with any by chance where they are null: up to a closed page, one time in four
+/* Lends so many bytes with these contents, or with any by chance where they are null: up to a closed stretch, one time in four
    from one on. At most LENT_ROOM - LENT_WATCHED bytes. */
 void lent_out(struct lent *block, struct chance *c, const char *name, const void *contents, size_t bytes);
 

@@ -2,11 +2,9 @@
    seed, and compares what they return and every byte of what was lent to them. A group is one book and some cases of each
    function on it and around it. Prints how often each refusal and each edge was met; fails on the first difference, on a read
    or write past what was lent, if some refusal was never met in a run of 100 groups or more, or some edge in one of 1000. */
-#define _POSIX_C_SOURCE 200809L
 #include "edge_text.h"
 #include "test.h"
 #include <inttypes.h>
-#include <signal.h>
 #include <stdio.h>
 #include <stdlib.h>
 
@@ -134,11 +132,10 @@ void judge(uint32_t library, uint32_t plain, int read_only) {
     met[calling][library]++;
 }
 
-/* The machine stopped a call at a closed page, or elsewhere. No call prints, so it is safe to do so here. */
-static void stopped(int number, siginfo_t *stop, void *context) {
-    (void)number, (void)context;
+/* The machine stopped a call in a closed stretch, or elsewhere. */
+static void stopped(const void *address) {
     for (int i = 0; i < used; i++) {
-        const char *trespass = lent_trespass(&blocks[i], stop->si_addr);
+        const char *trespass = lent_trespass(&blocks[i], address);
         if (trespass)
             fail(trespass, blocks[i].name);
     }
@@ -218,12 +215,10 @@ static int report_edges(void) {
 
 /* Sets up what is lent, and what happens where a call is stopped. */
 static int ready(void) {
-    struct sigaction action = { .sa_sigaction = stopped, .sa_flags = SA_SIGINFO };
     for (int i = 0; i < BLOCKS; i++)
         if (!lent_open(&blocks[i]))
             return 0;
-    sigemptyset(&action.sa_mask);
-    return sigaction(SIGSEGV, &action, 0) == 0 && sigaction(SIGBUS, &action, 0) == 0;
+    return closed_watch(stopped);
 }
 
 int main(int argc, char **argv) {
