@@ -8,12 +8,16 @@
    memory that nobody else writes meanwhile. Every pointer points to the stated number of entries, is aligned for them and
    is not null, also where the length is 0. What a call may write overlaps nothing else that it is lent.
 
-   One header for every processor (host/build lists them). A length is 64 bits on each of them, whatever size_t has there; what
-   a call counts, and every other number, is 32 bits but for thousandths. No call takes or returns a struct. */
+   One header for every processor (host/build lists them), all of them little endian. A length has 64 bits on each, whatever
+   size_t has there; what a call counts, and every other number but thousandths, has 32. No call takes or returns a struct. */
 #ifndef PUNNETCREST_H
 #define PUNNETCREST_H
 
 #include <stdint.h>
+
+#if defined __BYTE_ORDER__ && defined __ORDER_LITTLE_ENDIAN__ && __BYTE_ORDER__ != __ORDER_LITTLE_ENDIAN__
+#error "There is no Punnetcrest for big-endian processors."
+#endif
 
 /* The version of the library. CHANGELOG.md says what each version asks of callers. */
 #define PC_VERSION "0.2.0"
