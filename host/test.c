@@ -29,6 +29,7 @@ static const struct {
     const char *name;
     uint32_t count;               /* of its edges; where they are counted they have an order */
 } families[FAMILIES] = {
+    [LONG_LENGTHS] = { "a length over 32 bits", 9 },
     [TEXT_LENGTHS] = { "lengths of a text", 4 },
     [FULL_TABLES] = { "a table full, and one line more", 6 },
     [FULL_LINES] = { "full tables, and a line wrong by itself", FULL_TEXTS },
@@ -164,6 +165,7 @@ uint32_t place_in(const uint32_t *list, uint32_t count, uint32_t number) {
 
 static void try_group(void) {
     make_good_book();
+    try_long_length();
     try_texts();
     for (int i = 0; i < 16; i++) {
         try_frame_read();

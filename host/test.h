@@ -34,7 +34,7 @@ void judge(uint32_t library, uint32_t plain, int read_only);
 /* ---- Edges: inputs that tell a rule from one that is off by one. Each family of them is counted one by one. */
 
 enum edges {
-    TEXT_LENGTHS, FULL_TABLES, FULL_LINES, EDGE_LINES, KNOTS, BOOK_COUNTS, SPREAD_ROOMS, SPREAD_PLACES,
+    LONG_LENGTHS, TEXT_LENGTHS, FULL_TABLES, FULL_LINES, EDGE_LINES, KNOTS, BOOK_COUNTS, SPREAD_ROOMS, SPREAD_PLACES,
     ROW_COUNTS, ROW_FRAMES, SIGNAL_NUMBERS, READ_ROOMS, CHECKS, FRAME_LENGTHS, PACK_LENGTHS, PACK_COUNTS,
     FAULT_ALONE, FAULT_LIMITS, FAULT_LENGTHS, FAULT_AGREEMENT,
     POWER_RULES, POWER_VOLTAGES, POWER_HUNDREDTHS, POWER_CURRENTS, POWER_LIMITS, POWER_ORDER,
@@ -67,6 +67,7 @@ void choose_book(uint32_t book[PC_BOOK_WORDS]);
    a call that tests it and gave this refusal. */
 void meet_count(const uint32_t book[PC_BOOK_WORDS], uint32_t count, uint32_t refusal);
 
+void try_long_length(void);
 void try_texts(void);
 void try_spread(void);
 void try_classes(void);
