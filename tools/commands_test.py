@@ -1,6 +1,6 @@
 #!/usr/bin/env python3
-"""Tries what ./run, host/build and tools/prove say: their help, the programs for users apart from those for tests, what is wrong with a
-word that they don't know; and on a copy of the tree, crate by crate, what is proved, and what is not.
+"""Tries what ./run, host/build, host/install and tools/prove say: their help, the programs for users apart from those for tests, every
+processor, what is wrong with a word that they don't know; and on a copy of the tree, crate by crate, what is proved, and what is not.
 
     python3 tools/commands_test.py
 """
@@ -43,6 +43,15 @@ def helps():
     yield status == 0 and printed.startswith("usage: host/build") and not said, printed + said
     status, empty, said = call("host/build", "nothing")
     yield status == 2 and not empty and "there is no 'nothing'" in said and printed in said, said
+    status, empty, said = call("host/build", "wasm32", "O4")
+    yield status == 2 and not empty and "there is no level 'O4'" in said and printed in said, said
+    targets, levels = (re.search(rf"(?m)^firmware_{name}='(.*)'$", (ROOT / "host/firmware/targets").read_text())[1].split() for name in ("targets", "levels"))
+    papers = [(ROOT / name).read_text() for name in ("README.md", "docs/EMBEDDING.md")]
+    for target in targets:
+        yield re.search(rf"(?m)^  {target} +\S", printed) and all(f"`host/build {target}`" in paper for paper in papers), f"{target}: not in the help, README.md and docs/EMBEDDING.md"
+    yield all(re.search(rf"\b{level}\b", printed) for level in levels), printed
+    status, printed, said = call("host/install", "--help")
+    yield status == 0 and printed.startswith("usage: host/install PREFIX") and not said and call("host/install") == (2, "", printed), printed + said
 
 
 def progress():

@@ -1,6 +1,5 @@
 // The route tables of a lent book: the test that they are such as a taken book can have, which every call on routes makes first
-// (refusal 12), and the routes' two columns where it has passed. proofs/ shows that the test is exact: it passes just where some
-// text is taken with those tables.
+// (refusal 12). proofs/ shows that it is exact: it passes just where some text is taken with those tables.
 ghost use mathlib.Core.Path.{_≡_};
 ghost use Rattle.record.specs.Columns.{routeCountOf};
 ghost use Rattle.chains.specs.Tells.{Tells};
