@@ -121,7 +121,7 @@ static uint32_t read_frame(struct came *frame) {
         if (number == 503)
             frame->has_checksum = 1;
         if (classes[i] == PC_VALUE)
-            printf("%" PRIu32 " reads %" PRId64 "\n", number, thousandths[i]);
+            printf("%" PRIu32 " reads %lld\n", number, (long long)thousandths[i]);
     }
     return PC_DONE;
 }

@@ -8,31 +8,30 @@ int lent_open(struct lent *block) {
     return block->was && block->library && block->plain;
 }
 
-/* Where the watched bytes begin: behind a block that begins at a closed stretch, before one that ends there. */
-static size_t watched(const struct lent *block) {
-    return block->first == 0 ? block->bytes : block->first - LENT_WATCHED;
+/* Whether the closed stretch that it stands at is the one before it. */
+static int at_beginning(const struct lent *block) {
+    return block->first <= LENT_WATCHED;
 }
 
-/* Where the block with its watched bytes begins, and how long both are. */
+/* Where the block with the watched bytes around it begins, and where it ends: at most at a closed stretch. */
 static size_t begin(const struct lent *block) {
-    return block->first == 0 ? 0 : block->first - LENT_WATCHED;
+    return at_beginning(block) ? 0 : block->first - LENT_WATCHED;
 }
 
-static size_t whole(const struct lent *block) {
-    return block->bytes + LENT_WATCHED;
+static size_t end(const struct lent *block) {
+    return at_beginning(block) ? block->first + block->bytes + LENT_WATCHED : LENT_ROOM;
 }
 
-void lent_out(struct lent *block, struct chance *c, const char *name, const void *contents, size_t bytes) {
+void lent_out(struct lent *block, struct chance *c, const char *name, const void *contents, size_t bytes, size_t apart) {
     block->name = name;
     block->bytes = bytes;
-    block->first = one_in(c, 4) ? 0 : LENT_ROOM - bytes;
-    chance_bytes(c, block->was + watched(block), LENT_WATCHED);
+    block->first = one_in(c, 4) ? apart : LENT_ROOM - bytes - apart;
+    size_t at = begin(block), whole = end(block) - at;
+    chance_bytes(c, block->was + at, whole);
     if (contents)
         memcpy(block->was + block->first, contents, bytes);
-    else
-        chance_bytes(c, block->was + block->first, bytes);
-    memcpy(block->library + begin(block), block->was + begin(block), whole(block));
-    memcpy(block->plain + begin(block), block->was + begin(block), whole(block));
+    memcpy(block->library + at, block->was + at, whole);
+    memcpy(block->plain + at, block->was + at, whole);
 }
 
 void *lent_library(const struct lent *block) {
@@ -45,26 +44,32 @@ void *lent_plain(const struct lent *block) {
 
 /* Whether the stretch at the block's other end, where it is not really closed, holds what it was filled with, as far as is looked. */
 static int still_filled(const struct lent *block, const uint8_t *copy) {
-    const uint8_t *past = block->first == 0 ? copy - LENT_WATCHED : copy + LENT_ROOM;
+    const uint8_t *past = at_beginning(block) ? copy - LENT_WATCHED : copy + LENT_ROOM;
     for (size_t i = 0; !closed_by_machine && i < LENT_WATCHED; i++)
         if (past[i] != CLOSED_FILLING)
             return 0;
     return 1;
 }
 
+/* Whether the bytes around the block are as they were. */
+static int stands_around(const struct lent *block, const uint8_t *copy) {
+    size_t at = begin(block), behind = block->first + block->bytes;
+    return memcmp(block->was + at, copy + at, block->first - at) == 0 && memcmp(block->was + behind, copy + behind, end(block) - behind) == 0;
+}
+
 const char *lent_fault(const struct lent *block, int must_stay) {
-    size_t at = begin(block), beside = watched(block);
+    const uint8_t *was = block->was + block->first;
     if (!still_filled(block, block->library))
         return "the library wrote past its end";
     if (!still_filled(block, block->plain))
         return "the plain implementation wrote past its end";
-    if (memcmp(block->was + beside, block->library + beside, LENT_WATCHED) != 0)
+    if (!stands_around(block, block->library))
         return "the library wrote beside it";
-    if (memcmp(block->was + beside, block->plain + beside, LENT_WATCHED) != 0)
+    if (!stands_around(block, block->plain))
         return "the plain implementation wrote beside it";
-    if (must_stay && memcmp(block->was + at, block->library + at, whole(block)) != 0)
+    if (must_stay && memcmp(was, lent_library(block), block->bytes) != 0)
         return "the library changed it and may not";
-    if (memcmp(block->library + at, block->plain + at, whole(block)) != 0)
+    if (memcmp(lent_library(block), lent_plain(block), block->bytes) != 0)
         return "the two left different contents";
     return 0;
 }

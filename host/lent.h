@@ -1,6 +1,6 @@
 /* Lent memory under watch: three copies of one block, as it was, as the library left it and as the plain implementation left
    it. At one end of a block is a stretch that is closed (closed.h), where a call that reads or writes past that end is stopped by
-   the machine; at the other are bytes that nobody may write. */
+   the machine; at the other, and where the block stands apart from that stretch, are bytes that nobody may write. */
 #ifndef LENT_H
 #define LENT_H
 
@@ -20,8 +20,8 @@ struct lent {
 int lent_open(struct lent *block);
 
 /* Lends so many bytes with these contents, or with any by chance where they are null: up to a closed stretch, one time in four
-   from one on. At most LENT_ROOM - LENT_WATCHED bytes. */
-void lent_out(struct lent *block, struct chance *c, const char *name, const void *contents, size_t bytes);
+   from one on; or so many bytes apart from it, at most LENT_WATCHED. At most LENT_ROOM - 2 x LENT_WATCHED bytes. */
+void lent_out(struct lent *block, struct chance *c, const char *name, const void *contents, size_t bytes, size_t apart);
 
 void *lent_library(const struct lent *block);
 void *lent_plain(const struct lent *block);

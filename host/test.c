@@ -46,6 +46,7 @@ static const struct {
     [FRAME_LENGTHS] = { "lengths of a frame to read", 3 },
     [PACK_LENGTHS] = { "lengths of a frame to pack", 3 },
     [PACK_COUNTS] = { "counts of values to pack", 3 },
+    [FRAME_PLACES] = { "frames at each of eight bytes of a word", 16 },
     [FAULT_ALONE] = { "one fault count alone", 27 * 4 },
     [FAULT_LIMITS] = { "fault counts at their width", 27 * 2 },
     [FAULT_LENGTHS] = { "lengths of the fault counts", 4 },
@@ -101,7 +102,12 @@ void begin_case(enum function f) {
 }
 
 struct lent *lend(const char *name, const void *contents, size_t bytes) {
-    lent_out(&blocks[used], &chance, name, contents, bytes);
+    lent_out(&blocks[used], &chance, name, contents, bytes, 0);
+    return &blocks[used++];
+}
+
+struct lent *lend_bytes(const char *name, const void *contents, size_t bytes) {
+    lent_out(&blocks[used], &chance, name, contents, bytes, once_in(4) ? below(8) : 0);
     return &blocks[used++];
 }
 

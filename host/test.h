@@ -23,6 +23,9 @@ void begin_case(enum function f);
 
 /* A block for this case, with these contents, or any where they are null. L is the library's copy of it, P the plain one's. */
 struct lent *lend(const char *name, const void *contents, size_t bytes);
+
+/* The same for what a caller may have at any address: bytes, which at times begin off every boundary. */
+struct lent *lend_bytes(const char *name, const void *contents, size_t bytes);
 #define L(block, type) ((type *)lent_library(block))
 #define P(block, type) ((type *)lent_plain(block))
 
@@ -35,7 +38,7 @@ void judge(uint32_t library, uint32_t plain, int read_only);
 
 enum edges {
     LONG_LENGTHS, TEXT_LENGTHS, FULL_TABLES, FULL_LINES, EDGE_LINES, KNOTS, BOOK_COUNTS, SPREAD_ROOMS, SPREAD_PLACES,
-    ROW_COUNTS, ROW_FRAMES, SIGNAL_NUMBERS, READ_ROOMS, CHECKS, FRAME_LENGTHS, PACK_LENGTHS, PACK_COUNTS,
+    ROW_COUNTS, ROW_FRAMES, SIGNAL_NUMBERS, READ_ROOMS, CHECKS, FRAME_LENGTHS, PACK_LENGTHS, PACK_COUNTS, FRAME_PLACES,
     FAULT_ALONE, FAULT_LIMITS, FAULT_LENGTHS, FAULT_AGREEMENT,
     POWER_RULES, POWER_VOLTAGES, POWER_HUNDREDTHS, POWER_CURRENTS, POWER_LIMITS, POWER_ORDER,
     SLEEP_AGES, SLEEP_STATES, SLEEP_ROUND, FAMILIES

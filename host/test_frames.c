@@ -84,16 +84,23 @@ static void meet_length(enum edges family, size_t length, uint32_t refusal) {
         meet(family, (uint32_t)length - 7);
 }
 
+/* Counts where a frame that was read or packed began. */
+static void meet_place(const struct lent *frame, uint32_t packed, uint32_t refusal) {
+    if (refusal == PC_DONE)
+        meet(FRAME_PLACES, 8 * packed + (uint32_t)((uintptr_t)L(frame, uint8_t) % 8));
+}
+
 static uint32_t compare_frame_read(const uint32_t book[PC_BOOK_WORDS], uint32_t identifier, const uint8_t *bytes, size_t length, const uint32_t rooms[3]) {
     begin_case(FRAME_READ);
-    struct lent *b = lend("book", book, 4 * PC_BOOK_WORDS), *frame = lend("frame", bytes, length);
-    struct lent *raws = lend("raws", 0, 4 * rooms[0]), *classes = lend("classes", 0, rooms[1]);
+    struct lent *b = lend("book", book, 4 * PC_BOOK_WORDS), *frame = lend_bytes("frame", bytes, length);
+    struct lent *raws = lend("raws", 0, 4 * rooms[0]), *classes = lend_bytes("classes", 0, rooms[1]);
     struct lent *thousandths = lend("thousandths", 0, 8 * rooms[2]), *count = lend("count", 0, 4);
     uint32_t library = pc_frame_read(L(b, uint32_t), identifier, L(frame, uint8_t), length, L(raws, uint32_t), rooms[0], L(classes, uint8_t),
                                      rooms[1], L(thousandths, int64_t), rooms[2], L(count, uint32_t));
     uint32_t plain = plain_frame_read(P(b, uint32_t), identifier, P(frame, uint8_t), length, P(raws, uint32_t), rooms[0], P(classes, uint8_t),
                                       rooms[1], P(thousandths, int64_t), rooms[2], P(count, uint32_t));
     judge(library, plain, 2);
+    meet_place(frame, 0, plain);
     return plain;
 }
 
@@ -130,10 +137,11 @@ void try_frame_read(void) {
 
 static uint32_t compare_frame_pack(const uint32_t book[PC_BOOK_WORDS], uint32_t identifier, const uint32_t *values, uint32_t count, size_t length) {
     begin_case(FRAME_PACK);
-    struct lent *b = lend("book", book, 4 * PC_BOOK_WORDS), *v = lend("values", values, 4 * count), *frame = lend("frame", 0, length);
+    struct lent *b = lend("book", book, 4 * PC_BOOK_WORDS), *v = lend("values", values, 4 * count), *frame = lend_bytes("frame", 0, length);
     uint32_t library = pc_frame_pack(L(b, uint32_t), identifier, L(v, uint32_t), count, L(frame, uint8_t), length);
     uint32_t plain = plain_frame_pack(P(b, uint32_t), identifier, P(v, uint32_t), count, P(frame, uint8_t), length);
     judge(library, plain, 2);
+    meet_place(frame, 1, plain);
     return plain;
 }
 

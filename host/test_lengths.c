@@ -29,7 +29,7 @@ static uint64_t room_if(enum length which) {
 
 static uint32_t long_text(void) {
     begin_case(BOOK_READ);
-    struct lent *t = lend("text", text, TEXT), *book = lend("book", 0, 4 * PC_BOOK_WORDS), *line = lend("line", 0, 4);
+    struct lent *t = lend_bytes("text", text, TEXT), *book = lend("book", 0, 4 * PC_BOOK_WORDS), *line = lend("line", 0, 4);
     uint64_t length = long_if(OF_TEXT, TEXT);
     uint32_t library = pc_book_read(L(t, uint8_t), length, L(book, uint32_t), L(line, uint32_t));
     uint32_t plain = plain_book_read(P(t, uint8_t), length, P(book, uint32_t), P(line, uint32_t));
@@ -39,8 +39,8 @@ static uint32_t long_text(void) {
 
 static uint32_t long_read(const uint32_t book[PC_BOOK_WORDS]) {
     begin_case(FRAME_READ);
-    struct lent *b = lend("book", book, 4 * PC_BOOK_WORDS), *frame = lend("frame", 0, PC_FRAME_BYTES), *raws = lend("raws", 0, 4);
-    struct lent *classes = lend("classes", 0, 1), *thousandths = lend("thousandths", 0, 8), *count = lend("count", 0, 4);
+    struct lent *b = lend("book", book, 4 * PC_BOOK_WORDS), *frame = lend_bytes("frame", 0, PC_FRAME_BYTES), *raws = lend("raws", 0, 4);
+    struct lent *classes = lend_bytes("classes", 0, 1), *thousandths = lend("thousandths", 0, 8), *count = lend("count", 0, 4);
     uint64_t length = long_if(OF_FRAME_TO_READ, PC_FRAME_BYTES), r = room_if(OF_RAWS), c = room_if(OF_CLASSES), t = room_if(OF_THOUSANDTHS);
     uint32_t library = pc_frame_read(L(b, uint32_t), IDENTIFIER, L(frame, uint8_t), length, L(raws, uint32_t), r, L(classes, uint8_t), c,
                                      L(thousandths, int64_t), t, L(count, uint32_t));
@@ -53,7 +53,7 @@ static uint32_t long_read(const uint32_t book[PC_BOOK_WORDS]) {
 static uint32_t long_pack(const uint32_t book[PC_BOOK_WORDS]) {
     uint32_t value = below(40001);
     begin_case(FRAME_PACK);
-    struct lent *b = lend("book", book, 4 * PC_BOOK_WORDS), *v = lend("values", &value, 4), *frame = lend("frame", 0, PC_FRAME_BYTES);
+    struct lent *b = lend("book", book, 4 * PC_BOOK_WORDS), *v = lend("values", &value, 4), *frame = lend_bytes("frame", 0, PC_FRAME_BYTES);
     uint64_t values = long_if(OF_VALUES, 1), length = long_if(OF_FRAME_TO_PACK, PC_FRAME_BYTES);
     uint32_t library = pc_frame_pack(L(b, uint32_t), IDENTIFIER, L(v, uint32_t), values, L(frame, uint8_t), length);
     uint32_t plain = plain_frame_pack(P(b, uint32_t), IDENTIFIER, P(v, uint32_t), values, P(frame, uint8_t), length);

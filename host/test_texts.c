@@ -26,7 +26,7 @@ static void meet_text(uint32_t refusal, const uint32_t book[PC_BOOK_WORDS], uint
 /* Gives the refusal, and its line. */
 static uint32_t try_book_read(uint32_t *at_line) {
     begin_case(BOOK_READ);
-    struct lent *t = lend("text", text.bytes, text.length), *book = lend("book", 0, 4 * PC_BOOK_WORDS), *line = lend("line", 0, 4);
+    struct lent *t = lend_bytes("text", text.bytes, text.length), *book = lend("book", 0, 4 * PC_BOOK_WORDS), *line = lend("line", 0, 4);
     uint32_t library = pc_book_read(L(t, uint8_t), text.length, L(book, uint32_t), L(line, uint32_t));
     uint32_t plain = plain_book_read(P(t, uint8_t), text.length, P(book, uint32_t), P(line, uint32_t));
     judge(library, plain, 1);

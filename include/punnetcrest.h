@@ -9,14 +9,18 @@
    is not null, also where the length is 0. What a call may write overlaps nothing else that it is lent.
 
    One header for every processor (host/build lists them), all of them little endian. A length has 64 bits on each, whatever
-   size_t has there; what a call counts, and every other number but thousandths, has 32. No call takes or returns a struct. */
+   size_t has there; what a call counts has 32. No call takes or returns a struct. */
 #ifndef PUNNETCREST_H
 #define PUNNETCREST_H
 
 #include <stdint.h>
 
-#if defined __BYTE_ORDER__ && defined __ORDER_LITTLE_ENDIAN__ && __BYTE_ORDER__ != __ORDER_LITTLE_ENDIAN__
+#if defined __ARM_BIG_ENDIAN || defined __BIG_ENDIAN__ || defined __big_endian__
 #error "There is no Punnetcrest for big-endian processors."
+#elif defined __BYTE_ORDER__ && defined __ORDER_LITTLE_ENDIAN__
+#if __BYTE_ORDER__ != __ORDER_LITTLE_ENDIAN__
+#error "There is no Punnetcrest for big-endian processors."
+#endif
 #endif
 
 /* The version of the library. CHANGELOG.md says what each version asks of callers. */
@@ -88,9 +92,14 @@ enum {
 
 /* A place is one number: bus x 2^29 + identifier. An identifier is the 29 bits of an extended frame, without the flags that
    a driver puts above them (docs/EMBEDDING.md, Identifiers). */
-#define PC_PLACE(bus, identifier) (((uint32_t)(bus) << 29) | (uint32_t)(identifier))
-#define PC_BUS(place) ((uint32_t)(place) >> 29)
-#define PC_IDENTIFIER(place) ((uint32_t)(place) & 0x1FFFFFFFu)
+#ifdef __cplusplus
+#define PC_WORD(number) (static_cast<uint32_t>(number))
+#else
+#define PC_WORD(number) ((uint32_t)(number))
+#endif
+#define PC_PLACE(bus, identifier) ((PC_WORD(bus) << 29) | PC_WORD(identifier))
+#define PC_BUS(place) (PC_WORD(place) >> 29)
+#define PC_IDENTIFIER(place) (PC_WORD(place) & 0x1FFFFFFFu)
 
 /* Reads a book's text. Refusals 1 to 11: the book is then empty, every word 0, and *line is the line at fault, 0 for 1.
    Otherwise the book holds the text's tables and *line is 0. Whatever the book and *line held before is lost. */

@@ -45,6 +45,12 @@ def helps():
     yield status == 2 and not empty and "there is no 'nothing'" in said and printed in said, said
     status, empty, said = call("host/build", "wasm32", "O4")
     yield status == 2 and not empty and "there is no level 'O4'" in said and printed in said, said
+    status, empty, said = call("host/build", "x86_64-linux", "Os")
+    yield status == 2 and not empty and said == "build: x86_64-linux is built at O3 alone, as rt does\n", said
+    yield call("host/build", "wasm32", "Os", "O3") == (2, "", printed), "host/build with a word too many"
+    for words in (["aarch64-none wasm32"], ["wasm32", "O3 O2"]):
+        status, empty, said = call("host/build", *words)
+        yield status == 2 and not empty and f"'{words[-1]}'" in said and printed in said, said
     targets, levels = (re.search(rf"(?m)^firmware_{name}='(.*)'$", (ROOT / "host/firmware/targets").read_text())[1].split() for name in ("targets", "levels"))
     papers = [(ROOT / name).read_text() for name in ("README.md", "docs/EMBEDDING.md")]
     for target in targets:
@@ -52,6 +58,8 @@ def helps():
     yield all(re.search(rf"\b{level}\b", printed) for level in levels), printed
     status, printed, said = call("host/install", "--help")
     yield status == 0 and printed.startswith("usage: host/install PREFIX") and not said and call("host/install") == (2, "", printed), printed + said
+    status, empty, said = call("host/install", "wasm32")
+    yield status == 2 and not empty and "'wasm32' is a TARGET" in said and printed in said and not (ROOT / "wasm32").exists(), said
 
 
 def progress():
