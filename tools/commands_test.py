@@ -1,15 +1,18 @@
 #!/usr/bin/env python3
 """Tries what ./run, host/build, host/install and tools/prove say: their help, the programs for users apart from those for tests, every
-processor, what is wrong with a word that they don't know; and on a copy of the tree, crate by crate, what is proved, and what is not.
+processor, what is wrong with a word that they don't know; when tools/fresh wants a new proof; and on a copy of the tree, crate by crate, what is
+proved, and what is not.
 
     python3 tools/commands_test.py
 """
 
+import os
 import re
 import shutil
 import subprocess
 import sys
 import tempfile
+import time
 from concurrent.futures import ThreadPoolExecutor
 from pathlib import Path
 
@@ -62,6 +65,37 @@ def helps():
     yield status == 2 and not empty and "'wasm32' is a TARGET" in said and printed in said and not (ROOT / "wasm32").exists(), said
 
 
+def freshness():
+    """What was built is fresh until a source is changed, though it bears its old time, or taken away."""
+    with tempfile.TemporaryDirectory() as made:
+        copy = Path(made)
+        for name in ("tools", f"crates/{BELOW}"):
+            shutil.copytree(ROOT / name, copy / name)
+        shutil.copy(ROOT / "crates.txt", copy)
+        source, built = copy / f"crates/{BELOW}/src/lib.rt", copy / f"target/bin/{BELOW}"
+        built.parent.mkdir(parents=True)
+
+        def fresh():
+            return call("tools/fresh", "program", BELOW, folder=copy)[0] == 0
+
+        def build():
+            time.sleep(0.1)
+            built.touch()
+            time.sleep(0.1)
+
+        def change():
+            old = source.stat()
+            source.write_text(source.read_text() + "\n")
+            os.utime(source, ns=(old.st_atime_ns, old.st_mtime_ns))
+
+        yield not fresh(), "fresh, and nothing is built"
+        for what, done in ("changed", change), ("taken away", source.unlink):
+            build()
+            yield fresh(), f"not fresh, before a source is {what}"
+            done()
+            yield not fresh(), f"fresh, and a source is {what}"
+
+
 def progress():
     """Of a copy in which nothing is proved, twice at once: one run tells each crate with its number, the other waits and has nothing left
     to prove; then of one that is not proved any more, what rt says of it and nothing else."""
@@ -83,7 +117,7 @@ def progress():
 
 def main():
     failed = False
-    for part in (helps, progress):
+    for part in (helps, freshness, progress):
         answers = list(part())
         faults = [said for right, said in answers if not right]
         print(f"commands, {part.__name__}: {len(answers)} cases, {len(faults)} wrong")
