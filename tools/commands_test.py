@@ -1,7 +1,7 @@
 #!/usr/bin/env python3
 """Tries what ./run, host/build, host/install and tools/prove say: their help, the programs for users apart from those for tests, every
-processor, what is wrong with a word that they don't know; when tools/fresh wants a new proof; and on a copy of the tree, crate by crate, what is
-proved, and what is not.
+processor, what is wrong with a word that they don't know; when tools/fresh wants a new proof; that no archive of other sources is left; and
+on a copy of the tree, crate by crate, what is proved, and what is not.
 
     python3 tools/commands_test.py
 """
@@ -96,6 +96,23 @@ def freshness():
             yield not fresh(), f"fresh, and a source is {what}"
 
 
+def leftovers():
+    """Where the library can't be proved, host/build leaves no archive of other sources, for any processor."""
+    with tempfile.TemporaryDirectory() as made:
+        copy = Path(made)
+        for name in ("tools", "host", "include"):
+            shutil.copytree(ROOT / name, copy / name)
+        for name in ("fresh", "prove"):
+            (copy / "tools" / name).write_text("#!/bin/sh\nexit 1\n")
+        for target in ("x86_64-linux", "thumbv7em-none", "wasm32"):
+            folder = copy / "target/firmware" / target
+            folder.mkdir(parents=True)
+            for name in ("libpunnetcrest.a", "punnetcrest.wasm"):
+                (folder / name).write_text("of other sources")
+            status, printed, _ = call("host/build", target, folder=copy)
+            yield status == 1 and not printed and not list(folder.iterdir()), f"{target}: status {status}, {printed}, left: {list(folder.iterdir())}"
+
+
 def progress():
     """Of a copy in which nothing is proved, twice at once: one run tells each crate with its number, the other waits and has nothing left
     to prove; then of one that is not proved any more, what rt says of it and nothing else."""
@@ -117,7 +134,7 @@ def progress():
 
 def main():
     failed = False
-    for part in (helps, freshness, progress):
+    for part in (helps, freshness, leftovers, progress):
         answers = list(part())
         faults = [said for right, said in answers if not right]
         print(f"commands, {part.__name__}: {len(answers)} cases, {len(faults)} wrong")
