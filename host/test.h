@@ -4,6 +4,7 @@
 
 #include "lent.h"
 #include "plain.h"
+#include "plain_catalogue.h"
 
 /* ---- Numbers by chance. */
 
@@ -34,10 +35,10 @@ struct lent *lend_bytes(const char *name, const void *contents, size_t bytes);
    apart. */
 void judge(uint32_t library, uint32_t plain, int read_only);
 
-/* ---- Edges: inputs that tell a rule from one that is off by one. Each family of them is counted one by one. */
+/* ---- Edges (test_edges.c): inputs that tell a rule from one that is off by one. Each family of them is counted one by one. */
 
 enum edges {
-    LONG_LENGTHS, TEXT_LENGTHS, FULL_TABLES, FULL_LINES, EDGE_LINES, KNOTS, BOOK_COUNTS, SPREAD_ROOMS, SPREAD_PLACES,
+    LONG_LENGTHS, TEXT_LENGTHS, FULL_TABLES, FULL_LINES, EDGE_LINES, KNOTS, BOOK_COUNTS, LENT_EDGES, SPREAD_ROOMS, SPREAD_PLACES,
     ROW_COUNTS, ROW_FRAMES, SIGNAL_NUMBERS, READ_ROOMS, CHECKS, FRAME_LENGTHS, PACK_LENGTHS, PACK_COUNTS, FRAME_PLACES,
     FAULT_ALONE, FAULT_LIMITS, FAULT_LENGTHS, FAULT_AGREEMENT,
     POWER_RULES, POWER_VOLTAGES, POWER_HUNDREDTHS, POWER_CURRENTS, POWER_LIMITS, POWER_ORDER,
@@ -47,10 +48,16 @@ enum edges {
 /* Of each signal: counts around its limits, its bits and three marks. */
 enum { ROW_EDGES = 6 + 3 * 4 };
 
+/* Books of one message with one signal, lent: identifiers, each signal's starts, numbers of signals and between. */
+enum { LENT_IDENTIFIERS = 4, LENT_STARTS = 4 * PLAIN_ROWS, LENT_NUMBERS = 2048, LENT_BOOKS = LENT_IDENTIFIERS + LENT_STARTS + LENT_NUMBERS };
+
 void meet(enum edges family, uint32_t which);
 
 /* Counts the edges of the family, in their order, of which the list says that they hold. */
 void meet_each(enum edges family, const int *holds, uint32_t count);
+
+/* Prints of each family how often the rarest edge was met. Gives how many families have one that never was. */
+int report_edges(void);
 
 /* Where the number stands in the list; the count where it does not. */
 uint32_t place_in(const uint32_t *list, uint32_t count, uint32_t number);
@@ -77,6 +84,7 @@ void try_classes(void);
 void try_frame_read(void);
 void try_frame_pack(void);
 void try_row_in_frame(void);
+void try_lent_edge(void);
 void try_fault_sum(void);
 void try_power_step(void);
 void try_sleep(void);

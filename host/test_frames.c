@@ -173,22 +173,54 @@ void try_frame_pack(void) {
         meet(PACK_COUNTS, count + 1 - needed);
 }
 
+/* A book of one message with one signal. */
+static void make_small_book(uint32_t book[PC_BOOK_WORDS], uint32_t identifier, uint32_t number, uint32_t start) {
+    memset(book, 0, 4 * PC_BOOK_WORDS);
+    book[PC_BOOK_MESSAGES] = book[PC_BOOK_SIGNALS] = 1;
+    book[PC_BOOK_IDENTIFIERS] = identifier;
+    book[PC_BOOK_ENDS] = 1;
+    book[PC_BOOK_NUMBERS] = number;
+    book[PC_BOOK_STARTS] = start;
+}
+
 /* The next edge of a row as the one signal of a message, packed, and read from a frame of ones. */
 void try_row_in_frame(void) {
     static uint32_t edge;
-    uint32_t which = edge++ % (PLAIN_ROWS * ROW_EDGES), book[PC_BOOK_WORDS] = { 1, 1, 0 }, identifier = below(1 << 29);
+    uint32_t which = edge++ % (PLAIN_ROWS * ROW_EDGES), book[PC_BOOK_WORDS], identifier = below(1 << 29);
     const struct plain_row *row = &plain_catalogue[which / ROW_EDGES];
     uint32_t start = row->number == CHECKSUM ? CHECKSUM_START : row->number == COUNTER ? COUNTER_START : below(65 - row->bits);
     uint32_t raw = row_edge(row, which % ROW_EDGES), rooms[3] = { 1, 1, 1 };
     uint64_t mask = (((uint64_t)1 << row->bits) - 1) << start, word = ~mask | ((uint64_t)raw << start & mask);
     uint8_t frame[PC_FRAME_BYTES];
-    book[PC_BOOK_IDENTIFIERS] = identifier;
-    book[PC_BOOK_ENDS] = 1;
-    book[PC_BOOK_NUMBERS] = row->number;
-    book[PC_BOOK_STARTS] = start;
+    make_small_book(book, identifier, row->number, start);
     for (int i = 0; i < PC_FRAME_BYTES; i++)
         frame[i] = (uint8_t)(word >> (8 * i));
     compare_frame_pack(book, identifier, &raw, 1, PC_FRAME_BYTES);
     compare_frame_read(book, identifier, frame, PC_FRAME_BYTES, rooms);
     meet(ROW_FRAMES, which);
+}
+
+/* The next book that is lent with one number at a limit or past it: of an identifier, of a start, of a signal. */
+void try_lent_edge(void) {
+    static const uint32_t identifiers[LENT_IDENTIFIERS] = { 0x1FFFFFFF, 0x20000000, 0x20000001, 0xFFFFFFFF };
+    static uint32_t edge;
+    uint32_t which = edge++ % LENT_BOOKS, at = which, book[PC_BOOK_WORDS], rooms[3] = { 1, 1, 1 }, raw;
+    uint8_t frame[PC_FRAME_BYTES];
+    make_small_book(book, below(1 << 29), 201, below(49));
+    if (at < LENT_IDENTIFIERS) {
+        book[PC_BOOK_IDENTIFIERS] = identifiers[at];
+    } else if ((at -= LENT_IDENTIFIERS) < LENT_STARTS) {
+        const struct plain_row *row = &plain_catalogue[at / 4];
+        const uint32_t starts[4] = { 64 - row->bits, 65 - row->bits, 63, 64 };
+        book[PC_BOOK_NUMBERS] = row->number;
+        book[PC_BOOK_STARTS] = starts[at % 4];
+    } else {
+        book[PC_BOOK_NUMBERS] = at - LENT_STARTS;
+    }
+    raw = sent_raw(book[PC_BOOK_NUMBERS]);
+    chance_bytes(&chance, frame, sizeof frame);
+    put_check(frame, book[PC_BOOK_IDENTIFIERS], 0);
+    compare_frame_read(book, book[PC_BOOK_IDENTIFIERS], frame, sizeof frame, rooms);
+    compare_frame_pack(book, book[PC_BOOK_IDENTIFIERS], &raw, 1, sizeof frame);
+    meet(LENT_EDGES, which);
 }

@@ -12,7 +12,6 @@ import shutil
 import subprocess
 import sys
 import tempfile
-import time
 from concurrent.futures import ThreadPoolExecutor
 from pathlib import Path
 
@@ -44,12 +43,13 @@ def helps():
     yield status == 0 and printed.startswith("usage: host/run") and not said and call("host/run") == (2, "", printed), printed + said
     status, printed, said = call("host/build", "--help")
     yield status == 0 and printed.startswith("usage: host/build") and not said, printed + said
-    status, empty, said = call("host/build", "nothing")
-    yield status == 2 and not empty and "there is no 'nothing'" in said and printed in said, said
+    for word in ("nothing", ""):
+        status, empty, said = call("host/build", word)
+        yield status == 2 and not empty and said.startswith(f"build: there is no '{word}'\n") and printed in said, said
     status, empty, said = call("host/build", "wasm32", "O4")
     yield status == 2 and not empty and "there is no level 'O4'" in said and printed in said, said
     status, empty, said = call("host/build", "x86_64-linux", "Os")
-    yield status == 2 and not empty and said == "build: x86_64-linux is built at O3 alone, as rt does\n", said
+    yield status == 2 and not empty and said.startswith("build: x86_64-linux is built at O3 alone, as rt does\n") and printed in said, said
     yield call("host/build", "wasm32", "Os", "O3") == (2, "", printed), "host/build with a word too many"
     for words in (["aarch64-none wasm32"], ["wasm32", "O3 O2"]):
         status, empty, said = call("host/build", *words)
@@ -63,37 +63,52 @@ def helps():
     yield status == 0 and printed.startswith("usage: host/install PREFIX") and not said and call("host/install") == (2, "", printed), printed + said
     status, empty, said = call("host/install", "wasm32")
     yield status == 2 and not empty and "'wasm32' is a TARGET" in said and printed in said and not (ROOT / "wasm32").exists(), said
+    for words in (["nothing"], ["wasm32", "O4"], [""]):
+        status, empty, said = call("host/install", "prefix", *words)
+        yield status == 2 and not empty and f"'{words[-1]}'" in said and printed in said and not (ROOT / "prefix").exists(), said
 
 
 def freshness():
-    """What was built is fresh until a source is changed, though it bears its old time, or taken away."""
+    """What was built is fresh as long as it and the sources are what they were, whatever time they bear and wherever they are copied."""
     with tempfile.TemporaryDirectory() as made:
-        copy = Path(made)
+        tree, copied = Path(made) / "tree", Path(made) / "copied"
         for name in ("tools", f"crates/{BELOW}"):
-            shutil.copytree(ROOT / name, copy / name)
-        shutil.copy(ROOT / "crates.txt", copy)
-        source, built = copy / f"crates/{BELOW}/src/lib.rt", copy / f"target/bin/{BELOW}"
-        built.parent.mkdir(parents=True)
+            shutil.copytree(ROOT / name, tree / name)
+        shutil.copy(ROOT / "crates.txt", tree)
+        source, built = (f"crates/{BELOW}/src/lib.rt", f"target/bin/{BELOW}")
+        (tree / built).parent.mkdir(parents=True)
 
-        def fresh():
-            return call("tools/fresh", "program", BELOW, folder=copy)[0] == 0
+        def fresh(folder=tree):
+            return call("tools/fresh", "program", BELOW, folder=folder)[0] == 0
 
-        def build():
-            time.sleep(0.1)
-            built.touch()
-            time.sleep(0.1)
+        def keep():
+            return call("tools/fresh", "--keep", "program", BELOW, call("tools/fresh", "--sources", folder=tree)[1].strip(), folder=tree)[0] == 0
 
-        def change():
-            old = source.stat()
-            source.write_text(source.read_text() + "\n")
-            os.utime(source, ns=(old.st_atime_ns, old.st_mtime_ns))
+        def change(name):
+            old = (tree / name).stat()
+            (tree / name).write_bytes((tree / name).read_bytes() + b"\n")
+            os.utime(tree / name, ns=(old.st_atime_ns, old.st_mtime_ns))
 
-        yield not fresh(), "fresh, and nothing is built"
-        for what, done in ("changed", change), ("taken away", source.unlink):
-            build()
-            yield fresh(), f"not fresh, before a source is {what}"
-            done()
-            yield not fresh(), f"fresh, and a source is {what}"
+        def put_back(name):
+            (tree / name).write_bytes((tree / name).read_bytes()[:-1])
+
+        yield not fresh() and not keep() and not fresh(), "fresh, and nothing is built"
+        (tree / built).write_text("built")
+        yield not fresh(), "fresh, and nobody knows of which sources"
+        yield keep() and fresh(), "not fresh, as it was built"
+        for name in (source, "crates.txt", built):
+            change(name)
+            shutil.copytree(tree, copied, copy_function=shutil.copyfile)  # which copies no time
+            shutil.copy(tree / "tools/fresh", copied / "tools/fresh")
+            yield not fresh() and not fresh(copied), f"fresh, and {name} is another, here or in a copy"
+            shutil.rmtree(copied)
+            put_back(name)
+            yield fresh(), f"not fresh, and {name} is as it was"
+        shutil.copytree(tree, copied)
+        yield fresh(copied), "not fresh, and the tree is copied"
+        (tree / "crates/more").write_text("")
+        (copied / source).unlink()
+        yield not fresh() and not fresh(copied), "fresh, and a source is new or gone"
 
 
 def leftovers():
@@ -102,8 +117,7 @@ def leftovers():
         copy = Path(made)
         for name in ("tools", "host", "include"):
             shutil.copytree(ROOT / name, copy / name)
-        for name in ("fresh", "prove"):
-            (copy / "tools" / name).write_text("#!/bin/sh\nexit 1\n")
+        (copy / "tools/prove").write_text("#!/bin/sh\nexit 1\n")
         for target in ("x86_64-linux", "thumbv7em-none", "wasm32"):
             folder = copy / "target/firmware" / target
             folder.mkdir(parents=True)
