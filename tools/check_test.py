@@ -202,6 +202,7 @@ def refusals(folder):
 
 
 def main():
+    subprocess.run([ROOT / "tools/prove", "program", "book_check"], check=True)  # so that no answer has words of a proof in it
     failed = False
     with tempfile.TemporaryDirectory() as made:
         for part in (vectors, together, founding, shared_lines, shown_in_papers, no_books, no_checker, slips, refusals):
