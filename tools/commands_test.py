@@ -104,6 +104,15 @@ def freshness():
             shutil.rmtree(copied)
             put_back(name)
             yield fresh(), f"not fresh, and {name} is as it was"
+        outside = Path(made) / "outside.rt"
+        (tree / source).rename(outside)
+        (tree / source).symlink_to(outside)
+        yield fresh(), "not fresh, and a source is a link to what it was"
+        outside.write_bytes(outside.read_bytes() + b"\n")
+        yield not fresh(), "fresh, and a link leads to another source"
+        (tree / source).unlink()
+        outside.rename(tree / source)
+        put_back(source)
         shutil.copytree(tree, copied)
         yield fresh(copied), "not fresh, and the tree is copied"
         (tree / "crates/more").write_text("")
