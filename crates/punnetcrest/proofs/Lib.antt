@@ -1,5 +1,6 @@
 pub mod BookNumbers
 pub mod ClassNumbers
+pub mod DashNumbers
 pub mod OneOutcome
 pub mod PowerNumbers
 pub mod SleepNumbers

@@ -1,5 +1,6 @@
 pub mod Booking
 pub mod Classing
+pub mod Dashing
 pub mod Packing
 pub mod Powering
 pub mod Sleeping

@@ -6,6 +6,7 @@
 // input. Assumes nothing of its own.
 mod booking;
 mod classing;
+mod dashing;
 mod numbers;
 mod packing;
 mod powering;
