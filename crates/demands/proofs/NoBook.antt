@@ -23,6 +23,7 @@ use Rattle.framing.specs.Reading.{Slices, readingNumber, checksumHolds, room, r
 use Rattle.framing.specs.Reading as Read
 use Rattle.framing.specs.Packing.{packingNumber, packable, judgedValues, packedOr, packedFrame, packByMessage}
 use Rattle.framing.specs.Packing as Pack
+use Rattle.signal_lines.specs.declared.figures.Figures.{Figures}
 use Rattle.listing.specs.Listing.{listedNumber, listing}
 use Rattle.listing.proofs.AsRead.{refused-12}
 use Rattle.reading.specs.Taken.{MessagesFrom, RoutesFrom}
@@ -101,8 +102,8 @@ pack-12 w identifier vs lent =
     go false = refl
 
 -- listing
-pub list-12 : (w text lent : List ℕ) → (listedNumber (listing w text lent .0) ≡ 12) ↔ (MessagesFrom w → ⊥)
-list-12 w text lent = by-test w 0 (λ e. omega arith) _ (refused-12 w text lent)
+pub list-12 : (figures : Figures) (w text lent : List ℕ) → (listedNumber (listing figures w text lent .0) ≡ 12) ↔ (MessagesFrom w → ⊥)
+list-12 figures w text lent = by-test w 0 (λ e. omega arith) _ (refused-12 figures w text lent)
 
 -- the spread, whose tables are the routes
 module _ (w : List ℕ) (r : IsRecord w) (bus identifier : ℕ) (room-lent : List ℕ) where

@@ -10,7 +10,6 @@ use lib.Dec.{leb}
 use lib.ListN.{length, take, drop, length-append, length-drop}
 use lib.Seq.{sets, sets-eq, drop-drop, length-take-le}
 use borrow.Author.Tests.{leb-true, leb-false, le-leb, lt-leb}
-use Rattle.books.specs.Book.{Message}
 use Rattle.framing.specs.Messages.{written}
 use Rattle.parts.specs.Parts.{ended, lines, indexOf}
 use Rattle.parts.proofs.LineEnds.{lines-none, lines-more, lines-last}
@@ -20,7 +19,6 @@ use Rattle.listing.specs.declared.Fitted.{Fitted}
 use Rattle.listing.specs.declared.Fitted.the-variants.{Next, NoRoom}
 use Rattle.listing.specs.declared.Listed.{Listed}
 use Rattle.listing.specs.declared.Listed.the-variants.{Lines}
-use Rattle.listing.specs.Printout.{printout}
 use Rattle.listing.specs.Listing.{ListedLines, noLines, lineThen, linesThatFit, listedAnswer}
 use Rattle.listing.specs.Working.{fitted}
 
@@ -60,23 +58,23 @@ module _ (out : List ℕ) (at : ℕ) (text : List ℕ) {new : List ℕ} {f : Fit
 
 -- ---- the loop
 
-abbrev pub whole : List Message → List ℕ → List ℕ → ListedLines
-whole ms text old = linesThatFit ms (length old) (lines text)
+abbrev pub whole : (List ℕ → List ℕ) → List ℕ → List ℕ → ListedLines
+whole print text old = linesThatFit print (length old) (lines text)
 
-abbrev pub left : List Message → List ℕ → List ℕ → ℕ → ℕ → ListedLines
-left ms text old used wrote = linesThatFit ms (length old - wrote) (lines (drop used text))
+abbrev pub left : (List ℕ → List ℕ) → List ℕ → List ℕ → ℕ → ℕ → ListedLines
+left print text old used wrote = linesThatFit print (length old - wrote) (lines (drop used text))
 
-pub record Ran (ms : List Message) (text old out : List ℕ) (used wrote : ℕ) : Type 0 where
-  pub bytes : used + left ms text old used wrote .used ≡ whole ms text old .used
-  pub there : sets out wrote (left ms text old used wrote .text) ≡ sets old 0 (whole ms text old .text)
-  pub end : wrote + length (left ms text old used wrote .text) ≡ length (whole ms text old .text)
+pub record Ran (print : List ℕ → List ℕ) (text old out : List ℕ) (used wrote : ℕ) : Type 0 where
+  pub bytes : used + left print text old used wrote .used ≡ whole print text old .used
+  pub there : sets out wrote (left print text old used wrote .text) ≡ sets old 0 (whole print text old .text)
+  pub end : wrote + length (left print text old used wrote .text) ≡ length (whole print text old .text)
   pub size : length out ≡ length old
   pub inside : wrote ≤ length old
   pub within : used ≤ length text
 
-pub none-ran : (ms : List Message) (text old : List ℕ) → Ran ms text old old 0 0
-none-ran ms text old =
-    let e : left ms text old 0 0 ≡ whole ms text old = ap (λ (n : ℕ). linesThatFit ms n (lines text)) (omega arith) in
+pub none-ran : (print : List ℕ → List ℕ) (text old : List ℕ) → Ran print text old old 0 0
+none-ran print text old =
+    let e : left print text old 0 0 ≡ whole print text old = ap (λ (n : ℕ). linesThatFit print n (lines text)) (omega arith) in
     record {
       bytes = omega (arith, ap (λ (r : ListedLines). r .used) e);
       there = ap (λ (r : ListedLines). sets old 0 (r .text)) e;
@@ -86,29 +84,29 @@ none-ran ms text old =
       within = omega arith;
     }
 
-module _ {ms : List Message} {text old out : List ℕ} {used wrote : ℕ} (r : Ran ms text old out used wrote) where
+module _ {print : List ℕ → List ℕ} {text old out : List ℕ} {used wrote : ℕ} (r : Ran print text old out used wrote) where
   -- nothing more is listed
-  finished : left ms text old used wrote ≡ noLines → _≡_ {A = Listed × List ℕ} (Lines used wrote, out) (listedAnswer (whole ms text old) old)
+  finished : left print text old used wrote ≡ noLines → _≡_ {A = Listed × List ℕ} (Lines used wrote, out) (listedAnswer (whole print text old) old)
   finished e =
-      let bytes : used ≡ whole ms text old .used = omega (arith, ap (λ (x : ListedLines). x .used) e, r .bytes) in
-      let end : wrote ≡ length (whole ms text old .text) = omega (arith, ap (λ (x : ListedLines). length (x .text)) e, r .end) in
-      let there : out ≡ sets old 0 (whole ms text old .text) = ap (λ (x : ListedLines). sets out wrote (x .text)) (sym e) ∙ r .there in
-      let stands : out ≡ written (whole ms text old .text) old =
-      there ∙ sets-eq (whole ms text old .text) old 0 (omega (arith, r .inside)) ∙ ap (λ (n : ℕ). whole ms text old .text ++ drop n old) (zero-add (length (whole ms text old .text))) in
+      let bytes : used ≡ whole print text old .used = omega (arith, ap (λ (x : ListedLines). x .used) e, r .bytes) in
+      let end : wrote ≡ length (whole print text old .text) = omega (arith, ap (λ (x : ListedLines). length (x .text)) e, r .end) in
+      let there : out ≡ sets old 0 (whole print text old .text) = ap (λ (x : ListedLines). sets out wrote (x .text)) (sym e) ∙ r .there in
+      let stands : out ≡ written (whole print text old .text) old =
+      there ∙ sets-eq (whole print text old .text) old 0 (omega (arith, r .inside)) ∙ ap (λ (n : ℕ). whole print text old .text ++ drop n old) (zero-add (length (whole print text old .text))) in
       ap (λ (n : ℕ). (Lines n wrote, out)) bytes
-      ∙ ap (λ (n : ℕ). (Lines (whole ms text old .used) n, out)) end
-      ∙ ap (λ (l : List ℕ). (Lines (whole ms text old .used) (length (whole ms text old .text)), l)) stands
+      ∙ ap (λ (n : ℕ). (Lines (whole print text old .used) n, out)) end
+      ∙ ap (λ (l : List ℕ). (Lines (whole print text old .used) (length (whole print text old .text)), l)) stands
 
-  pub all-ran : length text ≤ used → _≡_ {A = Listed × List ℕ} (Lines used wrote, out) (listedAnswer (whole ms text old) old)
+  pub all-ran : length text ≤ used → _≡_ {A = Listed × List ℕ} (Lines used wrote, out) (listedAnswer (whole print text old) old)
   unfolding linesThatFit
-  all-ran h = finished (ap (linesThatFit ms (length old - wrote)) (lines-none text used h))
+  all-ran h = finished (ap (linesThatFit print (length old - wrote)) (lines-none text used h))
 
   module _ (h : used < length text) {rest : List ℕ} (x : rest ≡ drop used text) {k : ℕ} (e : k ≡ indexOf 10 rest) where
-    pub no-end : length rest ≤ k → _≡_ {A = Listed × List ℕ} (Lines used wrote, out) (listedAnswer (whole ms text old) old)
+    pub no-end : length rest ≤ k → _≡_ {A = Listed × List ℕ} (Lines used wrote, out) (listedAnswer (whole print text old) old)
     unfolding linesThatFit
     no-end t =
         finished
-        (ap (linesThatFit ms (length old - wrote))
+        (ap (linesThatFit print (length old - wrote))
         (ap lines (sym x) ∙ lines-last rest e t (omega (arith, ap length x, length-drop used text))))
 
     module _ (t : k < length rest) {line : List ℕ} (y : line ≡ take k rest) where
@@ -120,37 +118,37 @@ module _ {ms : List Message} {text old out : List ℕ} {used wrote : ℕ} (r : R
           ∙ ap (λ (l : List ℕ). ended line ∷ lines l) (drop-drop (k + 1) used text)
 
       -- the line does not fit
-      pub no-room : {new : List ℕ} → Stayed out wrote (printout ms line) new → _≡_ {A = Listed × List ℕ} (Lines used wrote, new) (listedAnswer (whole ms text old) old)
+      pub no-room : {new : List ℕ} → Stayed out wrote (print line) new → _≡_ {A = Listed × List ℕ} (Lines used wrote, new) (listedAnswer (whole print text old) old)
       unfolding linesThatFit
       no-room {new} s =
           ap (λ (l : List ℕ). (Lines used wrote, l)) (s .same)
-          ∙ finished (ap (linesThatFit ms (length old - wrote)) next-line ∙ rw (lt-leb (length (printout ms line)) (length old - wrote) (omega (arith, s .longer, r .size))))
+          ∙ finished (ap (linesThatFit print (length old - wrote)) next-line ∙ rw (lt-leb (length (print line)) (length old - wrote) (omega (arith, s .longer, r .size))))
 
       -- the line fits, and is listed
-      module _ {new : List ℕ} {next : ℕ} (w : Went out wrote (printout ms line) new next) where
-        room : length old - wrote - length (printout ms line) ≡ length old - next
+      module _ {new : List ℕ} {next : ℕ} (w : Went out wrote (print line) new next) where
+        room : length old - wrote - length (print line) ≡ length old - next
         room = omega (arith, w .put .now-at)
 
-        onward : left ms text old used wrote ≡ lineThen line (printout ms line) (left ms text old (used + (k + 1)) next)
+        onward : left print text old used wrote ≡ lineThen line (print line) (left print text old (used + (k + 1)) next)
         unfolding linesThatFit
         onward =
-            ap (linesThatFit ms (length old - wrote)) next-line
-            ∙ rw (le-leb (length (printout ms line)) (length old - wrote) (omega (arith, w .fits, r .size))) refl
-            ∙ ap (λ (n : ℕ). lineThen line (printout ms line) (linesThatFit ms n (lines (drop (used + (k + 1)) text)))) room
+            ap (linesThatFit print (length old - wrote)) next-line
+            ∙ rw (le-leb (length (print line)) (length old - wrote) (omega (arith, w .fits, r .size))) refl
+            ∙ ap (λ (n : ℕ). lineThen line (print line) (linesThatFit print n (lines (drop (used + (k + 1)) text)))) room
 
-        pub line-ran : Ran ms text old new (used + (k + 1)) next
+        pub line-ran : Ran print text old new (used + (k + 1)) next
         line-ran =
-            let after = left ms text old (used + (k + 1)) next in
+            let after = left print text old (used + (k + 1)) next in
             let long : length line ≡ k = ap length y ∙ length-take-le k rest (omega arith) in
             record {
               bytes = omega (arith, ap (λ (q : ListedLines). q .used) onward, r .bytes);
               there =
                   ap (λ (l : List ℕ). sets l next (after .text)) (w .put .now-there)
-                  ∙ ap (λ (n : ℕ). sets (sets out wrote (printout ms line)) n (after .text)) (w .put .now-at)
-                  ∙ sets-append out wrote (printout ms line) (after .text)
+                  ∙ ap (λ (n : ℕ). sets (sets out wrote (print line)) n (after .text)) (w .put .now-at)
+                  ∙ sets-append out wrote (print line) (after .text)
                   ∙ ap (λ (q : ListedLines). sets out wrote (q .text)) (sym onward)
                   ∙ r .there;
-              end = omega (arith, w .put .now-at, ap (λ (q : ListedLines). length (q .text)) onward, length-append (printout ms line) (after .text), r .end);
+              end = omega (arith, w .put .now-at, ap (λ (q : ListedLines). length (q .text)) onward, length-append (print line) (after .text), r .end);
               size = put-length (w .put) ∙ r .size;
               inside = omega (arith, w .put .now-at, w .fits, r .size, r .inside);
               within = omega (arith, ap length x, length-drop used text);

@@ -9,6 +9,7 @@ use Rattle.books.specs.Book.{Message}
 use Rattle.books.specs.Words.{messagesOf, messagesTaken}
 use Rattle.framing.specs.Messages.{written}
 use Rattle.parts.specs.Parts.{TextLine, ended, unended, lines}
+use Rattle.signal_lines.specs.declared.figures.Figures.{Figures}
 use Rattle.listing.specs.declared.Listed.{Listed}
 use Rattle.listing.specs.declared.Listed.the-variants.{Lines, NotABook}
 use Rattle.listing.specs.Printout.{printout}
@@ -30,13 +31,13 @@ noLines = record { used = 0; text = [] }
 abbrev pub lineThen : List ℕ → List ℕ → ListedLines → ListedLines
 lineThen line text rest = record { used = suc (length line) + rest .used; text = text ++ rest .text }
 
--- the lines from the front that fit the room
-unfoldable pub linesThatFit : List Message → ℕ → List TextLine → ListedLines
-linesThatFit ms room [] = noLines
-linesThatFit ms room (unended l ∷ ls) = noLines
-linesThatFit ms room (ended l ∷ ls) =
-    cond (leb (length (printout ms l)) room)
-    (lineThen l (printout ms l) (linesThatFit ms (room - length (printout ms l)) ls))
+-- the lines from the front that fit the room, by what each prints
+unfoldable pub linesThatFit : (List ℕ → List ℕ) → ℕ → List TextLine → ListedLines
+linesThatFit print room [] = noLines
+linesThatFit print room (unended l ∷ ls) = noLines
+linesThatFit print room (ended l ∷ ls) =
+    cond (leb (length (print l)) room)
+    (lineThen l (print l) (linesThatFit print (room - length (print l)) ls))
     noLines
 
 -- the answer, and what stands in the lent room
@@ -44,9 +45,9 @@ abbrev pub listedAnswer : ListedLines → List ℕ → Listed × List ℕ
 listedAnswer listed lent = (Lines (listed .used) (length (listed .text)), written (listed .text) lent)
 
 -- a buffer of frame lines listed by messages into lent room
-abbrev pub listingBy : List Message → List ℕ → List ℕ → Listed × List ℕ
-listingBy ms text lent = listedAnswer (linesThatFit ms (length lent) (lines text)) lent
+abbrev pub listingBy : Figures → List Message → List ℕ → List ℕ → Listed × List ℕ
+listingBy figures ms text lent = listedAnswer (linesThatFit (printout figures ms) (length lent) (lines text)) lent
 
 -- and by the words of a book
-unfoldable pub listing : List ℕ → List ℕ → List ℕ → Listed × List ℕ
-listing words text lent = cond (messagesTaken words) (listingBy (messagesOf words) text lent) (NotABook, lent)
+unfoldable pub listing : Figures → List ℕ → List ℕ → List ℕ → Listed × List ℕ
+listing figures words text lent = cond (messagesTaken words) (listingBy figures (messagesOf words) text lent) (NotABook, lent)

@@ -3,13 +3,12 @@
 use mathlib.Core.List.{List, [], _∷_, _++_}
 use Prim.Native.Nat.{ℕ, _*_}
 use lib.ListN.{take, drop}
-use Rattle.books.specs.Book.{Message}
 use Rattle.books.specs.Lines.{frameBits}
 use Rattle.parts.specs.Parts.{TextLine, ended, unended, lines}
+use Rattle.signal_lines.specs.declared.figures.Figures.{Figures}
 use Rattle.signal_lines.specs.Printed.{listedLineRoom}
 use Rattle.listing.specs.declared.Listed.{Listed}
 use Rattle.listing.specs.declared.Listed.the-variants.{Lines, NotABook}
-use Rattle.listing.specs.Printout.{printout}
 use Rattle.listing.specs.Listing.{listing}
 
 -- the lines that a newline ends
@@ -31,14 +30,14 @@ wholeLines text = endedLines (lines text)
 abbrev pub unfinished : List ℕ → List ℕ
 unfinished text = unendedLine (lines text)
 
--- what lines print, one after another
-unfoldable pub printouts : List Message → List (List ℕ) → List ℕ
-printouts ms [] = []
-printouts ms (l ∷ ls) = printout ms l ++ printouts ms ls
+-- what lines print, one after another, by what each prints
+unfoldable pub printouts : (List ℕ → List ℕ) → List (List ℕ) → List ℕ
+printouts print [] = []
+printouts print (l ∷ ls) = print l ++ printouts print ls
 
 -- what the whole lines of a text print
-abbrev pub wholeListing : List Message → List ℕ → List ℕ
-wholeListing ms text = printouts ms (wholeLines text)
+abbrev pub wholeListing : (List ℕ → List ℕ) → List ℕ → List ℕ
+wholeListing print text = printouts print (wholeLines text)
 
 -- what a call printed, by its answer and what stands in its room: the bytes that were written
 abbrev pub printedBy : Listed → List ℕ → List ℕ
@@ -56,11 +55,11 @@ pub record Called : Type 0 where
   pub left : List ℕ
 
 -- successive calls by the words of a book, one for each of the rooms that are lent
-unfoldable pub calls : List ℕ → List (List ℕ) → List ℕ → Called
-calls words [] text = record { printed = []; left = text }
-calls words (lent ∷ rooms) text =
-    let answer = listing words text lent in
-    let after = calls words rooms (leftBy (answer .0) text) in
+unfoldable pub calls : Figures → List ℕ → List (List ℕ) → List ℕ → Called
+calls figures words [] text = record { printed = []; left = text }
+calls figures words (lent ∷ rooms) text =
+    let answer = listing figures words text lent in
+    let after = calls figures words rooms (leftBy (answer .0) text) in
     record { printed = printedBy (answer .0) (answer .1) ++ after .printed; left = after .left }
 
 -- no printout under a taken book is longer: a line for each signal, of which a message has at most as many as a frame has bits

@@ -15,20 +15,21 @@ use Rattle.framing.specs.declared.Reading.the-variants.{WrongChecksum}
 use Rattle.framing.specs.Messages.{messageWith}
 use Rattle.framing.specs.Reading.{readingNumber}
 use Rattle.printing.specs.Put.{PutWithin}
+use Rattle.signal_lines.specs.declared.figures.Figures.{Figures}
 use Rattle.signal_lines.specs.Printed.{readingLine, refusedFrameLine, listedLineRoom}
 use Rattle.listing.specs.declared.Fitted.{Fitted}
 use Rattle.listing.specs.declared.Fitted.the-variants.{Next, NoRoom}
 use Rattle.listing.specs.Printout.{messageListing}
 
 -- a line for each signal, of a frame's word
-unfoldable pub wordLines : ℕ → ℕ → List Placement → List ℕ
-wordLines identifier word [] = []
-wordLines identifier word (p ∷ ps) = readingLine identifier (p .number) (classFrom word p) ++ wordLines identifier word ps
+unfoldable pub wordLines : Figures → ℕ → ℕ → List Placement → List ℕ
+wordLines figures identifier word [] = []
+wordLines figures identifier word (p ∷ ps) = readingLine figures identifier (p .number) (classFrom word p) ++ wordLines figures identifier word ps
 
 -- those lines, of a message by its numbers and starts, stand at a place of the room, and are no longer than their room
-abbrev pub SignalsPut : List ℕ → ℕ → ℕ → ℕ → List ℕ → List ℕ → List ℕ → ℕ → Type 0
-SignalsPut old at identifier word ns ss new next =
-    PutWithin old at (listedLineRoom * length ns) (wordLines identifier word (sideBySide ns ss)) new next
+abbrev pub SignalsPut : List ℕ → ℕ → Figures → ℕ → ℕ → List ℕ → List ℕ → List ℕ → ℕ → Type 0
+SignalsPut old at figures identifier word ns ss new next =
+    PutWithin old at (listedLineRoom * length ns) (wordLines figures identifier word (sideBySide ns ss)) new next
 
 -- numbers and starts of placements that lie within the frame, and room for their lines
 pub record Roomy (out : List ℕ) (at : ℕ) (ns ss : List ℕ) : Type 0 where
@@ -44,15 +45,15 @@ pub record Listable (out : List ℕ) (at : ℕ) (ns ss : List ℕ) : Type 0 wher
   pub inside : at ≤ length out
 
 -- a frame's word by its message: refusal 23, or a line for each signal
-unfoldable pub messageText : ℕ → ℕ → List ℕ → List ℕ → List ℕ
-messageText identifier word ns ss =
+unfoldable pub messageText : Figures → ℕ → ℕ → List ℕ → List ℕ → List ℕ
+messageText figures identifier word ns ss =
     cond (checkHolds identifier word ns)
-    (wordLines identifier word (sideBySide ns ss))
+    (wordLines figures identifier word (sideBySide ns ss))
     (refusedFrameLine identifier (readingNumber WrongChecksum))
 
 -- a frame's word, by the words of a book
-abbrev pub wordListing : List ℕ → ℕ → ℕ → List ℕ
-wordListing words identifier word = messageListing identifier (bytesOf word) (messageWith identifier (messagesOf words))
+abbrev pub wordListing : Figures → List ℕ → ℕ → ℕ → List ℕ
+wordListing figures words identifier word = messageListing figures identifier (bytesOf word) (messageWith identifier (messagesOf words))
 
 -- a text put at a place where it fits what is left
 unfoldable pub fitted : List ℕ → ℕ → List ℕ → Fitted × List ℕ

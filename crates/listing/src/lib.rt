@@ -17,6 +17,7 @@ use parts::find;
 use parts::part_before;
 use parts::part_from;
 use record::BOOK_WORDS;
+use signal_lines::Figures;
 use tables::messages_taken;
 
 // What a listing answers.
@@ -34,9 +35,9 @@ pub enum Fitted {
 }
 
 // The whole lines from the front that fit, by a taken book. The catalogue's columns are bound once for all lines.
-fn list_lines(book: &[u32; BOOK_WORDS], text: &[u8], out: &mut [u8]) -> Listed
+fn list_lines(book: &[u32; BOOK_WORDS], text: &[u8], out: &mut [u8], figures: Figures) -> Listed
     requires { ⌜ messagesTaken (now book) ≡ true ⌝ }
-    ensures { λ r. ⌜ _≡_ {A = Listed × List ℕ} (r, now (out .exit)) (listingBy (messagesOf (now (book .entry))) (now (text .entry)) (now (out .entry))) ⌝ }
+    ensures { λ r. ⌜ _≡_ {A = Listed × List ℕ} (r, now (out .exit)) (listingBy figures (messagesOf (now (book .entry))) (now (text .entry)) (now (out .entry))) ⌝ }
 {
     let above = catalogue::surpluses();
     let widths = rows::widths();
@@ -55,6 +56,7 @@ fn list_lines(book: &[u32; BOOK_WORDS], text: &[u8], out: &mut [u8]) -> Listed
             &above,
             &mut *out,
             written,
+            figures,
         ) {
             Fitted::Next(next) => {
                 written = next;
@@ -66,12 +68,12 @@ fn list_lines(book: &[u32; BOOK_WORDS], text: &[u8], out: &mut [u8]) -> Listed
     Listed::Lines(used, written)
 }
 
-// Lists frame lines by a lent book into lent room.
-pub fn list(book: &[u32; BOOK_WORDS], text: &[u8], out: &mut [u8]) -> Listed
-    ensures { λ r. ⌜ _≡_ {A = Listed × List ℕ} (r, now (out .exit)) (listing (now (book .entry)) (now (text .entry)) (now (out .entry))) ⌝ }
+// Lists frame lines by a lent book into lent room; a value shows these figures.
+pub fn list(book: &[u32; BOOK_WORDS], text: &[u8], out: &mut [u8], figures: Figures) -> Listed
+    ensures { λ r. ⌜ _≡_ {A = Listed × List ℕ} (r, now (out .exit)) (listing figures (now (book .entry)) (now (text .entry)) (now (out .entry))) ⌝ }
 {
     if messages_taken(book) {
-        return list_lines(book, text, out);
+        return list_lines(book, text, out, figures);
     }
     Listed::NotABook
 }

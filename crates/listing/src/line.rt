@@ -17,6 +17,7 @@ use frame_lines::read_frame_line;
 use frames::MessageFound;
 use frames::find_message;
 use record::BOOK_WORDS;
+use signal_lines::Figures;
 
 const NOT_EIGHT_BYTES: u32 = 21;
 
@@ -31,9 +32,10 @@ fn list_frame(
     above: &[u32],
     out: &mut [u8],
     at: usize,
+    figures: Figures,
 ) -> Fitted
     requires { ⌜ WidthColumns (now above) (now widths) × (messagesTaken (now book) ≡ true) × (at ≤ length (now out)) ⌝ }
-    ensures { λ r. ⌜ PutIfFits (now (out .entry)) at (wordListing (now (book .entry)) identifier word) (now (out .exit)) r ⌝ }
+    ensures { λ r. ⌜ PutIfFits (now (out .entry)) at (wordListing figures (now (book .entry)) identifier word) (now (out .exit)) r ⌝ }
 {
     match find_message(book, identifier) {
         MessageFound::Signals(from, to) => {
@@ -48,6 +50,7 @@ fn list_frame(
                 starts,
                 widths,
                 above,
+                figures,
             )
         }
         MessageFound::Nothing => list_refused(&mut *out, at, identifier, UNKNOWN_IDENTIFIER),
@@ -62,9 +65,10 @@ pub fn list_line(
     above: &[u32],
     out: &mut [u8],
     at: usize,
+    figures: Figures,
 ) -> Fitted
     requires { ⌜ WidthColumns (now above) (now widths) × (messagesTaken (now book) ≡ true) × (at ≤ length (now out)) ⌝ }
-    ensures { λ r. ⌜ PutIfFits (now (out .entry)) at (printout (messagesOf (now (book .entry))) (now (line .entry))) (now (out .exit)) r ⌝ }
+    ensures { λ r. ⌜ PutIfFits (now (out .entry)) at (printout figures (messagesOf (now (book .entry))) (now (line .entry))) (now (out .exit)) r ⌝ }
 {
     match read_frame_line(line) {
         FrameLine::Frame(identifier, word) => list_frame(
@@ -75,6 +79,7 @@ pub fn list_line(
             above,
             &mut *out,
             at,
+            figures,
         ),
         FrameLine::NotEightBytes(identifier) => list_refused(
             &mut *out,

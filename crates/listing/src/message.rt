@@ -8,6 +8,7 @@ use crate::room::fit;
 use crate::room::list_refused;
 use catalogue::Raw;
 use messages::checked;
+use signal_lines::Figures;
 use signal_lines::LISTED_LINE_ROOM;
 use signal_lines::put_reading;
 
@@ -26,9 +27,10 @@ fn put_signals(
     starts: &[u32],
     widths: &[u8],
     above: &[u32],
+    figures: Figures,
 ) -> usize
     requires { ⌜ WidthColumns (now above) (now widths) × Roomy (now out) at (now numbers) (now starts) ⌝ }
-    ensures { λ r. ⌜ SignalsPut (now (out .entry)) at identifier word (now (numbers .entry)) (now (starts .entry)) (now (out .exit)) r ⌝ }
+    ensures { λ r. ⌜ SignalsPut (now (out .entry)) at figures identifier word (now (numbers .entry)) (now (starts .entry)) (now (out .exit)) r ⌝ }
 {
     let mut next: usize = at;
     let mut i: usize = 0;
@@ -37,7 +39,7 @@ fn put_signals(
         let bits = catalogue::known_bits(number, widths, above);
         let raw = bits::take(word, starts[i], bits);
         let class = catalogue::class_of(number, Raw(raw));
-        next = put_reading(&mut *out, next, identifier, number, class);
+        next = put_reading(&mut *out, next, identifier, number, class, figures);
         i += 1;
     }
     next
@@ -53,9 +55,10 @@ fn list_signals(
     starts: &[u32],
     widths: &[u8],
     above: &[u32],
+    figures: Figures,
 ) -> Fitted
     requires { ⌜ WidthColumns (now above) (now widths) × Listable (now out) at (now numbers) (now starts) ⌝ }
-    ensures { λ r. ⌜ PutIfFits (now (out .entry)) at (wordLines identifier word (sideBySide (now (numbers .entry)) (now (starts .entry)))) (now (out .exit)) r ⌝ }
+    ensures { λ r. ⌜ PutIfFits (now (out .entry)) at (wordLines figures identifier word (sideBySide (now (numbers .entry)) (now (starts .entry)))) (now (out .exit)) r ⌝ }
 {
     if LISTED_LINE_ROOM * numbers.len() <= out.len() - at {
         return Fitted::Next(put_signals(
@@ -67,6 +70,7 @@ fn list_signals(
             starts,
             widths,
             above,
+            figures,
         ));
     }
     let mut aside = [0u8; LONGEST];
@@ -79,6 +83,7 @@ fn list_signals(
         starts,
         widths,
         above,
+        figures,
     );
     fit(&mut *out, at, &aside[..length])
 }
@@ -93,9 +98,10 @@ pub fn list_message(
     starts: &[u32],
     widths: &[u8],
     above: &[u32],
+    figures: Figures,
 ) -> Fitted
     requires { ⌜ WidthColumns (now above) (now widths) × Listable (now out) at (now numbers) (now starts) ⌝ }
-    ensures { λ r. ⌜ PutIfFits (now (out .entry)) at (messageText identifier word (now (numbers .entry)) (now (starts .entry))) (now (out .exit)) r ⌝ }
+    ensures { λ r. ⌜ PutIfFits (now (out .entry)) at (messageText figures identifier word (now (numbers .entry)) (now (starts .entry))) (now (out .exit)) r ⌝ }
 {
     if checked(identifier, word, numbers) {
         return list_signals(
@@ -107,6 +113,7 @@ pub fn list_message(
             starts,
             widths,
             above,
+            figures,
         );
     }
     list_refused(&mut *out, at, identifier, WRONG_CHECKSUM)

@@ -13,10 +13,12 @@ use Rattle.numerals.specs.Written.{identifierText}
 use Rattle.numerals.proofs.Digits.{length-digits}
 use Rattle.parts.specs.Parts.{tab, newline}
 use Rattle.printing.specs.Decimal.{naturalText}
-use Rattle.printing.proofs.Spelling.{natural-few, signed-few}
+use Rattle.printing.proofs.Spelling.{natural-few}
+use Rattle.signal_lines.specs.declared.figures.Figures.{Figures}
 use Rattle.signal_lines.specs.Printed.{printedLine, readingLine, refusedFrameLine, listedLineRoom}
 use Rattle.signal_lines.specs.Words.{noWord, classWord, figureOf}
 use Rattle.signal_lines.proofs.Fields.{field-more, field-last}
+use Rattle.signal_lines.proofs.Showing.{figure-few}
 
 -- a field, its tab, and the rest of the line
 more-long : (a b : List ℕ) (fs : List (List ℕ)) → length (printedLine (a ∷ b ∷ fs)) ≡ length a + suc (length (printedLine (b ∷ fs)))
@@ -42,18 +44,18 @@ word-short NotInCatalogue = omega arith
 word-short TooWide = omega arith
 
 module _ (identifier number : ℕ) (h : number < 2 ^ 64) where
-  pub reading-short : (class : Class) → SFits w64 (carriedBy class) → length (readingLine identifier number class) ≤ listedLineRoom
-  reading-short class f =
+  pub reading-short : (figures : Figures) (class : Class) → SFits w64 (carriedBy class) → length (readingLine figures identifier number class) ≤ listedLineRoom
+  reading-short figures class f =
       omega (
         arith,
-        more-long (identifierText identifier) (naturalText number) (classWord class ∷ figureOf class ∷ []),
-        more-long (naturalText number) (classWord class) (figureOf class ∷ []),
-        more-long (classWord class) (figureOf class) [],
-        last-long (figureOf class),
+        more-long (identifierText identifier) (naturalText number) (classWord class ∷ figureOf figures class ∷ []),
+        more-long (naturalText number) (classWord class) (figureOf figures class ∷ []),
+        more-long (classWord class) (figureOf figures class) [],
+        last-long (figureOf figures class),
         identifier-long identifier,
         natural-few number h,
         word-short class,
-        signed-few (carriedBy class) f,
+        figure-few figures class f,
       )
 
   pub refused-short : length (refusedFrameLine identifier number) ≤ listedLineRoom

@@ -1,4 +1,5 @@
 pub mod Fields
+pub mod Showing
 pub mod IllFormed
 pub mod Lengths
 pub mod OneOutcome

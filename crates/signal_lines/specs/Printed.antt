@@ -8,19 +8,21 @@ use Rattle.numerals.specs.Written.{identifierText}
 use Rattle.parts.specs.Parts.{tab, newline}
 use Rattle.parts.specs.Joined.{join}
 use Rattle.printing.specs.Decimal.{naturalText}
+use Rattle.signal_lines.specs.declared.figures.Figures.{Figures}
 use Rattle.signal_lines.specs.Words.{noWord, classWord, figureOf}
 
 unfoldable pub printedLine : List (List ℕ) → List ℕ
 printedLine fields = join tab fields ++ (newline ∷ [])
 
 -- "Each signal gives identifier, number, class word, and the thousandths of a value or the raw count of any other class."
-abbrev pub readingLine : ℕ → ℕ → Class → List ℕ
-readingLine identifier number class =
-    printedLine (identifierText identifier ∷ naturalText number ∷ classWord class ∷ figureOf class ∷ [])
+-- The dash's lister has the bits of the double "in place of the thousandths".
+abbrev pub readingLine : Figures → ℕ → ℕ → Class → List ℕ
+readingLine figures identifier number class =
+    printedLine (identifierText identifier ∷ naturalText number ∷ classWord class ∷ figureOf figures class ∷ [])
 
 -- the end of that line: the class word and its number
-abbrev pub classEnd : Class → List ℕ
-classEnd class = printedLine (classWord class ∷ figureOf class ∷ [])
+abbrev pub classEnd : Figures → Class → List ℕ
+classEnd figures class = printedLine (classWord class ∷ figureOf figures class ∷ [])
 
 -- "A refused frame gives identifier, `no`, number"
 abbrev pub refusedFrameLine : ℕ → ℕ → List ℕ

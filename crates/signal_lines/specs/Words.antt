@@ -1,10 +1,16 @@
--- "The words are `value`, `invalid`, `absent`, `error`, `reserved`, `outside`": one for each class, as its bytes. Assumes nothing.
+-- "The words are `value`, `invalid`, `absent`, `error`, `reserved`, `outside`": one for each class, as its bytes;
+-- and the figures beside it. Assumes nothing.
 use mathlib.Core.List.{List, [], _∷_}
 use Prim.Native.Nat.{ℕ}
+use lib.Ieee.{Float, binary64, toBits}
 use Rattle.catalogue.specs.declared.Class.{Class}
 use Rattle.catalogue.specs.declared.Class.the-variants.{Value, Invalid, Absent, Error, Reserved, Outside, NotInCatalogue, TooWide}
-use Rattle.catalogue.specs.Class.{carriedBy}
-use Rattle.printing.specs.Decimal.{signedText}
+use Rattle.catalogue.specs.declared.Thousandths.{Thousandths}
+use Rattle.doubles.specs.Doubles.{inUnits}
+use Rattle.numerals.specs.Written.{digitsOf}
+use Rattle.printing.specs.Decimal.{naturalText, signedText}
+use Rattle.signal_lines.specs.declared.figures.Figures.{Figures}
+use Rattle.signal_lines.specs.declared.figures.Figures.the-variants.{InThousandths, AsDoubles}
 
 abbrev pub valueWord : List ℕ
 valueWord = 118 ∷ 97 ∷ 108 ∷ 117 ∷ 101 ∷ []  -- value
@@ -39,6 +45,27 @@ classWord (Outside r) = outsideWord
 classWord NotInCatalogue = []
 classWord TooWide = []
 
+-- ---- the figures beside the word
+
+-- "the bits of the double as 16 hex digits (0-9 A-F, highest first)"
+abbrev pub doubleDigits : ℕ
+doubleDigits = 16
+
+unfoldable pub doubleText : Float → List ℕ
+doubleText x = digitsOf 16 doubleDigits (toBits binary64 x)
+
+-- the figures of a value: its thousandths, or the double "in place of the thousandths"
+abbrev pub valueFigures : Figures → Thousandths → List ℕ
+valueFigures InThousandths t = signedText (t .0)
+valueFigures AsDoubles t = doubleText (inUnits t)
+
 -- "the thousandths of a value or the raw count of any other class"
-abbrev pub figureOf : Class → List ℕ
-figureOf class = signedText (carriedBy class)
+abbrev pub figureOf : Figures → Class → List ℕ
+figureOf figures (Value t) = valueFigures figures t
+figureOf figures (Invalid r) = naturalText (r .0)
+figureOf figures (Absent r) = naturalText (r .0)
+figureOf figures (Error r) = naturalText (r .0)
+figureOf figures (Reserved r) = naturalText (r .0)
+figureOf figures (Outside r) = naturalText (r .0)
+figureOf figures NotInCatalogue = naturalText 0
+figureOf figures TooWide = naturalText 0

@@ -1,18 +1,22 @@
 // The lines that the lister prints, for crate `listing` and the lister: one signal's reading, a refused frame, an ill-formed
 // line. The last is a constant; each function asks for LISTED_LINE_ROOM bytes of a lent slice at a place, writes just its line, and
-// answers the place after it.
+// answers the place after it. What a value shows is asked of the caller.
+mod figures;
+
 use catalogue::Class;
 use catalogue::Thousandths;
+pub use figures::Figures;
+use figures::put_figures;
 use parts::NEWLINE;
 use parts::TAB;
 use printing::put_byte;
 use printing::put_bytes;
 use printing::put_natural;
-use printing::put_signed;
 use writing::put_identifier;
 ghost use mathlib.Core.List.{[], _∷_};
 ghost use Prim.Native.Nat.{_+_, _≤_};
 ghost use lib.ListN.{length};
+ghost use Rattle.doubles.specs.Doubles.{Small, SmallIfValue};
 ghost use Rattle.printing.specs.Put.{PutWithin};
 ghost use Rattle.printing.specs.Decimal.{naturalText};
 ghost use Rattle.signal_lines.specs.Printed.{printedLine, readingLine, classEnd, refusedFrameLine, listedLineRoom, endRoom, wordRoom};
@@ -34,24 +38,24 @@ fn put_count(out: &mut [u8], at: usize, word: &[u8], count: u32) -> usize
     put_byte(&mut *out, end, NEWLINE)
 }
 
-// The word and the thousandths of a value.
-fn put_value(out: &mut [u8], at: usize, reading: Thousandths) -> usize
-    requires { ⌜ at + endRoom ≤ length (now out) ⌝ }
-    ensures { λ r. ⌜ PutWithin (now (out .entry)) at endRoom (classEnd (Class.Value reading)) (now (out .exit)) r ⌝ }
+// The word and the figures of a value.
+fn put_value(out: &mut [u8], at: usize, reading: Thousandths, figures: Figures) -> usize
+    requires { ⌜ (at + endRoom ≤ length (now out)) × Small reading ⌝ }
+    ensures { λ r. ⌜ PutWithin (now (out .entry)) at endRoom (classEnd figures (Class.Value reading)) (now (out .exit)) r ⌝ }
 {
     let after_word = put_bytes(&mut *out, at, b"value");
     let number = put_byte(&mut *out, after_word, TAB);
-    let end = put_signed(&mut *out, number, reading.0);
+    let end = put_figures(&mut *out, number, reading, figures);
     put_byte(&mut *out, end, NEWLINE)
 }
 
-// The word of a class, and its thousandths or count.
-fn put_class(out: &mut [u8], at: usize, class: Class) -> usize
-    requires { ⌜ at + endRoom ≤ length (now out) ⌝ }
-    ensures { λ r. ⌜ PutWithin (now (out .entry)) at endRoom (classEnd class) (now (out .exit)) r ⌝ }
+// The word of a class, and its figures or count.
+fn put_class(out: &mut [u8], at: usize, class: Class, figures: Figures) -> usize
+    requires { ⌜ (at + endRoom ≤ length (now out)) × SmallIfValue class ⌝ }
+    ensures { λ r. ⌜ PutWithin (now (out .entry)) at endRoom (classEnd figures class) (now (out .exit)) r ⌝ }
 {
     match class {
-        Class::Value(reading) => put_value(out, at, reading),
+        Class::Value(reading) => put_value(out, at, reading, figures),
         Class::Invalid(raw) => put_count(out, at, b"invalid", raw.0),
         Class::Absent(raw) => put_count(out, at, b"absent", raw.0),
         Class::Error(raw) => put_count(out, at, b"error", raw.0),
@@ -63,15 +67,22 @@ fn put_class(out: &mut [u8], at: usize, class: Class) -> usize
 }
 
 // One signal's reading.
-pub fn put_reading(out: &mut [u8], at: usize, identifier: u32, number: u32, class: Class) -> usize
-    requires { ⌜ at + listedLineRoom ≤ length (now out) ⌝ }
-    ensures { λ r. ⌜ PutWithin (now (out .entry)) at listedLineRoom (readingLine identifier number class) (now (out .exit)) r ⌝ }
+pub fn put_reading(
+    out: &mut [u8],
+    at: usize,
+    identifier: u32,
+    number: u32,
+    class: Class,
+    figures: Figures,
+) -> usize
+    requires { ⌜ (at + listedLineRoom ≤ length (now out)) × SmallIfValue class ⌝ }
+    ensures { λ r. ⌜ PutWithin (now (out .entry)) at listedLineRoom (readingLine figures identifier number class) (now (out .exit)) r ⌝ }
 {
     let after_identifier = put_identifier(&mut *out, at, identifier);
     let second = put_byte(&mut *out, after_identifier, TAB);
     let after_number = put_natural(&mut *out, second, number as u64);
     let third = put_byte(&mut *out, after_number, TAB);
-    put_class(&mut *out, third, class)
+    put_class(&mut *out, third, class, figures)
 }
 
 // A refused frame.

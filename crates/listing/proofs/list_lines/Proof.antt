@@ -5,6 +5,7 @@ use native.Mathlib.Omega.{arith}
 use borrow.Author.Needs.{needs}
 use lib.ListN.{length, length-drop}
 use Rattle.books.specs.Words.{messagesOf}
+use Rattle.listing.specs.Printout.{printout}
 use Rattle.listing.proofs.Running.{Ran, none-ran, all-ran, no-end, no-room, line-ran, went, stayed, stayed-long}
 use Rattle.listing.proofs.list_lines.Statement.{statement}
 use Rattle.listing.proofs.list_lines.Tie as tie
@@ -16,10 +17,10 @@ use Rattle.parts.proofs.part_before.Reads as part-before-reads
 use Rattle.parts.proofs.part_from.Reads as part-from-reads
 
 abbrev Inv-loop : tie.InvT-loop
-Inv-loop book text out₀ above widths used₀ written₀ out used written = Ran (messagesOf book) text out₀ out used written
+Inv-loop book text out₀ figures above widths used₀ written₀ out used written = Ran (printout figures (messagesOf book)) text out₀ out used written
 
 abbrev μ-loop : tie.MeasureT-loop
-μ-loop book text out₀ above widths used₀ written₀ out used written = length text - used
+μ-loop book text out₀ figures above widths used₀ written₀ out used written = length text - used
 
 surpluses-requires : tie.Need-surpluses-requires Inv-loop μ-loop
 surpluses-requires c κs = search needs

@@ -1,5 +1,7 @@
 -- `signal_lines::put_class` meets its contract: each class has its word. Assumes nothing.
+use mathlib.Core.Path.{subst}
 use borrow.Author.Needs.{needs}
+use Rattle.doubles.specs.Doubles.{SmallIfValue}
 use Rattle.signal_lines.proofs.put_class.Statement.{statement}
 use Rattle.signal_lines.proofs.put_class.Tie as tie
 use Rattle.signal_lines.proofs.put_class.Reads as reads
@@ -11,7 +13,7 @@ enum-known-class : tie.Need-enum-known-class
 enum-known-class c = search needs
 
 put-value-requires : tie.Need-put-value-requires
-put-value-requires c κs = search needs
+put-value-requires c κs = (search needs, subst SmallIfValue (c .before .before .class .given .1) (c .before .before .before .before .before .pre .1))
 
 enum-known-class-2 : tie.Need-enum-known-class-2
 enum-known-class-2 c = search needs

@@ -27,7 +27,7 @@ put-byte-requires-2 : tie.Need-put-byte-requires-2
 put-byte-requires-2 c κs = omega (arith, natural-few (c .before .before .before .before .before .before .before .before .before .before .before .before .before .before .args .number) (omega (arith, c .before .before .before .before .before .before .before .before .before .before .before .before .before .before .fits .number .fits)), c .before .before .before .put-natural .ensures .now-at, c .before .before .before .before .before .before .before .put-byte .ensures .now-at, c .before .before .before .before .before .before .before .before .before .before .before .put-identifier .ensures .0)
 
 put-class-requires : tie.Need-put-class-requires
-put-class-requires c κs = omega (arith, natural-few (c .before .before .before .before .before .before .before .before .before .before .before .before .before .before .before .before .before .before .args .number) (omega (arith, c .before .before .before .before .before .before .before .before .before .before .before .before .before .before .before .before .before .before .fits .number .fits)), c .before .before .before .put-byte2 .ensures .now-at, c .before .before .before .before .before .before .before .put-natural .ensures .now-at, c .before .before .before .before .before .before .before .before .before .before .before .put-byte .ensures .now-at, c .before .before .before .before .before .before .before .before .before .before .before .before .before .before .before .put-identifier .ensures .0)
+put-class-requires c κs = (omega (arith, natural-few (c .before .before .before .before .before .before .before .before .before .before .before .before .before .before .before .before .before .before .args .number) (omega (arith, c .before .before .before .before .before .before .before .before .before .before .before .before .before .before .before .before .before .before .fits .number .fits)), c .before .before .before .put-byte2 .ensures .now-at, c .before .before .before .before .before .before .before .put-natural .ensures .now-at, c .before .before .before .before .before .before .before .before .before .before .before .put-byte .ensures .now-at, c .before .before .before .before .before .before .before .before .before .before .before .before .before .before .before .put-identifier .ensures .0), c .before .before .before .before .before .before .before .before .before .before .before .before .before .before .before .before .before .before .pre .1)
 
 same-length : tie.Need-same-length
 same-length c = search needs

@@ -46,13 +46,13 @@ same-length : tie.Need-same-length
 same-length c = search needs
 
 returns : tie.Need-returns
-returns c = fitted-as _ _ (frame-listed _ _ _ (c .before .before .before .before .before .before .before .before .before .before .before .before .before .before .before .fits .word .fits) (found-signals _ _ (c .before .before .before .before .before .before .before .before .before .from .given .1) (c .before .before .before .before .before .before .before .before .before .before .before .find-message .ensures)) (column-part (c .before .before .before .before .before .before .before .before .before .from .given .0 .0) (c .before .before .before .before .before .before .before .before .before .from .given .0 .1 .0) (c .before .before .before .before .before .before .part .ensures .0) (c .before .before .before .before .before .before .before .numbers .ensures .0)) (column-part (c .before .before .before .before .before .before .before .before .before .from .given .0 .0) (c .before .before .before .before .before .before .before .before .before .from .given .0 .1 .0) (c .before .before .before .before .part2 .ensures .0) (c .before .before .before .before .before .starts .ensures .0))) (c .before .before .list-message .ensures)
+returns c = fitted-as _ _ (frame-listed _ _ _ _ (c .before .before .before .before .before .before .before .before .before .before .before .before .before .before .before .fits .word .fits) (found-signals _ _ (c .before .before .before .before .before .before .before .before .before .from .given .1) (c .before .before .before .before .before .before .before .before .before .before .before .find-message .ensures)) (column-part (c .before .before .before .before .before .before .before .before .before .from .given .0 .0) (c .before .before .before .before .before .before .before .before .before .from .given .0 .1 .0) (c .before .before .before .before .before .before .part .ensures .0) (c .before .before .before .before .before .before .before .numbers .ensures .0)) (column-part (c .before .before .before .before .before .before .before .before .before .from .given .0 .0) (c .before .before .before .before .before .before .before .before .before .from .given .0 .1 .0) (c .before .before .before .before .part2 .ensures .0) (c .before .before .before .before .before .starts .ensures .0))) (c .before .before .list-message .ensures)
 
 same-length-2 : tie.Need-same-length-2
 same-length-2 c = search needs
 
 returns-2 : tie.Need-returns-2
-returns-2 c = fitted-as _ _ (frame-unknown _ _ _ (found-nothing _ _ (c .before .before .before .before .enum-told .given .1) (c .before .before .before .before .before .before .find-message .ensures))) (c .before .before .list-refused .ensures)
+returns-2 c = fitted-as _ _ (frame-unknown _ _ _ _ (found-nothing _ _ (c .before .before .before .before .enum-told .given .1) (c .before .before .before .before .before .before .find-message .ensures))) (c .before .before .list-refused .ensures)
 
 pub list-frame-spec : {M : Type 1} → statement M
 list-frame-spec =

@@ -38,19 +38,19 @@ same-length : tie.Need-same-length
 same-length c = search needs
 
 returns : tie.Need-returns
-returns c = fitted-as _ _ (line-frame _ _ (says-frame _ (sym (c .before .before .before .before .before .identifier .given .1) ∙ c .before .before .before .before .before .before .before .read-frame-line .ensures))) (c .before .before .list-frame .ensures)
+returns c = fitted-as _ _ (line-frame _ _ _ (says-frame _ (sym (c .before .before .before .before .before .identifier .given .1) ∙ c .before .before .before .before .before .before .before .read-frame-line .ensures))) (c .before .before .list-frame .ensures)
 
 same-length-2 : tie.Need-same-length-2
 same-length-2 c = search needs
 
 returns-2 : tie.Need-returns-2
-returns-2 c = fitted-as _ _ (line-fewer _ _ (says-fewer _ (sym (c .before .before .before .before .before .identifier2 .given .1) ∙ c .before .before .before .before .before .before .before .read-frame-line .ensures))) (c .before .before .list-refused .ensures)
+returns-2 c = fitted-as _ _ (line-fewer _ _ _ (says-fewer _ (sym (c .before .before .before .before .before .identifier2 .given .1) ∙ c .before .before .before .before .before .before .before .read-frame-line .ensures))) (c .before .before .list-refused .ensures)
 
 same-length-3 : tie.Need-same-length-3
 same-length-3 c = search needs
 
 returns-3 : tie.Need-returns-3
-returns-3 c = fitted-as _ _ (line-ill _ _ (says-ill _ (sym (c .before .before .before .before .enum-told .given .1) ∙ c .before .before .before .before .before .before .read-frame-line .ensures))) (c .before .before .list-ill-formed .ensures)
+returns-3 c = fitted-as _ _ (line-ill _ _ _ (says-ill _ (sym (c .before .before .before .before .enum-told .given .1) ∙ c .before .before .before .before .before .before .read-frame-line .ensures))) (c .before .before .list-ill-formed .ensures)
 
 pub list-line-spec : {M : Type 1} → statement M
 list-line-spec =

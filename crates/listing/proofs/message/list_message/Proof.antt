@@ -20,7 +20,7 @@ same-length : tie.Need-same-length
 same-length c = search needs
 
 returns : tie.Need-returns
-returns c = fitted-as _ _ (message-signals _ _ _ _ (c .before .before .before .before .before .checked .ensures) (c .before .before .before .before .if1 .taken)) (c .before .before .list-signals .ensures)
+returns c = fitted-as _ _ (message-signals _ _ _ _ _ (c .before .before .before .before .before .checked .ensures) (c .before .before .before .before .if1 .taken)) (c .before .before .list-signals .ensures)
 
 list-refused-requires : tie.Need-list-refused-requires
 list-refused-requires c κs = search needs
@@ -29,7 +29,7 @@ same-length-2 : tie.Need-same-length-2
 same-length-2 c = search needs
 
 returns-2 : tie.Need-returns-2
-returns-2 c = fitted-as _ _ (message-refused _ _ _ _ (c .before .before .before .before .before .checked .ensures) (c .before .before .before .before .if1 .left)) (c .before .before .list-refused .ensures)
+returns-2 c = fitted-as _ _ (message-refused _ _ _ _ _ (c .before .before .before .before .before .checked .ensures) (c .before .before .before .before .if1 .left)) (c .before .before .list-refused .ensures)
 
 pub list-message-spec : {M : Type 1} → statement M
 list-message-spec =

@@ -5,18 +5,20 @@ use native.Mathlib.Omega.{arith}
 use borrow.Author.Needs.{needs}
 use lib.ListN.{length, getD}
 use Rattle.bits.specs.Word.{Fits}
+use Rattle.doubles.specs.Doubles.{SmallIfValue}
+use Rattle.doubles.proofs.Values.{small-class}
 use Rattle.listing.proofs.Walking.{Walked, none-walked, signal-walked, all-walked, room-left, fits-next, class-is}
 use Rattle.listing.proofs.message.put_signals.Statement.{statement}
 use Rattle.listing.proofs.message.put_signals.Tie as tie
 
 abbrev Inv-loop : tie.InvT-loop
-Inv-loop out₀ at identifier word numbers starts widths above next₀ i₀ out next i = Walked out₀ at identifier word numbers starts out next i
+Inv-loop out₀ at identifier word numbers starts widths above figures next₀ i₀ out next i = Walked out₀ at figures identifier word numbers starts out next i
 
 abbrev μ-loop : tie.MeasureT-loop
-μ-loop out₀ at identifier word numbers starts widths above next₀ i₀ out next i = length numbers - i
+μ-loop out₀ at identifier word numbers starts widths above figures next₀ i₀ out next i = length numbers - i
 
 loop-holds : tie.Need-loop-holds Inv-loop μ-loop
-loop-holds c = none-walked _ _ _ _ _ _ (c .before .before .before .before .before .pre .1)
+loop-holds c = none-walked _ _ _ _ _ _ _ (c .before .before .before .before .before .pre .1)
 
 mul-number : tie.Need-mul-number Inv-loop μ-loop
 mul-number c = omega arith
@@ -40,7 +42,10 @@ class-of-requires : tie.Need-class-of-requires Inv-loop μ-loop
 class-of-requires c κs = search needs
 
 put-reading-requires : tie.Need-put-reading-requires Inv-loop μ-loop
-put-reading-requires c κs = room-left (c .before .before .before .before .before .before .before .loop .inv) (c .before .before .before .before .before .before .before .before .before .before .before .before .before .pre .1) (c .before .before .before .before .before .before .loop-test .taken)
+put-reading-requires c κs = (
+  room-left (c .before .before .before .before .before .before .before .loop .inv) (c .before .before .before .before .before .before .before .before .before .before .before .before .before .pre .1) (c .before .before .before .before .before .before .loop-test .taken),
+  subst⁻¹ SmallIfValue (c .before .class-of .ensures) (small-class _ _),
+)
 
 add-i : tie.Need-add-i Inv-loop μ-loop
 add-i c = omega arith

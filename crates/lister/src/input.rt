@@ -2,7 +2,7 @@
 ghost use mathlib.Core.Path.{_≡_};
 ghost use Prim.Native.Nat.{_+_, _-_, _≤_};
 ghost use lib.ListN.{length, take, drop};
-ghost use Rattle.frame_list.specs.Whole.{WholeUsed};
+ghost use Rattle.lister.specs.Whole.{WholeUsed};
 use libc::STDIN_FILENO;
 use libc::STDOUT_FILENO;
 use listing::Listed;
@@ -12,6 +12,7 @@ use parts::find;
 use parts::part_before;
 use parts::part_from;
 use record::BOOK_WORDS;
+use signal_lines::Figures;
 use signal_lines::ILL_FORMED_LINE;
 use streams::write_first;
 
@@ -38,13 +39,13 @@ fn read_more(input: &mut [u8], held: usize) -> usize
 }
 
 // Lists every whole line of a text, and answers how many bytes they are.
-fn list_whole(book: &[u32; BOOK_WORDS], text: &[u8], out: &mut [u8]) -> usize
+fn list_whole(book: &[u32; BOOK_WORDS], text: &[u8], out: &mut [u8], figures: Figures) -> usize
     ensures { λ r. ⌜ WholeUsed (now (book .entry)) (now (text .entry)) (now (out .entry)) r ⌝ }
 {
     let mut used: usize = 0;
     while used < text.len() {
         let rest = part_from(text, used);
-        match list(book, rest, &mut *out) {
+        match list(book, rest, &mut *out, figures) {
             Listed::Lines(more, written) => {
                 write_first(&*out, written);
                 if more == 0 {
@@ -78,10 +79,11 @@ fn list_buffer(
     out: &mut [u8],
     from: usize,
     size: usize,
+    figures: Figures,
 ) -> Held
     requires { ⌜ (from ≤ size) × (size ≤ length (now input)) ⌝ }
 {
-    let used = list_whole(book, &input[from..size], &mut *out);
+    let used = list_whole(book, &input[from..size], &mut *out, figures);
     let begin = from + used;
     let left = keep(&mut *input, begin, size);
     if left < input.len() {
@@ -105,6 +107,7 @@ pub fn read_and_list(
     input: &mut [u8],
     out: &mut [u8],
     held: Held,
+    figures: Figures,
 ) -> Held {
     let before = held.size;
     let passing = held.passing;
@@ -136,7 +139,7 @@ pub fn read_and_list(
                 more: true,
             };
         }
-        return list_buffer(book, &mut *input, &mut *out, end + 1, size);
+        return list_buffer(book, &mut *input, &mut *out, end + 1, size, figures);
     }
-    list_buffer(book, &mut *input, &mut *out, 0, size)
+    list_buffer(book, &mut *input, &mut *out, 0, size, figures)
 }

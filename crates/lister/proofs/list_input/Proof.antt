@@ -1,19 +1,19 @@
--- `frame_list::list_input` meets its contract: it ends, since its turns are counted down. Assumes nothing.
+-- `lister::list_input` meets its contract: it ends, since its turns are counted down. Assumes nothing.
 use mathlib.Core.Path.{_≡_, refl}
 use native.Mathlib.Omega.{arith}
 use borrow.Author.Needs.{needs}
 use lib.ListN.{length}
-use Rattle.frame_list.proofs.list_input.Statement.{statement}
-use Rattle.frame_list.proofs.list_input.Tie as tie
-use Rattle.frame_list.proofs.list_input.Reads as reads
-use Rattle.frame_list.proofs.list_input.Lts as lts
-use Rattle.frame_list.proofs.input.read_and_list.Reads as read-and-list-reads
+use Rattle.lister.proofs.list_input.Statement.{statement}
+use Rattle.lister.proofs.list_input.Tie as tie
+use Rattle.lister.proofs.list_input.Reads as reads
+use Rattle.lister.proofs.list_input.Lts as lts
+use Rattle.lister.proofs.input.read_and_list.Reads as read-and-list-reads
 
 abbrev Inv-loop : tie.InvT-loop
-Inv-loop book input₀ out₀ held₀ turns₀ input out held turns = (length input ≡ length input₀) × (length out ≡ length out₀)
+Inv-loop book input₀ out₀ figures held₀ turns₀ input out held turns = (length input ≡ length input₀) × (length out ≡ length out₀)
 
 abbrev μ-loop : tie.MeasureT-loop
-μ-loop book input₀ out₀ held₀ turns₀ input out held turns = turns
+μ-loop book input₀ out₀ figures held₀ turns₀ input out held turns = turns
 
 loop-holds : tie.Need-loop-holds Inv-loop μ-loop
 loop-holds c = (refl, refl)

@@ -1,11 +1,11 @@
--- `frame_list::input::keep` meets its contract: what is moved is what stood there. Assumes nothing.
+-- `lister::input::keep` meets its contract: what is moved is what stood there. Assumes nothing.
 use Prim.Native.Nat.{_-_, _≤_}
 use native.Mathlib.Omega.{arith}
-use Rattle.frame_list.proofs.Moving.{Moved, none-moved, byte-moved, all-moved}
-use Rattle.frame_list.proofs.input.keep.Statement.{statement}
-use Rattle.frame_list.proofs.input.keep.Tie as tie
-use Rattle.frame_list.proofs.input.keep.Reads as reads
-use Rattle.frame_list.proofs.input.keep.Lts as lts
+use Rattle.lister.proofs.Moving.{Moved, none-moved, byte-moved, all-moved}
+use Rattle.lister.proofs.input.keep.Statement.{statement}
+use Rattle.lister.proofs.input.keep.Tie as tie
+use Rattle.lister.proofs.input.keep.Reads as reads
+use Rattle.lister.proofs.input.keep.Lts as lts
 
 abbrev Inv-loop : tie.InvT-loop
 Inv-loop input₀ from size i₀ input i = Moved input₀ from input i × (i ≤ size - from)
