@@ -1,5 +1,6 @@
-/* frame_list in plain C: reads the book from book.txt and frame lines from standard input, and prints each signal's reading.
-   Input and output go through fixed buffers; numbers are written by hand, since printf would be most of the time. */
+/* frame_list in plain C, and with DOUBLES defined dash_list: reads the book from book.txt and frame lines from standard input, and
+   prints each signal's reading, in thousandths or as the bits of a double. Input and output go through fixed buffers; numbers are
+   written by hand, since printf would be most of the time. */
 #include "face.h"
 #include <stdio.h>
 #include <string.h>
@@ -45,6 +46,21 @@ static void put_number(int64_t number) {
     put(digits + at, sizeof digits - at);
 }
 
+/* What a value reads. */
+static void put_value(int64_t thousandths) {
+#ifdef DOUBLES
+    double reading = (double)thousandths / 1000.0;
+    char digits[16];
+    uint64_t bits;
+    memcpy(&bits, &reading, sizeof bits);
+    for (size_t at = sizeof digits; at-- > 0; bits /= 16)
+        digits[at] = "0123456789ABCDEF"[bits % 16];
+    put(digits, sizeof digits);
+#else
+    put_number(thousandths);
+#endif
+}
+
 static void put_refusal(uint32_t refusal) {
     put_word("no\t");
     put_number(refusal);
@@ -85,7 +101,10 @@ static void list_reading(const uint8_t *identifier, uint32_t number, uint32_t ra
     put_word("\t");
     put_word(class_words[class_code]);
     put_word("\t");
-    put_number(class_code == PC_VALUE ? thousandths : (int64_t)raw);
+    if (class_code == PC_VALUE)
+        put_value(thousandths);
+    else
+        put_number(raw);
     put_word("\n");
 }
 

@@ -1,9 +1,12 @@
 #!/usr/bin/env python3
-"""A book, frame lines and the listing that the frame lister prints, for the program `frame_list`.
+"""A book, frame lines and the listing that a frame lister prints, for the programs `frame_list` and `dash_list`.
 
-    python3 tools/lister_vectors.py DIR            writes DIR/data/book.txt, DIR/stdin and DIR/stdout
+    python3 tools/lister_vectors.py DIR listing    writes DIR/data/book.txt, DIR/stdin and DIR/stdout
     python3 tools/lister_vectors.py DIR refused    the same lines under a book that is refused, for host/check
     python3 tools/lister_vectors.py DIR empty      the same lines under an empty book (a missing one counts as empty), for host/check
+
+`listing` may be left out. With `doubles` after any of the three, DIR/stdout is what `dash_list` prints of the same: the bits of a value's
+double in place of its thousandths.
 
 The lines have every shape that document 01 names, good and ill formed, and there are enough of them, of enough
 different lengths, that whatever buffer a program reads with, lines lie across its edges.
@@ -14,13 +17,16 @@ import random
 import sys
 
 from frame_books import DOCUMENT_BOOK, WORKED, crowded, edge_counts, text_of
-from rules import CATALOGUE, checksum, listing, place_bits, read_book
+from rules import CATALOGUE, checksum, double_bits, listing, place_bits, read_book
 
 BOOKS = {
     "listing": DOCUMENT_BOOK + text_of({**WORKED, **crowded()}) + b"R\t0\t18FF21F3\t1\t18FF21F3\n",
     "refused": DOCUMENT_BOOK + b"R\t0\t18FF21F3\t1\t18FF21F3\nR\t1\t18FF21F3\t0\t18FF21F3\n",
     "empty": b"",
 }
+
+# How a value's thousandths are printed.
+FIGURES = {"thousandths": str, "doubles": double_bits}
 
 KNOWN = "18FF21F3"
 
@@ -98,11 +104,11 @@ def frame_lines():
     return ("\n".join(lines) + "\n" + last).encode("latin-1")
 
 
-def main(directory, kind="listing"):
+def main(directory, kind="listing", figures="thousandths"):
     book, frames = BOOKS[kind], frame_lines()
     assert (read_book(book)[0][0] == "ok") == (kind != "refused")
     os.makedirs(os.path.join(directory, "data"), exist_ok=True)
-    files = {"data/book.txt": book, "stdin": frames, "stdout": listing(book, frames).encode()}
+    files = {"data/book.txt": book, "stdin": frames, "stdout": listing(book, frames, FIGURES[figures]).encode()}
     for name, content in files.items():
         with open(os.path.join(directory, name), "wb") as file:
             file.write(content)

@@ -4,9 +4,27 @@ Written from document 01 alone. Where the document says "lowest", "first" or "ev
 takes the lowest, the first or every one; nothing here is clever, so that it can be held against the document by eye.
 """
 
+import struct
+
 from catalogue import class_of, class_of_count, load
 
 CATALOGUE = load()
+
+
+# --- the dash ---------------------------------------------------------------------------------------------------------
+
+
+def double_bits(thousandths):
+    """The bits of the reading as a double, in 16 hex digits: Python's floats are IEEE 754's, which round a quotient once."""
+    return struct.pack(">d", float(thousandths) / 1000.0).hex().upper()
+
+
+def dash(number, raw):
+    """('no', refusal), ('value', the bits of its double) or (another class,)."""
+    word, amount = class_of(CATALOGUE, number, raw)
+    if word == "value":
+        return word, double_bits(amount)
+    return (word, amount) if word == "no" else (word,)
 
 
 # --- places, chains, spread -------------------------------------------------------------------------------------------
@@ -329,8 +347,8 @@ def frame_line(line):
     return identifier, bytes.fromhex(digits.decode())
 
 
-def list_line(book, line):
-    """The output lines of one frame line."""
+def list_line(book, line, figures):
+    """The output lines of one frame line; `figures` writes the thousandths of a value."""
     frame = frame_line(line)
     if frame is None:
         return ["no\t20"]
@@ -340,7 +358,7 @@ def list_line(book, line):
         return ["%08X\tno\t%d" % (identifier, found)]
     numbers = [number for number, _ in book.placements(identifier)]
     return [
-        "%08X\t%d\t%s\t%d" % (identifier, number, word, thousandths if word == "value" else raw)
+        "%08X\t%d\t%s\t%s" % (identifier, number, word, figures(thousandths) if word == "value" else raw)
         for number, (raw, word, thousandths) in zip(numbers, found)
     ]
 
@@ -349,13 +367,13 @@ def checker_line(answer):
     return "\t".join(str(field) for field in answer)
 
 
-def listing(book_text, frames_text):
-    """What the frame lister prints."""
+def listing(book_text, frames_text, figures=str):
+    """What the frame lister prints; with `double_bits` for the figures of a value, what the lister for the dash prints."""
     answer, book = read_book(book_text)
     if answer[0] == "no":
         return checker_line(answer) + "\n"
     *lines, rest = frames_text.split(b"\n")
-    printed = [out for line in lines for out in list_line(book, line)]
+    printed = [out for line in lines for out in list_line(book, line, figures)]
     if rest:
         printed.append("no\t20")
     return "".join(line + "\n" for line in printed)

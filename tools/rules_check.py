@@ -15,6 +15,8 @@ from rules import (
     checker_line,
     checksum,
     class_of,
+    dash,
+    double_bits,
     listing,
     precharge_complete,
     read_book,
@@ -39,6 +41,36 @@ CLASSES = [
     (1306, 49, ("outside", 49)),
     (1705, 2, ("invalid", 2)),
 ]
+
+
+# Bits of doubles that are written down in many places, and of whole numbers: 1 is 3FF0.., each doubling adds 0010...
+BITS = [
+    (0, "0000000000000000"),
+    (1000, "3FF0000000000000"),
+    (-1000, "BFF0000000000000"),
+    (100, "3FB999999999999A"),
+    (-100, "BFB999999999999A"),
+    (500, "3FE0000000000000"),
+    (100000, "4059000000000000"),
+    (-40000, "C044000000000000"),
+    (2**31 * 1000, "41E0000000000000"),
+    ((2**32 - 1) * 1000, "41EFFFFFFFE00000"),
+]
+
+
+def doubles():
+    """The dash's readings: known bits; whole numbers exactly; one rounding, which is how Python divides two whole numbers of any size."""
+    for thousandths, bits in BITS:
+        assert double_bits(thousandths) == bits, thousandths
+    for number, row in CATALOGUE.items():
+        for raw in range(row.lowest, row.highest + 1, max(1, (row.highest - row.lowest) // 997)):
+            word, thousandths = class_of(CATALOGUE, number, raw)
+            if word == "value":
+                assert dash(number, raw) == (word, double_bits(thousandths))
+                assert float(thousandths) == thousandths and float(thousandths) / 1000.0 == thousandths / 1000
+                assert thousandths % 1000 or float(thousandths) / 1000.0 == thousandths // 1000
+    assert dash(203, 65535) == ("invalid",) and dash(204, 251) == ("outside",)
+    assert dash(200, 2**32 - 1) == ("no", 3) and dash(204, 256) == ("no", 26)
 
 
 def printed_examples():
@@ -71,6 +103,9 @@ def example_books():
     assert read_book(contents("examples/truck.book"))[0] == ("ok", 14, 112, 16)
     printed = listing(contents("examples/truck.book"), contents("examples/frames.txt"))
     assert contents("examples/frames.listing") == printed.encode()
+    drawn = listing(contents("examples/truck.book"), contents("examples/frames.txt"), double_bits)
+    assert contents("examples/dash.listing") == drawn.encode()
+    assert [line.split("\t")[:3] for line in drawn.splitlines()] == [line.split("\t")[:3] for line in printed.splitlines()]
     shown = re.findall(r"(?m)^    ([0-9A-F]{8}\t\d+\t\w+\t-?\d+)$", contents("README.md").decode())
     assert shown and set(shown) <= set(printed.splitlines()), shown
 
@@ -97,6 +132,7 @@ def both_verdicts_agree():
 
 
 if __name__ == "__main__":
+    doubles()
     printed_examples()
     printed_books()
     example_books()

@@ -1,12 +1,13 @@
 #!/usr/bin/env python3
-"""Frames of a truck that drives off, packed by examples/truck.book, and what the frame lister prints of them.
+"""Frames of a truck that drives off, packed by examples/truck.book, and what the two frame listers print of them.
 
-    python3 tools/truck_frames.py        writes examples/frames.txt and examples/frames.listing
+    python3 tools/truck_frames.py        writes examples/frames.txt, examples/frames.listing (by frame_list) and examples/dash.listing
+                                         (by dash_list)
 """
 
 import os
 
-from rules import listing, pack_frame, read_book
+from rules import double_bits, listing, pack_frame, read_book
 
 EXAMPLES = os.path.join(os.path.dirname(__file__), "..", "examples")
 
@@ -48,10 +49,14 @@ def main():
         assert word == "packed", (hex(identifier), frame)
         lines.append("%08X\t%s" % (identifier, frame.hex().upper()))
     frames = "".join(line + "\n" for line in lines + ODD_LINES)
-    with open(os.path.join(EXAMPLES, "frames.txt"), "w") as file:
-        file.write(frames)
-    with open(os.path.join(EXAMPLES, "frames.listing"), "w") as file:
-        file.write(listing(book_text, frames.encode()))
+    files = {
+        "frames.txt": frames,
+        "frames.listing": listing(book_text, frames.encode()),
+        "dash.listing": listing(book_text, frames.encode(), double_bits),
+    }
+    for name, content in files.items():
+        with open(os.path.join(EXAMPLES, name), "w") as file:
+            file.write(content)
 
 
 if __name__ == "__main__":
