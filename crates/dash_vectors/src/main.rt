@@ -7,7 +7,7 @@ use dash::DashAnswer;
 use libc::STDIN_FILENO;
 use libc::STDOUT_FILENO;
 use numerals::identifier_or_0;
-use writing::put_digits;
+use writing::put_hexadecimals;
 
 const MOST_LINES: u32 = 1000000;
 
@@ -19,7 +19,7 @@ const DIGITS: usize = 16;
 
 fn print_bits(bits: u64) {
     let mut text = [0u8; DIGITS];
-    put_digits(&mut text, 0, DIGITS, bits, 16);
+    put_hexadecimals(&mut text, 0, DIGITS, bits);
     io::write_all(STDOUT_FILENO, b"value\t");
     io::write_all(STDOUT_FILENO, &text);
     io::write_all(STDOUT_FILENO, b"\n");

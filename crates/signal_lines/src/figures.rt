@@ -8,7 +8,7 @@ ghost use Rattle.signal_lines.specs.Words.{doubleDigits, doubleText, val
 use catalogue::Thousandths;
 use doubles::bits_in_units;
 use printing::put_signed;
-use writing::put_digits;
+use writing::put_hexadecimals;
 
 pub enum Figures {
     InThousandths,
@@ -23,7 +23,7 @@ fn put_double(out: &mut [u8], at: usize, reading: Thousandths) -> usize
     ensures { λ r. ⌜ Put (now (out .entry)) at (doubleText (inUnits reading)) (now (out .exit)) r ⌝ }
 {
     let bits = bits_in_units(reading);
-    put_digits(&mut *out, at, DOUBLE_DIGITS, bits, 16);
+    put_hexadecimals(&mut *out, at, DOUBLE_DIGITS, bits);
     at + DOUBLE_DIGITS
 }
 

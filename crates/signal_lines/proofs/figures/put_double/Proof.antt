@@ -7,8 +7,8 @@ use Rattle.signal_lines.proofs.figures.put_double.Tie as tie
 bits-in-units-requires : tie.Need-bits-in-units-requires
 bits-in-units-requires c κs = search needs
 
-put-digits-requires : tie.Need-put-digits-requires
-put-digits-requires c κs = search needs
+put-hexadecimals-requires : tie.Need-put-hexadecimals-requires
+put-hexadecimals-requires c κs = search needs
 
 add-result : tie.Need-add-result
 add-result c = search needs
@@ -17,7 +17,7 @@ same-length : tie.Need-same-length
 same-length c = search needs
 
 returns : tie.Need-returns
-returns c = double-put _ (c .before .before .before .before .bits-in-units .ensures) (c .before .before .put-digits .ensures)
+returns c = double-put _ (c .before .before .before .before .bits-in-units .ensures) (c .before .before .put-hexadecimals .ensures)
 
 pub put-double-spec : {M : Type 1} → statement M
-put-double-spec = tie.close (tie.spec bits-in-units-requires put-digits-requires add-result same-length returns)
+put-double-spec = tie.close (tie.spec bits-in-units-requires put-hexadecimals-requires add-result same-length returns)
