@@ -3,6 +3,7 @@
    of times, subtracted and divided, less the same of nothing, is the cost of one call: host/measure does that.
    bench list: the names of the cases. */
 #include "made_text.h"
+#include "nothing.h"
 #include "plain.h"
 #include "plain_signals.h"
 #include <stdio.h>
@@ -12,6 +13,7 @@
 struct face {
     uint32_t (*book_read)(const uint8_t *, uint64_t, uint32_t *, uint32_t *);
     uint32_t (*class_of)(uint32_t, uint32_t, uint32_t *, int64_t *);
+    uint32_t (*dash)(uint32_t, uint32_t, uint32_t *, double *);
     uint32_t (*frame_read)(const uint32_t *, uint32_t, const uint8_t *, uint64_t, uint32_t *, uint64_t, uint8_t *, uint64_t, int64_t *, uint64_t, uint32_t *);
     uint32_t (*frame_pack)(const uint32_t *, uint32_t, const uint32_t *, uint64_t, uint8_t *, uint64_t);
     uint32_t (*spread)(const uint32_t *, uint32_t, uint32_t, uint32_t *, uint64_t, uint32_t *);
@@ -20,42 +22,10 @@ struct face {
     uint32_t (*sleep_watch)(uint32_t *, uint32_t *, uint32_t, uint32_t);
 };
 
-static const struct face library = { pc_book_read, pc_class, pc_frame_read, pc_frame_pack, pc_spread, pc_fault_sum, pc_power_step, pc_sleep_watch };
-static const struct face plain = { plain_book_read, plain_class, plain_frame_read, plain_frame_pack, plain_spread, plain_fault_sum, plain_power_step, plain_sleep_watch };
+static const struct face library = { pc_book_read, pc_class, pc_dash, pc_frame_read, pc_frame_pack, pc_spread, pc_fault_sum, pc_power_step, pc_sleep_watch };
+static const struct face plain = { plain_book_read, plain_class, plain_dash, plain_frame_read, plain_frame_pack, plain_spread, plain_fault_sum, plain_power_step, plain_sleep_watch };
 
-static uint32_t no_book_read(const uint8_t *a, uint64_t b, uint32_t *c, uint32_t *d) {
-    (void)a, (void)b, (void)c, (void)d;
-    return 0;
-}
-static uint32_t no_class(uint32_t a, uint32_t b, uint32_t *c, int64_t *d) {
-    (void)a, (void)b, (void)c, (void)d;
-    return 0;
-}
-static uint32_t no_frame_read(const uint32_t *a, uint32_t b, const uint8_t *c, uint64_t d, uint32_t *e, uint64_t f, uint8_t *g, uint64_t h, int64_t *i, uint64_t j, uint32_t *k) {
-    (void)a, (void)b, (void)c, (void)d, (void)e, (void)f, (void)g, (void)h, (void)i, (void)j, (void)k;
-    return 0;
-}
-static uint32_t no_frame_pack(const uint32_t *a, uint32_t b, const uint32_t *c, uint64_t d, uint8_t *e, uint64_t f) {
-    (void)a, (void)b, (void)c, (void)d, (void)e, (void)f;
-    return 0;
-}
-static uint32_t no_spread(const uint32_t *a, uint32_t b, uint32_t c, uint32_t *d, uint64_t e, uint32_t *f) {
-    (void)a, (void)b, (void)c, (void)d, (void)e, (void)f;
-    return 0;
-}
-static uint32_t no_fault_sum(const uint32_t *a, uint64_t b, uint32_t *c) {
-    (void)a, (void)b, (void)c;
-    return 0;
-}
-static uint32_t no_power_step(uint32_t *a, const uint32_t *b) {
-    (void)a, (void)b;
-    return 0;
-}
-static uint32_t no_sleep_watch(uint32_t *a, uint32_t *b, uint32_t c, uint32_t d) {
-    (void)a, (void)b, (void)c, (void)d;
-    return 0;
-}
-static const struct face nothing = { no_book_read, no_class, no_frame_read, no_frame_pack, no_spread, no_fault_sum, no_power_step, no_sleep_watch };
+static const struct face nothing = { no_book_read, no_class, no_dash, no_frame_read, no_frame_pack, no_spread, no_fault_sum, no_power_step, no_sleep_watch };
 
 /* The one that is measured. */
 static const struct face *face;
@@ -168,6 +138,12 @@ static uint32_t call_class(uint32_t turn) {
     return face->class_of(plain_catalogue[turn % PLAIN_ROWS].number, 1, &class_code, &reading);
 }
 
+static uint32_t call_dash(uint32_t turn) {
+    uint32_t class_code;
+    double reading;
+    return face->dash(plain_catalogue[turn % PLAIN_ROWS].number, 1, &class_code, &reading);
+}
+
 static uint32_t call_frame_read(uint32_t turn) {
     (void)turn;
     return read_frame(face);
@@ -223,6 +199,7 @@ static const struct {
     { "frame-pack-full", full_book, call_frame_pack },
     { "frame-pack-30-bits", thirty_bits, call_frame_pack },
     { "class", no_book, call_class },
+    { "dash", no_book, call_dash },
     { "spread-typical", typical_book, call_spread },
     { "spread-full", full_book, call_spread },
     { "fault-sum", some_faults, call_fault_sum },

@@ -182,7 +182,17 @@ static void on_socket(uint32_t bus, uint32_t socket_identifier, const uint8_t *b
         printf("passed by: %08" PRIX32 "\n", socket_identifier);
 }
 
-/* One turn of the main loop: the book, where it was damaged, the power monitor and the sleep watch. */
+/* Shows the current on the dash, whose driver takes a double: its eight bytes, the lowest first. Where there is no value, it stays blank. */
+static void show_current(void) {
+    double amperes;
+    uint32_t class_code, refusal = pc_dash(203, seen[PC_SEEN_CURRENT], &class_code, &amperes);
+    printf("dash: ");
+    for (uint32_t i = 0; refusal == PC_DONE && class_code == PC_VALUE && i < sizeof amperes; i++)
+        printf("%02X", ((const uint8_t *)&amperes)[i]);
+    printf("\n");
+}
+
+/* One turn of the main loop: the book, where it was damaged, the power monitor, the sleep watch and the dash. */
 static void turn(uint32_t now, uint32_t wake) {
     static const char *const words[] = { "off", "rising", "precharge", "both", "on", "falling", "fault" };
     uint32_t refusal;
@@ -199,6 +209,7 @@ static void turn(uint32_t now, uint32_t wake) {
     if (refusal == PC_NOT_A_SLEEP_STATE)
         pc_sleep_start(&last_wake, &asleep, now);
     printf("%" PRIu32 " ms: power %s, %s\n", now, words[power], asleep ? "asleep" : "awake");
+    show_current();
 }
 
 int main(void) {

@@ -7,6 +7,7 @@
 
 uint32_t plain_book_read(const uint8_t *text, uint64_t text_length, uint32_t book[PC_BOOK_WORDS], uint32_t *line);
 uint32_t plain_class(uint32_t number, uint32_t raw, uint32_t *class_code, int64_t *thousandths);
+uint32_t plain_dash(uint32_t number, uint32_t raw, uint32_t *class_code, double *reading);
 uint32_t plain_frame_read(const uint32_t book[PC_BOOK_WORDS], uint32_t identifier, const uint8_t *frame, uint64_t frame_length,
                           uint32_t *raws, uint64_t raws_length, uint8_t *classes, uint64_t classes_length,
                           int64_t *thousandths, uint64_t thousandths_length, uint32_t *count);

@@ -2,6 +2,7 @@
    damaged copies of it. */
 #define plain_book_read pc_book_read
 #define plain_class pc_class
+#define plain_dash pc_dash
 #define plain_frame_read pc_frame_read
 #define plain_frame_pack pc_frame_pack
 #define plain_spread pc_spread

@@ -13,6 +13,7 @@ static const struct {
 } functions[FUNCTIONS] = {
     { "pc_book_read", { 0, 1, 2, 3, 4, 5, 6, 7, 8, 9, 10, 11, -1 } },
     { "pc_class", { 0, 3, 26, -1 } },
+    { "pc_dash", { 0, 3, 26, -1 } },
     { "pc_frame_read", { 0, 12, 21, 22, 23, 24, -1 } },
     { "pc_frame_pack", { 0, 12, 21, 22, 25, 26, 27, -1 } },
     { "pc_spread", { 0, 12, 61, 62, -1 } },

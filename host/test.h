@@ -18,7 +18,7 @@ uint32_t any_number(void);
 
 /* ---- A case: begun, lent to, judged. */
 
-enum function { BOOK_READ, CLASS, FRAME_READ, FRAME_PACK, SPREAD, FAULT_SUM, POWER_STEP, SLEEP_START, SLEEP_WATCH, FUNCTIONS };
+enum function { BOOK_READ, CLASS, DASH, FRAME_READ, FRAME_PACK, SPREAD, FAULT_SUM, POWER_STEP, SLEEP_START, SLEEP_WATCH, FUNCTIONS };
 
 void begin_case(enum function f);
 

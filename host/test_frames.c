@@ -34,17 +34,31 @@ static void compare_class(uint32_t number, uint32_t raw) {
     judge(library, plain, 0);
 }
 
+/* The reading is compared as the other lent memory is: bit for bit. */
+static void compare_dash(uint32_t number, uint32_t raw) {
+    begin_case(DASH);
+    struct lent *class_code = lend("class", 0, 4), *reading = lend("reading", 0, 8);
+    uint32_t library = pc_dash(number, raw, L(class_code, uint32_t), L(reading, double));
+    uint32_t plain = plain_dash(number, raw, P(class_code, uint32_t), P(reading, double));
+    judge(library, plain, 0);
+}
+
+static void compare_count(uint32_t number, uint32_t raw) {
+    compare_class(number, raw);
+    compare_dash(number, raw);
+}
+
 /* The next edge of a row, the next number, and any number and count. */
 void try_classes(void) {
     static uint32_t edge, number;
     uint32_t which = edge++ % (PLAIN_ROWS * ROW_EDGES), next = number++ % 2048;
     uint32_t any = once_in(6) ? any_number() : any_signal(&chance), raw = any_raw(any);
     const struct plain_row *row = &plain_catalogue[which / ROW_EDGES];
-    compare_class(row->number, row_edge(row, which % ROW_EDGES));
+    compare_count(row->number, row_edge(row, which % ROW_EDGES));
     meet(ROW_COUNTS, which);
-    compare_class(next, any_raw(next));
+    compare_count(next, any_raw(next));
     meet(SIGNAL_NUMBERS, next);
-    compare_class(once_in(20) ? any + ((uint32_t)1 << below(32)) : any, raw);
+    compare_count(once_in(20) ? any + ((uint32_t)1 << below(32)) : any, raw);
 }
 
 /* ---- Frames. */

@@ -80,6 +80,7 @@ static uint32_t book[PC_BOOK_WORDS], line, refusal, class_code, values[4] = { 19
 static uint32_t raws[PC_MOST_READINGS], places[PC_MOST_ROUTES], counts[27], sum[PC_FAULT_WORDS], power, last_wake, asleep;
 static uint8_t frame[PC_FRAME_BYTES], classes[PC_MOST_READINGS];
 static int64_t thousandths[PC_MOST_READINGS];
+static double reading;
 static uint32_t count;
 /* From precharge to both: the step with the most tests. */
 static const uint32_t seen[PC_POWER_WORDS] = { 2, 2, 2, 1, 0, 20000, 6000, 5900 };
@@ -89,6 +90,9 @@ static void call_book_read(void) {
 }
 static void call_class(void) {
     refusal = ENTER(pc_class, 203, 1, &class_code, thousandths);
+}
+static void call_dash(void) {
+    refusal = ENTER(pc_dash, 203, 1, &class_code, &reading);
 }
 static void call_fault_sum(void) {
     refusal = ENTER(pc_fault_sum, counts, 27, sum);
@@ -135,6 +139,7 @@ int main(int argc, char **argv) {
     if (argc == 1) {
         say("pc_book_read", by_book_read);
         say("pc_class", touched(call_class));
+        say("pc_dash", touched(call_dash));
         say("pc_fault_sum", touched(call_fault_sum));
         say("pc_frame_pack", touched(call_frame_pack));
         say("pc_frame_read", touched(call_frame_read));

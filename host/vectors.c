@@ -1,7 +1,7 @@
 /* vectors SUBJECT: runs the cases of tools/SUBJECT_vectors.py from standard input and prints what came out, a line a case.
-   The subjects are catalogue, routes, spread, book, frames, packing, record, faults, power and sleep. For catalogue the
+   The subjects are catalogue, dash, routes, spread, book, frames, packing, record, faults, power and sleep. For catalogue the
    input is signal numbers and raw counts, one pair a line. */
-#include "face.h"
+#include "dash_line.h"
 #include <inttypes.h>
 #include <stdio.h>
 #include <stdlib.h>
@@ -64,6 +64,12 @@ static void catalogue_case(void) {
         printf("%u\t%u\tvalue\t%" PRId64 "\n", number, raw, thousandths);
     else
         printf("%u\t%u\t%s\t%u\n", number, raw, class_words[class_code], raw);
+}
+
+static void dash_case(void) {
+    uint32_t number = hex(8), raw = hex(8);
+    end_of_line();
+    print_dash(number, raw);
 }
 
 static void print_spread(uint32_t bus, uint32_t identifier, uint32_t room, const char *word) {
@@ -243,7 +249,7 @@ static void sleep_case(void) {
 
 int main(int argc, char **argv) {
     static const struct { const char *subject; void (*run)(void); } subjects[] = {
-        { "catalogue", catalogue_case }, { "routes", routes_case }, { "spread", lent_book_case }, { "book", book_case },
+        { "catalogue", catalogue_case }, { "dash", dash_case }, { "routes", routes_case }, { "spread", lent_book_case }, { "book", book_case },
         { "frames", lent_book_case }, { "packing", lent_book_case }, { "record", lent_book_case }, { "faults", faults_case },
         { "power", power_case }, { "sleep", sleep_case },
     };

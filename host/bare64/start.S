@@ -1,5 +1,6 @@
 /* The first instructions of an AArch64 without an operating system, and where its faults go. The MMU stays off. An access off its
-   alignment is made to fault, and so is every use of a float or vector register, so that a run shows that the library asks for neither. */
+   alignment is made to fault, and so is every use of a float or vector register, so that a run shows that the library asks for neither;
+   float_unit.c lets pc_dash alone have them. */
     .text
     .global reset, semihost
 reset:

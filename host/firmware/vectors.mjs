@@ -1,6 +1,6 @@
 // node vectors.mjs MODULE SUBJECT: runs the cases of tools/SUBJECT_vectors.py from standard input by the proved module in WebAssembly and
-// prints what came out, a line a case, as host/vectors.c does by an archive. The subjects are catalogue, routes, spread, book, frames,
-// packing, faults, power, sleep and record; for catalogue the input is signal numbers and raw counts, one pair a line.
+// prints what came out, a line a case, as host/vectors.c does by an archive. The subjects are catalogue, dash, routes, spread, book,
+// frames, packing, faults, power, sleep and record; for catalogue the input is signal numbers and raw counts, one pair a line.
 import fs from 'node:fs';
 
 const [path, subject] = process.argv.slice(2);
@@ -61,6 +61,14 @@ const cases = {
     const kind = CLASSES[words(count, 1)[0]];
     if (refusal) print(signal, raw, 'no', refusal);
     else print(signal, raw, kind, kind === 'value' ? new BigInt64Array(calls.memory.buffer, number, 1)[0] : raw);
+  },
+  dash() {
+    const signal = digits(8), raw = digits(8);
+    endOfLine();
+    const refusal = calls.pc_dash(signal, raw, count, number);
+    if (refusal) return refused(refusal);
+    const kind = CLASSES[words(count, 1)[0]], [bits] = new BigUint64Array(calls.memory.buffer, number, 1);
+    print(...kind === 'value' ? [kind, bits.toString(16).toUpperCase().padStart(16, '0')] : [kind]);
   },
   routes() {
     const many = digits(2), lines = [];
