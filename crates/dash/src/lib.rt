@@ -1,11 +1,13 @@
 // A raw count of a signal as the dash draws it: a reading in double precision, or one of the five other classes by name. For users;
 // `catalogue: class_of()` is the call that answers in thousandths. `show` answers every number and count and has no `requires`.
 ghost use mathlib.Core.Path.{_≡_};
-ghost use Rattle.dash.specs.Answer.{dashFor, dashOf};
-ghost use Rattle.doubles.specs.Doubles.{SmallIfValue};
-use catalogue::Class;
+ghost use Rattle.dash.specs.Answer.{dashOf};
+ghost use Rattle.dash.specs.Coded.{dashCoded};
+ghost use Rattle.doubles.specs.Doubles.{Small};
 use catalogue::Raw;
+use catalogue::Thousandths;
 use doubles::in_units;
+use messages::class_numbers;
 
 // What the dash draws: one of the six classes.
 pub enum Dash {
@@ -25,26 +27,28 @@ pub enum DashAnswer {
     TooWide,
 }
 
-// What is drawn for a class.
-fn drawn(class: Class) -> DashAnswer
-    requires { ⌜ SmallIfValue class ⌝ }
-    ensures { λ r. ⌜ r ≡ dashFor class ⌝ }
+// What is drawn for a class, by its code and its thousandths.
+fn drawn(code: u8, reading: Thousandths) -> DashAnswer
+    requires { ⌜ Small reading ⌝ }
+    ensures { λ r. ⌜ r ≡ dashCoded code reading ⌝ }
 {
-    match class {
-        Class::Value(reading) => DashAnswer::Shown(Dash::Value(in_units(reading))),
-        Class::Invalid(_) => DashAnswer::Shown(Dash::Invalid),
-        Class::Absent(_) => DashAnswer::Shown(Dash::Absent),
-        Class::Error(_) => DashAnswer::Shown(Dash::Error),
-        Class::Reserved(_) => DashAnswer::Shown(Dash::Reserved),
-        Class::Outside(_) => DashAnswer::Shown(Dash::Outside),
-        Class::NotInCatalogue => DashAnswer::NotInCatalogue,
-        Class::TooWide => DashAnswer::TooWide,
+    match code {
+        0 => DashAnswer::Shown(Dash::Value(in_units(reading))),
+        1 => DashAnswer::Shown(Dash::Invalid),
+        2 => DashAnswer::Shown(Dash::Absent),
+        3 => DashAnswer::Shown(Dash::Error),
+        4 => DashAnswer::Shown(Dash::Reserved),
+        5 => DashAnswer::Shown(Dash::Outside),
+        6 => DashAnswer::NotInCatalogue,
+        _ => DashAnswer::TooWide,
     }
 }
 
-// What a raw count of the signal with a number shows.
+// What a raw count of the signal with a number shows. It asks where whoever classes a count asks, which costs the other calls nothing.
 pub fn show(number: u32, raw: Raw) -> DashAnswer
     ensures { λ r. ⌜ r ≡ dashOf number raw ⌝ }
 {
-    drawn(catalogue::class_of(number, raw))
+    let mut code: u8 = 0;
+    let reading = class_numbers(number, raw, &mut code);
+    drawn(code, Thousandths(reading))
 }

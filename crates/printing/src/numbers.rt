@@ -6,7 +6,7 @@ ghost use lib.ListN.{length};
 ghost use Rattle.printing.specs.Put.{Put};
 ghost use Rattle.printing.specs.Decimal.{digitCount, naturalText, naturalRoom, signedText, signedRoom};
 use crate::bytes::put_byte;
-use writing::put_decimals;
+use writing::put_digits;
 
 const MINUS: u8 = b'-';
 
@@ -28,7 +28,7 @@ pub fn put_natural(out: &mut [u8], at: usize, n: u64) -> usize
     ensures { λ r. ⌜ Put (now (out .entry)) at (naturalText n) (now (out .exit)) r ⌝ }
 {
     let count = digit_count(n);
-    put_decimals(&mut *out, at, count, n);
+    put_digits(&mut *out, at, count, n, 10);
     at + count
 }
 

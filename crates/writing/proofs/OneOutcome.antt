@@ -16,13 +16,13 @@ use denote.Ref.{RefT, now, at-last}
 use Rattle.only.specs.Only.{Only, only-this}
 use Rattle.numerals.specs.Numeral.{identifierDigits}
 use Rattle.numerals.specs.Written.{digitsOf, identifierText}
-use Rattle.writing.proofs.put_decimals as put-decimals
+use Rattle.writing.proofs.put_digits as put-digits
 use Rattle.writing.proofs.put_hexadecimals as put-hexadecimals
 use Rattle.writing.proofs.put_identifier as put-identifier
 
 module _ {M : Type 1} (𝓤 : URA M) (H : Heap 𝓤) (A : Atoms 𝓤) (mem : Memory → SProp 𝓤) (run : Routine → Fun 𝓤) (κs : Lfts 1) (out : RefT (List ℕ)) (at : ℕ) where
-  pub one-put-decimals : (k n : ℕ) → Only 𝓤 (λ (x : List ℕ). put-decimals.clauses 𝓤 H A mem run κs (out, (at, (k, (n, tt)))) .ensures tt tt (at-last out x, (at, (k, (n, tt)))))
-  one-put-decimals k n = only-this 𝓤 _ (codedList codedℕ) (sets (now out) at (digitsOf 10 k n)) (λ x. refl)
+  pub one-put-digits : (k n base : ℕ) → Only 𝓤 (λ (x : List ℕ). put-digits.clauses 𝓤 H A mem run κs (out, (at, (k, (n, (base, tt))))) .ensures tt tt (at-last out x, (at, (k, (n, (base, tt))))))
+  one-put-digits k n base = only-this 𝓤 _ (codedList codedℕ) (sets (now out) at (digitsOf base k n)) (λ x. refl)
 
   pub one-put-hexadecimals : (k n : ℕ) → Only 𝓤 (λ (x : List ℕ). put-hexadecimals.clauses 𝓤 H A mem run κs (out, (at, (k, (n, tt)))) .ensures tt tt (at-last out x, (at, (k, (n, tt)))))
   one-put-hexadecimals k n = only-this 𝓤 _ (codedList codedℕ) (sets (now out) at (digitsOf 16 k n)) (λ x. refl)

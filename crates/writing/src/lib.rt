@@ -2,28 +2,38 @@
 // for room and writes just those bytes; that of an identifier says where the next byte goes.
 use numerals::IDENTIFIER_DIGITS;
 ghost use mathlib.Core.Path.{_≡_};
-ghost use Prim.Native.Nat.{_+_, _≤_};
+ghost use Prim.Native.Nat.{_+_, _≤_, _<_};
 ghost use lib.ListN.{length};
 ghost use lib.Seq.{sets};
 ghost use Rattle.numerals.specs.Numeral.{identifierDigits};
-ghost use Rattle.numerals.specs.Written.{digitsOf, identifierText};
+ghost use Rattle.numerals.specs.Written.{digitByte, digitsOf, identifierText};
 ghost use Rattle.writing.specs.DigitRoom.{DigitRoom};
 
-// k decimal digits of n at a place of out; the lowest is written first.
-pub fn put_decimals(out: &mut [u8], at: usize, k: usize, n: u64)
-    requires { ⌜ DigitRoom (now out) at k n 10 ⌝ }
-    ensures { λ r. ⌜ now (out .exit) ≡ sets (now (out .entry)) at (digitsOf 10 k n) ⌝ }
+fn digit_byte(d: u64) -> u8
+    requires { ⌜ d < 16 ⌝ }
+    ensures { λ r. ⌜ r ≡ digitByte d ⌝ }
+{
+    if d < 10 {
+        return 48 + (d as u8);
+    }
+    55 + (d as u8)
+}
+
+// k digits of n in a base, at a place of out; the lowest is written first.
+pub fn put_digits(out: &mut [u8], at: usize, k: usize, n: u64, base: u64)
+    requires { ⌜ DigitRoom (now out) at k n base ⌝ }
+    ensures { λ r. ⌜ now (out .exit) ≡ sets (now (out .entry)) at (digitsOf base k n) ⌝ }
 {
     let mut j: usize = k;
     let mut m: u64 = n;
     while 0 < j {
         j -= 1;
-        out[at + j] = 48 + ((m % 10) as u8);
-        m /= 10;
+        out[at + j] = digit_byte(m % base);
+        m /= base;
     }
 }
 
-// The same in 0-9 A-F. A digit's byte is looked up: a test whether it is a letter costs more.
+// k digits 0-9 A-F of n, by a look-up: it costs less than put_digits where there are many digits, and more where there are few.
 pub fn put_hexadecimals(out: &mut [u8], at: usize, k: usize, n: u64)
     requires { ⌜ DigitRoom (now out) at k n 16 ⌝ }
     ensures { λ r. ⌜ now (out .exit) ≡ sets (now (out .entry)) at (digitsOf 16 k n) ⌝ }
@@ -42,6 +52,6 @@ pub fn put_identifier(out: &mut [u8], at: usize, n: u32) -> usize
     requires { ⌜ at + identifierDigits ≤ length (now out) ⌝ }
     ensures { λ r. ⌜ (r ≡ at + identifierDigits) × (now (out .exit) ≡ sets (now (out .entry)) at (identifierText n)) ⌝ }
 {
-    put_hexadecimals(&mut *out, at, IDENTIFIER_DIGITS, n as u64);
+    put_digits(&mut *out, at, IDENTIFIER_DIGITS, n as u64, 16);
     at + IDENTIFIER_DIGITS
 }

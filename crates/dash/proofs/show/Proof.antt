@@ -1,21 +1,21 @@
--- `dash::show` meets its contract: the thousandths of every value fit. Assumes nothing.
-use mathlib.Core.Path.{_≡_, ap, subst⁻¹, _∙_}
+-- `dash::show` meets its contract: the thousandths of every value are few. Assumes nothing.
+use mathlib.Core.Path.{_≡_, ap, _∙_}
+use lib.IntN.{ℤ}
+use mir.Syntax.{w64}
+use mir.ValLaws.{toZ-ofZ}
 use borrow.Author.Needs.{needs}
-use Rattle.doubles.specs.Doubles.{SmallIfValue}
-use Rattle.doubles.proofs.Values.{small-class}
-use Rattle.dash.specs.Answer.{dashFor, dashOf}
+use Rattle.dash.proofs.Coded.{few-numbers, numbers-drawn}
 use Rattle.dash.proofs.show.Statement.{statement}
 use Rattle.dash.proofs.show.Tie as tie
 
-class-of-requires : tie.Need-class-of-requires
-class-of-requires c κs = search needs
+class-numbers-requires : tie.Need-class-numbers-requires
+class-numbers-requires c κs = search needs
 
 drawn-requires : tie.Need-drawn-requires
-drawn-requires c κs = subst⁻¹ SmallIfValue (c .class-of .ensures) (small-class (c .before .args .number) (c .before .args .raw))
+drawn-requires c κs = rw (toZ-ofZ w64 (c .class-numbers .result) (search needs)) (few-numbers _ _ (c .class-numbers .ensures))
 
 returns : tie.Need-returns
-unfolding dashOf
-returns c = c .drawn .ensures ∙ ap dashFor (c .before .class-of .ensures)
+returns c = c .drawn .ensures ∙ rw (toZ-ofZ w64 (c .before .class-numbers .result) (search needs)) (numbers-drawn _ _ (c .before .class-numbers .ensures))
 
 pub show-spec : {M : Type 1} → statement M
-show-spec = tie.close (tie.spec class-of-requires drawn-requires returns)
+show-spec = tie.close (tie.spec class-numbers-requires drawn-requires returns)

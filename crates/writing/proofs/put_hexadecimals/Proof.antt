@@ -3,7 +3,7 @@ use native.Mathlib.Nat.{mod-lt}
 use native.Mathlib.Omega.{arith}
 use lib.Dec.{lit<}
 use Rattle.writing.proofs.Left.{Left, all-left, none-left, one-less}
-use Rattle.writing.proofs.DigitBytes.{looked-up}
+use Rattle.writing.proofs.LookUp.{looked-up}
 use Rattle.writing.proofs.put_hexadecimals.Statement.{statement}
 use Rattle.writing.proofs.put_hexadecimals.Tie as tie
 

@@ -6,10 +6,10 @@ use Rattle.writing.proofs.put_identifier.Statement.{statement}
 use Rattle.writing.proofs.put_identifier.Tie as tie
 use Rattle.writing.proofs.put_identifier.Reads as reads
 use Rattle.writing.proofs.put_identifier.Lts as lts
-use Rattle.writing.proofs.put_hexadecimals.Reads as put-hexadecimals-reads
+use Rattle.writing.proofs.put_digits.Reads as put-digits-reads
 
-put-hexadecimals-requires : tie.Need-put-hexadecimals-requires
-put-hexadecimals-requires c κs = search needs
+put-digits-requires : tie.Need-put-digits-requires
+put-digits-requires c κs = search needs
 
 add-result : tie.Need-add-result
 add-result c = search needs
@@ -19,7 +19,7 @@ same-length c = search needs
 
 returns : tie.Need-returns
 unfolding identifierText
-returns c = (refl, c .before .before .put-hexadecimals .ensures)
+returns c = (refl, c .before .before .put-digits .ensures)
 
 pub put-identifier-spec : {M : Type 1} → statement M
-put-identifier-spec = tie.close (tie.spec put-hexadecimals-requires add-result same-length returns)
+put-identifier-spec = tie.close (tie.spec put-digits-requires add-result same-length returns)

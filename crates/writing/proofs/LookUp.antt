@@ -1,15 +1,10 @@
--- The bytes of digits as the code has them: a decimal one added to that of 0, a hexadecimal one looked up. Assumes nothing.
+-- The bytes that `put_hexadecimals` looks a digit up in. Assumes nothing.
 use mathlib.Core.Path.{_≡_, refl}
 use mathlib.Core.List.{List, [], _∷_}
-use Prim.Native.Nat.{ℕ, zero, suc, _+_, _<_}
+use Prim.Native.Nat.{ℕ, zero, suc, _<_}
 use native.Mathlib.Omega.{arith}
 use lib.ListN.{getD}
-use borrow.Author.Tests.{lt-ltb}
 use Rattle.numerals.specs.Written.{digitByte}
-
-pub added : (d : ℕ) → d < 10 → 48 + d ≡ digitByte d
-unfolding digitByte
-added d h = simp (lt-ltb d 10 h)
 
 abbrev digitBytes : List ℕ
 digitBytes = 48 ∷ 49 ∷ 50 ∷ 51 ∷ 52 ∷ 53 ∷ 54 ∷ 55 ∷ 56 ∷ 57 ∷ 65 ∷ 66 ∷ 67 ∷ 68 ∷ 69 ∷ 70 ∷ []  -- 0123456789ABCDEF
