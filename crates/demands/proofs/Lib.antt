@@ -8,6 +8,7 @@ pub mod Taken
 pub mod Spreading
 pub mod Frames
 pub mod NoBook
+pub mod Dash
 pub mod FirstBad
 pub mod Witnesses
 pub mod OneRoute
