@@ -13,7 +13,6 @@ use Rattle.doubles.specs.Doubles.{SmallIfValue}
 use Rattle.doubles.proofs.Values.{small-class}
 use Rattle.framing.specs.Reading.{classCode, thousandthsOf}
 use Rattle.messages.specs.Signals.{numbersOfClass}
-use Rattle.dash.specs.declared.DashAnswer.{DashAnswer}
 use Rattle.dash.specs.declared.DashAnswer.the-variants.{TooWide}
 use Rattle.dash.specs.Answer.{dashFor, dashOf}
 use Rattle.dash.specs.Coded.{dashCoded}

@@ -10,10 +10,9 @@ use lib.Dec.{leb, ltb}
 use lib.IntN.{ℤ, pos, negsuc, natAbs, _+ℤ_, _*ℤ_}
 use borrow.Author.Tests.{leb-false}
 use Rattle.rows.specs.declared.Row.{Row}
-use Rattle.rows.specs.Rule.{Rule, exactDoubles}
+use Rattle.rows.specs.Rule.{Rule}
 use Rattle.catalogue.specs.declared.Raw.{Raw}
 use Rattle.catalogue.specs.declared.Thousandths.{Thousandths}
-use Rattle.catalogue.specs.declared.Class.{Class}
 use Rattle.catalogue.specs.declared.Class.the-variants.{Value, TooWide}
 use Rattle.catalogue.specs.Find.{rowOf}
 use Rattle.catalogue.specs.Class.{readingOf, classIn, classFor, classOf}

@@ -1,5 +1,4 @@
--- The figures of a value: how long they are, that thousandths are as they were before there were doubles, and that the bits are read back
--- as the double's own. Assumes nothing.
+-- The figures of a value: how long they are, and that thousandths are as they were before there were doubles. Assumes nothing.
 use mathlib.Core.Path.{_≡_, refl, sym, ap, _∙_}
 use mathlib.Core.List.{List}
 use Prim.Native.Nat.{ℕ, _+_, _≤_}
@@ -21,7 +20,7 @@ use Rattle.printing.specs.Put.{Put}
 use Rattle.printing.proofs.Spelling.{signed-few}
 use Rattle.signal_lines.specs.declared.figures.Figures.{Figures}
 use Rattle.signal_lines.specs.declared.figures.Figures.the-variants.{InThousandths, AsDoubles}
-use Rattle.signal_lines.specs.Words.{doubleDigits, doubleText, valueFigures, figureOf}
+use Rattle.signal_lines.specs.Words.{doubleDigits, doubleText, figureOf}
 
 -- the thousandths of a value, or the raw count of any other class
 pub in-thousandths : (class : Class) → figureOf InThousandths class ≡ signedText (carriedBy class)

@@ -1,5 +1,5 @@
 -- `dash::drawn` meets its contract: each code has its case. Assumes nothing.
-use mathlib.Core.Path.{_≡_, sym, ap, _∙_}
+use mathlib.Core.Path.{sym, ap, _∙_}
 use Prim.Native.Nat.{ℕ}
 use lib.Ieee.{Float}
 use borrow.Author.Needs.{needs}

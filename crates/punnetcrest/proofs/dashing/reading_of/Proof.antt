@@ -1,5 +1,5 @@
 -- `punnetcrest::dashing::reading_of` meets its contract. Assumes nothing.
-use mathlib.Core.Path.{_≡_, sym, ap, _∙_}
+use mathlib.Core.Path.{sym, ap, _∙_}
 use borrow.Author.Needs.{needs}
 use Rattle.dash.specs.Answer.{shownReading}
 use Rattle.punnetcrest.proofs.DashNumbers.{zero-as-coded}
