@@ -1,3 +1,4 @@
 pub mod Coded
 pub mod Right
+pub mod Rising
 pub mod OneOutcome

@@ -1,3 +1,5 @@
 pub mod Doubles
 pub mod Values
 pub mod OneOutcome
+pub mod Spaced
+pub mod Rising

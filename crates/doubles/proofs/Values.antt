@@ -10,7 +10,7 @@ use lib.Dec.{leb, ltb}
 use lib.IntN.{ℤ, pos, negsuc, natAbs, _+ℤ_, _*ℤ_}
 use borrow.Author.Tests.{leb-false}
 use Rattle.rows.specs.declared.Row.{Row}
-use Rattle.rows.specs.Rule.{Rule}
+use Rattle.rows.specs.Rule.{Rule, exactDoubles}
 use Rattle.catalogue.specs.declared.Raw.{Raw}
 use Rattle.catalogue.specs.declared.Thousandths.{Thousandths}
 use Rattle.catalogue.specs.declared.Class.the-variants.{Value, TooWide}
@@ -30,13 +30,14 @@ size-add a (negsuc b) = go (ltb a (suc b))
     go true = omega arith
     go false = omega arith
 
-small-reading : (r : Row) → Rule r → (raw : Raw) → raw .0 < 2 ^ r .bits → Small (readingOf r raw)
-small-reading r rule raw h =
+-- a reading of a count that fits is no larger than the row's largest
+pub reading-within : (r : Row) (raw : Raw) (most : ℕ) → 2 ^ r .bits * r .resolution + natAbs (r .offset) ≤ most → raw .0 < 2 ^ r .bits → natAbs (readingOf r raw .0) ≤ most
+reading-within r raw most few h =
     let fewer : raw .0 * r .resolution ≤ 2 ^ r .bits * r .resolution = mul-le-mul-right (r .resolution) (le-of-lt h) in
-    omega (arith, fewer, size-add (raw .0 * r .resolution) (r .offset), rule .small)
+    omega (arith, fewer, size-add (raw .0 * r .resolution) (r .offset), few)
 
 small-in : (r : Row) → Rule r → (raw : Raw) → raw .0 < 2 ^ r .bits → SmallIfValue (classIn r raw)
-small-in r rule raw h = of-class SmallIfValue raw tt tt tt tt r (small-reading r rule raw h) tt
+small-in r rule raw h = of-class SmallIfValue raw tt tt tt tt r (reading-within r raw exactDoubles (rule .small) h) tt
 
 small-for : (o : Option Row) → RuleOf o → (raw : Raw) → SmallIfValue (classFor o raw)
 small-for none rule raw = tt

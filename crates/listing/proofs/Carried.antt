@@ -2,16 +2,16 @@
 use mathlib.Core.Path.{_≡_, refl}
 use mathlib.Core.Bool.{Bool, true, false, cond}
 use mathlib.Core.Option.{Option, none, some}
-use Prim.Native.Nat.{ℕ, _*_, _^_, _≤_, _<_}
-use native.Mathlib.Nat.{mul-le-mul-right, pow-le-pow-right}
+use Prim.Native.Nat.{ℕ, _^_, _≤_, _<_}
+use native.Mathlib.Nat.{pow-le-pow-right}
 use native.Mathlib.Omega.{arith}
 use lib.Dec.{leb, ltb}
-use lib.IntN.{pos}
+use lib.IntN.{ℤ, pos, negsuc, natAbs}
 use mir.Syntax.{w64}
 use mir.Val.{SFits}
 use borrow.Author.Tests.{leb-false, ltb-true, ltb-false}
 use Rattle.rows.specs.declared.Row.{Row}
-use Rattle.rows.specs.Rule.{Rule}
+use Rattle.rows.specs.Rule.{Rule, exactDoubles}
 use Rattle.catalogue.specs.declared.Raw.{Raw}
 use Rattle.catalogue.specs.declared.Class.{Class}
 use Rattle.catalogue.specs.declared.Class.the-variants.{Value, TooWide}
@@ -21,7 +21,7 @@ use Rattle.catalogue.specs.Places.{numberLimit}
 use Rattle.catalogue.proofs.Found.{RuleOf, rule-of}
 use Rattle.catalogue.proofs.OneClass.{of-class}
 use Rattle.catalogue.proofs.Placed.{place-above, no-bits}
-use Rattle.catalogue.proofs.Readings.{mag-add}
+use Rattle.doubles.proofs.Values.{reading-within}
 
 abbrev Carries : Class → Type 0
 Carries class = SFits w64 (carriedBy class)
@@ -33,12 +33,16 @@ module _ (raw : Raw) (h : raw .0 < 2 ^ 32) where
   row-carries : (r : Row) → Carries (Value (readingOf r raw)) → Carries (classIn r raw)
   row-carries r v = of-class Carries raw count-fits count-fits count-fits count-fits r v count-fits
 
+-- what a double holds fits 64 bits
+few-fit : (z : ℤ) → natAbs z ≤ exactDoubles → SFits w64 z
+few-fit (pos n) h = record { sfits = omega (arith, h) }
+few-fit (negsuc n) h = record { sfits = omega (arith, h) }
+
 -- a count that its row has bits for
 row-fits : (r : Row) (raw : Raw) → Rule r → raw .0 < 2 ^ r .bits → Carries (classIn r raw)
 row-fits r raw rule h =
     let wide : 2 ^ r .bits ≤ 2 ^ 32 = pow-le-pow-right (omega arith) (rule .few-bits) in
-    let most : raw .0 * r .resolution ≤ 2 ^ r .bits * r .resolution = mul-le-mul-right (r .resolution) (omega arith) in
-    row-carries raw (omega (arith, wide)) r (record { sfits = omega (arith, mag-add (raw .0 * r .resolution) (r .offset), most, rule .small) })
+    row-carries raw (omega (arith, wide)) r (few-fit (readingOf r raw .0) (reading-within r raw exactDoubles (rule .small) h))
 
 pub class-fits : (number : ℕ) (raw : Raw) → Carries (classOf number raw)
 unfolding classOf
