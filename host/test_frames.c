@@ -37,7 +37,9 @@ static void compare_class(uint32_t number, uint32_t raw) {
 /* The reading is compared as the other lent memory is: bit for bit. */
 static void compare_dash(uint32_t number, uint32_t raw) {
     begin_case(DASH);
-    struct lent *class_code = lend("class", 0, 4), *reading = lend("reading", 0, 8);
+    static const uint64_t odd[] = { 0x7FF0000000000001, 0xFFF4000000000001, 0x7FF8000000000123, 0xFFFFFFFFFFFFFFFF, 0x8000000000000000, 0x7FF0000000000000 };
+    const uint64_t *was = once_in(4) ? &odd[below(sizeof odd / sizeof *odd)] : 0; /* NaNs, signalling and not, -0.0 and infinity stay as lent too */
+    struct lent *class_code = lend("class", 0, 4), *reading = lend("reading", was, 8);
     uint32_t library = pc_dash(number, raw, L(class_code, uint32_t), L(reading, double));
     uint32_t plain = plain_dash(number, raw, P(class_code, uint32_t), P(reading, double));
     judge(library, plain, 0);

@@ -110,8 +110,9 @@ uint32_t pc_book_read(const uint8_t *text, uint64_t text_length, uint32_t book[P
 uint32_t pc_class(uint32_t number, uint32_t raw, uint32_t *class_code, int64_t *thousandths);
 
 /* The same count for the dash, in double precision: *class_code is that of pc_class, *reading the reading of a value in the
-   signal's unit, which is its thousandths divided once by 1000 (IEEE 754), and 0.0 for any other class. Refusals 3, 26, just
-   where pc_class has them. double is the 64 bits of IEEE 754 (docs/EMBEDDING.md, The dash). */
+   signal's unit, which is its thousandths divided once by 1000, and 0.0 for any other class. Refusals 3, 26, just where
+   pc_class has them. double is the 64 bits of IEEE 754, and rounding is to the nearest, as every processor starts
+   (docs/EMBEDDING.md, The dash). */
 uint32_t pc_dash(uint32_t number, uint32_t raw, uint32_t *class_code, double *reading);
 
 /* Reads a frame: for each signal of the message, in the book's order, its raw count, its class (enum pc_class_code) and

@@ -3,3 +3,4 @@ pub mod Values
 pub mod OneOutcome
 pub mod Spaced
 pub mod Rising
+pub mod Witnesses

@@ -33,18 +33,18 @@ in-thousandths (Outside raw) = refl
 in-thousandths NotInCatalogue = refl
 in-thousandths TooWide = refl
 
-pub double-long : (x : Float) → length (doubleText x) ≡ doubleDigits
-unfolding doubleText
-double-long x = length-digits 16 16 (toBits binary64 x)
-
 pub double-put : {old new : List ℕ} {at bits : ℕ} (t : Thousandths) → bits ≡ toBits binary64 (inUnits t) → new ≡ sets old at (digitsOf 16 doubleDigits bits)
     → Put old at (doubleText (inUnits t)) new (at + doubleDigits)
 unfolding doubleText
 double-put {old} {new} {at} {bits} t e p =
     record {
       now-there = p ∙ ap (λ (n : ℕ). sets old at (digitsOf 16 doubleDigits n)) e;
-      now-at = ap (λ (n : ℕ). at + n) (sym (double-long (inUnits t)));
+      now-at = ap (λ (n : ℕ). at + n) (sym (length-digits 16 doubleDigits (toBits binary64 (inUnits t))));
     }
+
+pub double-long : (x : Float) → length (doubleText x) ≡ doubleDigits
+unfolding doubleText
+double-long x = length-digits 16 16 (toBits binary64 x)
 
 -- whatever a value shows, there is room for it
 pub figure-few : (figures : Figures) (class : Class) → SFits w64 (carriedBy class) → length (figureOf figures class) ≤ signedRoom
