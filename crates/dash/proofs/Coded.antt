@@ -28,15 +28,15 @@ few (old.Outside r) h = omega arith
 few old.NotInCatalogue h = omega arith
 few old.TooWide h = omega arith
 
-of-class : (c : Class) → dashCoded (classCode c) (record { 0 = thousandthsOf c }) ≡ dashFor c
-of-class (old.Value t) = refl
-of-class (old.Invalid r) = refl
-of-class (old.Absent r) = refl
-of-class (old.Error r) = refl
-of-class (old.Reserved r) = refl
-of-class (old.Outside r) = refl
-of-class old.NotInCatalogue = refl
-of-class old.TooWide = refl
+coded-as : (c : Class) → dashCoded (classCode c) (record { 0 = thousandthsOf c }) ≡ dashFor c
+coded-as (old.Value t) = refl
+coded-as (old.Invalid r) = refl
+coded-as (old.Absent r) = refl
+coded-as (old.Error r) = refl
+coded-as (old.Reserved r) = refl
+coded-as (old.Outside r) = refl
+coded-as old.NotInCatalogue = refl
+coded-as old.TooWide = refl
 
 -- the numbers that the call gets
 module _ (number : ℕ) (raw : Raw) {z : ℤ} {code : ℕ} (is : _≡_ {A = ℤ × ℕ} (z, code) (numbersOfClass number raw)) where
@@ -45,7 +45,7 @@ module _ (number : ℕ) (raw : Raw) {z : ℤ} {code : ℕ} (is : _≡_ {A = ℤ 
 
   pub numbers-drawn : dashCoded code (record { 0 = z }) ≡ dashOf number raw
   unfolding dashOf
-  numbers-drawn = ap (λ (x : ℤ × ℕ). dashCoded (x .1) (record { 0 = x .0 })) is ∙ of-class (classOf number raw)
+  numbers-drawn = ap (λ (x : ℤ × ℕ). dashCoded (x .1) (record { 0 = x .0 })) is ∙ coded-as (classOf number raw)
 
 -- a code that is none of those of the other cases
 abbrev NoneOfSeven : ℕ → Type 0

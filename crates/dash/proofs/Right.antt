@@ -86,36 +86,36 @@ module _ (number : ℕ) (raw : Raw) where
   made (some outside) n x = Shown Outside
   made none n x = cond (eqb n 3) NotInCatalogue TooWide
 
-  of-answer : (answer : DashAnswer) (x : Float) → NoReading answer → made (answerClass answer) (dashNumber answer) x ≡ answer
+  made-again : (answer : DashAnswer) (x : Float) → NoReading answer → made (answerClass answer) (dashNumber answer) x ≡ answer
   unfolding made NoReading
-  of-answer (Shown (Value y)) x h = absurd h
-  of-answer (Shown Invalid) x h = refl
-  of-answer (Shown Absent) x h = refl
-  of-answer (Shown Error) x h = refl
-  of-answer (Shown Reserved) x h = refl
-  of-answer (Shown Outside) x h = refl
-  of-answer NotInCatalogue x h = refl
-  of-answer TooWide x h = refl
+  made-again (Shown (Value y)) x h = absurd h
+  made-again (Shown Invalid) x h = refl
+  made-again (Shown Absent) x h = refl
+  made-again (Shown Error) x h = refl
+  made-again (Shown Reserved) x h = refl
+  made-again (Shown Outside) x h = refl
+  made-again NotInCatalogue x h = refl
+  made-again TooWide x h = refl
 
-  of-class : (c : Class) → made (oldClass c) (classNumber c) (readingIn (dashFor c)) ≡ dashFor c
+  made-for : (c : Class) → made (oldClass c) (classNumber c) (readingIn (dashFor c)) ≡ dashFor c
   unfolding made readingIn
-  of-class (old.Value t) = refl
-  of-class (old.Invalid r) = refl
-  of-class (old.Absent r) = refl
-  of-class (old.Error r) = refl
-  of-class (old.Reserved r) = refl
-  of-class (old.Outside r) = refl
-  of-class old.NotInCatalogue = refl
-  of-class old.TooWide = refl
+  made-for (old.Value t) = refl
+  made-for (old.Invalid r) = refl
+  made-for (old.Absent r) = refl
+  made-for (old.Error r) = refl
+  made-for (old.Reserved r) = refl
+  made-for (old.Outside r) = refl
+  made-for old.NotInCatalogue = refl
+  made-for old.TooWide = refl
 
   without-reading : (answer : DashAnswer) → NoReading answer → DashRight number raw answer → answer ≡ dashOf number raw
   unfolding dashOf
   without-reading answer h right =
       let x = readingIn (dashFor (classOf number raw)) in
-      sym (of-answer answer x h)
+      sym (made-again answer x h)
       ∙ ap (λ (c : Option ClassName). made c (dashNumber answer) x) (right .class)
       ∙ ap (λ (n : ℕ). made (oldClass (classOf number raw)) n x) (right .refusal)
-      ∙ of-class (classOf number raw)
+      ∙ made-for (classOf number raw)
 
   with-reading : (x : Float) → ReadingShown number raw x → Shown (Value x) ≡ dashOf number raw
   unfolding dashOf inUnits

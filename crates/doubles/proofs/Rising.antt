@@ -15,14 +15,13 @@ use Rattle.rows.specs.declared.Row.{Row}
 use Rattle.rows.specs.Rows.{rows, blank}
 use Rattle.catalogue.specs.declared.Raw.{Raw}
 use Rattle.catalogue.specs.declared.Thousandths.{Thousandths}
-use Rattle.catalogue.specs.declared.Class.{Class}
-use Rattle.catalogue.specs.declared.Class.the-variants.{Value, Invalid, Absent, Error, Reserved, Outside, NotInCatalogue, TooWide}
+use Rattle.catalogue.specs.declared.Class.the-variants.{Value, TooWide}
 use Rattle.catalogue.specs.Find.{rowOf}
 use Rattle.catalogue.specs.Class.{readingOf, classIn, classFor, classOf}
 use Rattle.catalogue.proofs.Found.{FoundIn, found, RuleOf, rule-of}
 use Rattle.catalogue.proofs.OneClass.{of-class}
 use Rattle.catalogue.proofs.Readings.{rising}
-use Rattle.doubles.specs.Doubles.{inUnits, nearestTo}
+use Rattle.doubles.specs.Doubles.{inUnits, nearestTo, OfValue}
 use Rattle.doubles.proofs.Spaced.{limit, spaced}
 use Rattle.doubles.proofs.Values.{reading-within, value-rounded-once}
 
@@ -62,16 +61,6 @@ few-of none n f = tt
 few-of (some r) n f = subst Few (f .1 .1 .0) (few-at rows all-few (f .0) (f .1 .0))
 
 -- ---- a value is the reading of its count
-
-abbrev OfValue : (Thousandths → Type 0) → Class → Type 0
-OfValue P (Value t) = P t
-OfValue P (Invalid r) = Unit
-OfValue P (Absent r) = Unit
-OfValue P (Error r) = Unit
-OfValue P (Reserved r) = Unit
-OfValue P (Outside r) = Unit
-OfValue P NotInCatalogue = Unit
-OfValue P TooWide = Unit
 
 module _ (r : Row) (raw : Raw) (few : Few r) where
   abbrev Is : Thousandths → Type 0

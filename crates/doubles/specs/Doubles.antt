@@ -35,13 +35,17 @@ nearestTo (negsuc n) d = round binary64 true (suc n) d
 abbrev pub Small : Thousandths → Type 0
 Small t = natAbs (t .0) ≤ exactDoubles
 
--- those of a class, where it is a value
+-- something holds of the thousandths of a class, where it is a value
+abbrev pub OfValue : (Thousandths → Type 0) → Class → Type 0
+OfValue P (Value t) = P t
+OfValue P (Invalid r) = Unit
+OfValue P (Absent r) = Unit
+OfValue P (Error r) = Unit
+OfValue P (Reserved r) = Unit
+OfValue P (Outside r) = Unit
+OfValue P NotInCatalogue = Unit
+OfValue P TooWide = Unit
+
+-- a double loses nothing of them
 abbrev pub SmallIfValue : Class → Type 0
-SmallIfValue (Value t) = Small t
-SmallIfValue (Invalid r) = Unit
-SmallIfValue (Absent r) = Unit
-SmallIfValue (Error r) = Unit
-SmallIfValue (Reserved r) = Unit
-SmallIfValue (Outside r) = Unit
-SmallIfValue NotInCatalogue = Unit
-SmallIfValue TooWide = Unit
+SmallIfValue k = OfValue Small k
