@@ -1,6 +1,6 @@
 /* The 199 signals of tables 2 to 13 and 15 to 19 of QC/T 1201.5-2023, as the plain implementation has them: number, bits,
    resolution and offset in thousandths, lowest and highest raw count, how many intervals of marks, and those: class, first
-   and last code. */
+   and last code. tools/plain_rows.py writes this file from the printed tables, with the correction of document 02 (P2). */
 #ifndef PLAIN_CATALOGUE_H
 #define PLAIN_CATALOGUE_H
 

@@ -2,13 +2,12 @@
 document 001 prints (tools/standard.json), in English by tools/english.py. It stops where list, print and tools/catalogue.json don't
 agree, and where tools/english.py has a word too few or too many."""
 
-import re
-from pathlib import Path
 from typing import NamedTuple
 
 import catalogue
 import standard
 from english import CELLS, TITLES, UNITS, WORDS
+from listed_rows import SIGNALS, listed
 from printed_cells import MARK_WORDS, NO_CODES, codes_of, flags_of, meaning_of, version_limits
 
 
@@ -22,19 +21,7 @@ class Shown(NamedTuple):
     codes: list
 
 
-# --- the catalogue's list in Rattle -----------------------------------------------------------------------------------
-
-LISTED = re.compile(r"row (\d+) (\d+) (\d+) \((plus|minus) (\d+)\) (\d+) (\d+) (.*?)  -- (.*)")
-MARK = re.compile(r"\((\w+) (\d+) (\d+)\)")
-
-
-def listed():
-    """[(Row, comment)] of the list, in its order."""
-    text = (Path(__file__).parent.parent / "crates/rows/specs/Rows.antt").read_text(encoding="utf-8")
-    for number, bits, step, sign, offset, lowest, highest, marked, comment in LISTED.findall(text):
-        offset = int(offset) * {"plus": 1, "minus": -1}[sign]
-        marks = [(kind, int(first), int(last)) for kind, first, last in MARK.findall(marked)]
-        yield catalogue.Row(int(number), int(bits), int(step), offset, int(lowest), int(highest), marks, None), comment
+# --- what has to agree ------------------------------------------------------------------------------------------------
 
 
 def name_and_unit(comment, printed):
@@ -43,9 +30,6 @@ def name_and_unit(comment, printed):
     name, _, ending = comment.rpartition(", ")
     assert unit == (ending if ending in UNITS.values() else ""), f"unit of '{comment}': printed {printed}"
     return (name if unit else comment), unit
-
-
-# --- what has to agree ------------------------------------------------------------------------------------------------
 
 
 def check_stored(row, stored):
@@ -100,7 +84,7 @@ def check_words(titles, signals):
 
 def load():
     """({table: printed title}, [Shown]), after every check."""
-    (titles, signals), stored, rows = standard.load(), catalogue.load(), list(listed())
+    (titles, signals), stored, rows = standard.load(), catalogue.load(), listed(SIGNALS)
     numbers = [signal.number for signal in signals]
     assert [row.number for row, _ in rows] == numbers == list(stored), "signals of list, print and catalogue.json"
     check_words(titles, signals)

@@ -16,7 +16,9 @@ same-class (some r) raw = refl
 
 class-by-shape : (n : ℕ) (raw : Raw) → classFor (rowShaped (shapeOf n)) raw ≡ classOf n raw
 unfolding classOf
-class-by-shape n raw = sym (same-class (rowOf n) raw ∙ ap (λ (o : Option Row). classFor o raw) (by-shape n))
+class-by-shape n raw =
+    same-class (rowShaped (shapeOf n)) raw
+    ∙ sym (same-class (rowOf n) raw ∙ ap (λ (o : Option Row). classFor o raw) (by-shape n))
 
 -- the class of a count in a signal's shape is its class
 pub shaped-class : (n s : ℕ) (raw : Raw) {k : Class} → s ≡ shapeOf n → k ≡ classFor (rowShaped s) raw → k ≡ classOf n raw

@@ -1,5 +1,6 @@
 pub mod Find
 pub mod Places
+pub mod Signals
 pub mod Shapes
 pub mod Class
 pub mod Belongs
