@@ -1,11 +1,12 @@
 #!/usr/bin/env python3
 """Frames of a truck that drives off, packed by examples/truck.book, and what the two frame listers print of them.
 
-    python3 tools/truck_frames.py        writes examples/frames.txt, examples/frames.listing (by frame_list) and examples/dash.listing
-                                         (by dash_list)
+    python3 tools/truck_frames.py DIR    writes DIR/frames.txt, DIR/frames.listing (by frame_list) and DIR/dash.listing (by dash_list),
+                                         stored in examples/
 """
 
 import os
+import sys
 
 from rules import double_bits, listing, pack_frame, read_book
 
@@ -55,7 +56,7 @@ def main():
         "dash.listing": listing(book_text, frames.encode(), double_bits),
     }
     for name, content in files.items():
-        with open(os.path.join(EXAMPLES, name), "w") as file:
+        with open(os.path.join(sys.argv[1], name), "w") as file:
             file.write(content)
 
 
