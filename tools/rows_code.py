@@ -7,10 +7,11 @@
 A mistake here can't make an answer wrong: the contracts of `row_at`, `widths`, `shape_of` and `class_of` hold the code against the rows.
 """
 
+import re
 import sys
 from pathlib import Path
 
-from listed_rows import SHAPES, SIGNALS, listed
+from listed_rows import ROOT, SHAPES, SIGNALS, listed
 
 KINDS = {"invalid": 1, "absent": 2, "error": 3, "reserved": 4}  # the constants of crates/rows/src/lib.rt
 NO_MARK = ("unmarked", 1, 0)
@@ -82,6 +83,13 @@ def numbers_of(row):
     return row.bits, row.resolution, row.offset, row.lowest, row.highest, tuple(row.marks)
 
 
+def no_shape(shapes):
+    """The number of no shape, which stands below the list."""
+    number = int(re.search(r"(?m)^noShape = (\d+)$", (ROOT / SHAPES).read_text(encoding="utf-8"))[1])
+    assert all(shape.number < number for shape in shapes), f"{SHAPES}: noShape is {number}, and a shape has that number or a higher one"
+    return number
+
+
 def shapes_of(rows, shapes):
     """[(signal, shape)]. Each row has a shape, and each shape a row."""
     numbers = [shape.number for shape in shapes]
@@ -102,14 +110,14 @@ def signals_text(found):
     return SIGNALS_HEAD + "    " + "\n    ∷ ".join(lines) + "\n    ∷ []\n"
 
 
-def shapes_text(found, no_shape):
+def shapes_text(found, otherwise):
     arms = "".join(f"        {number} => {shape},\n" for number, shape in found)
     return (
         SHAPES_HEAD
-        + f"// The shape of a signal: {no_shape} where the catalogue has no such signal.\n"
+        + f"// The shape of a signal: {otherwise} where the catalogue has no such signal.\n"
         + "pub fn shape_of(number: u32) -> usize\n    ensures { λ r. ⌜ r ≡ shapeOf number ⌝ }\n{\n    match number {\n"
         + arms
-        + f"        _ => {no_shape},\n    }}\n}}\n"
+        + f"        _ => {otherwise},\n    }}\n}}\n"
     )
 
 
@@ -122,7 +130,7 @@ def main():
     texts = {
         "crates/rows/src/columns.rt": columns_text(rows),
         "crates/catalogue/specs/Signals.antt": signals_text(found),
-        "crates/catalogue/src/shapes.rt": shapes_text(found, shapes[-1].number + 1),
+        "crates/catalogue/src/shapes.rt": shapes_text(found, no_shape(shapes)),
     }
     for name, text in texts.items():
         path = Path(sys.argv[1]) / name
