@@ -15,6 +15,10 @@ class Row:
         self.lowest, self.highest, self.printed = lowest, highest, printed
         self.marks = [tuple(mark) for mark in marks]
 
+    def shape(self):
+        """All of the row but its number and what is printed: signals of one shape are classed alike."""
+        return self.bits, self.resolution, self.offset, self.lowest, self.highest, tuple(self.marks)
+
     def as_json(self):
         return {field: getattr(self, field) for field in self.FIELDS}
 

@@ -38,13 +38,8 @@ WRONG_WAYS = {
 }
 
 
-def shape_of(row):
-    """All of a row but its number."""
-    return row.bits, row.resolution, row.offset, row.lowest, row.highest, tuple(row.marks)
-
-
 # {shape: its first row}
-SHAPES = {shape_of(row): row for row in reversed(CATALOGUE.values())}
+SHAPES = {row.shape(): row for row in reversed(CATALOGUE.values())}
 
 
 def of_shapes(counts_of):
@@ -55,7 +50,7 @@ def of_shapes(counts_of):
 def of_signals(counts_of):
     """The same counts for every signal."""
     counts = {shape: sorted(set(counts_of(row))) for shape, row in SHAPES.items()}
-    return [(row.number, raw) for row in CATALOGUE.values() for raw in counts[shape_of(row)]]
+    return [(row.number, raw) for row in CATALOGUE.values() for raw in counts[row.shape()]]
 
 
 def differs(row, raw, way):

@@ -78,11 +78,6 @@ ghost use Rattle.catalogue.specs.Shapes.{shapeOf};
 """
 
 
-def numbers_of(row):
-    """All of a row but its number."""
-    return row.bits, row.resolution, row.offset, row.lowest, row.highest, tuple(row.marks)
-
-
 def no_shape(shapes):
     """The number of no shape, which stands below the list."""
     number = int(re.search(r"(?m)^noShape = (\d+)$", (ROOT / SHAPES).read_text(encoding="utf-8"))[1])
@@ -94,11 +89,11 @@ def shapes_of(rows, shapes):
     """[(signal, shape)]. Each row has a shape, and each shape a row."""
     numbers = [shape.number for shape in shapes]
     assert numbers == sorted(set(numbers)), f"{SHAPES}: the numbers of the shapes do not rise"
-    by_numbers = {numbers_of(shape): shape.number for shape in shapes}
-    assert len(by_numbers) == len(shapes), f"{SHAPES}: two shapes have the same numbers"
-    lacking = [row.number for row in rows if numbers_of(row) not in by_numbers]
+    by_shape = {row.shape(): row.number for row in shapes}
+    assert len(by_shape) == len(shapes), f"{SHAPES}: two shapes have the same numbers"
+    lacking = [row.number for row in rows if row.shape() not in by_shape]
     assert not lacking, f"{SHAPES}: no shape for the rows of {lacking}; docs/ARCHITECTURE.md, How to add, says what a new one takes"
-    found = [(row.number, by_numbers[numbers_of(row)]) for row in rows]
+    found = [(row.number, by_shape[row.shape()]) for row in rows]
     unused = sorted(set(numbers) - {shape for _, shape in found})
     assert not unused, f"{SHAPES}: no signal has shape {unused}; take it out, with its arm in crates/catalogue/src/by_shape.rt"
     return found
