@@ -4,15 +4,15 @@
     python3 tools/catalogue_vectors.py                  prints the expected output
     python3 tools/catalogue_vectors.py --json           prints the rows, as tools/catalogue.json has them
 
-Document 01 ("The signal catalogue") says how a printed row becomes numbers. No other source is read. Anything that the rules below
-do not foresee stops the script.
+Document 01 ("The signal catalogue") says how a printed row becomes numbers, document 02 (P2) which printed offset is none. No other
+source is read. Anything that the rules below do not foresee stops the script.
 """
 
 import json
 import sys
 
 from catalogue import Row, class_of
-from printed_cells import MARK_WORDS, codes_of, meaning_of, version_limits
+from printed_cells import MARK_WORDS, codes_of, corrected, version_limits
 from standard import load
 
 # --- one row ----------------------------------------------------------------------------------------------------------
@@ -37,7 +37,7 @@ def marks_of(codes):
 
 def row_of(signal):
     """The row of a printed signal. A version's raw limits stand in the coding cell, and its printed range is not that of a half."""
-    resolution, offset, low, high, _ = meaning_of(signal.meaning)
+    resolution, offset, low, high, _ = corrected(signal)
     limits, printed = version_limits(signal.coding), None
     if not limits:
         limits = whole((low - offset) / resolution), whole((high - offset) / resolution)

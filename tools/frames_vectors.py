@@ -11,7 +11,7 @@ its raw count, class word and thousandths (0 where there are none); or `no` and 
 import random
 
 from cases import blob, h2, h8, tabbed, write
-from frame_books import books, edge_counts
+from frame_books import CELLS, CELLS_BOOK, books, cell_counts, edge_counts, text_of
 from rules import CATALOGUE, checksum, place_bits, read_book, read_frame, take_bits
 
 
@@ -98,6 +98,10 @@ def main():
         for case in strangers(chance, [0x18FF21F3]):
             ask(book, *case)
         ask(book, 0x18FF21F3, 2, [0] * 8)
+    book = turn_to(text_of(CELLS_BOOK))
+    for counts in cell_counts():
+        if max(counts) < 256:
+            ask(book, CELLS, 4, counts + [0xFF] * 4)
     write(b"".join(stdin), "".join(stdout))
 
 

@@ -11,7 +11,7 @@ the eight bytes as 16 hex digits, byte 0 first; or `no` and the refusal.
 import random
 
 from cases import blob, h2, h8, tabbed, write
-from frame_books import books, edge_counts
+from frame_books import CELLS, CELLS_BOOK, books, cell_counts, edge_counts, text_of
 from rules import CATALOGUE, class_of_count, pack_frame, read_book, read_frame, take_bits
 
 TOO_BIG = 2**32 - 1
@@ -124,6 +124,9 @@ def main():
         book = turn_to(text)
         ask(book, 0x18FF21F3, 8, [0])
         ask(book, 0, 7, [])
+    book = turn_to(text_of(CELLS_BOOK))
+    for counts in cell_counts():
+        ask(book, CELLS, 8, counts)
     write(b"".join(stdin), "".join(stdout))
 
 

@@ -1,6 +1,6 @@
 """What the printed cells of a signal say (tools/standard.json): its unit, step and limits; its codes with their words; which words
-are marks. Document 01 ("The signal catalogue") says how a printed row is read. Anything that the rules below do not foresee stops
-the script that asks."""
+are marks. Document 01 ("The signal catalogue") says how a printed row is read, document 02 (P2) the one thing in it that is a misprint.
+Anything that the rules below do not foresee stops the script that asks."""
 
 import re
 from fractions import Fraction
@@ -54,6 +54,19 @@ def meaning_of(cell):
     if factor:
         resolution, offset = resolution * Fraction(factor.group()), offset * Fraction(factor.group())
     return Meaning(resolution, offset, low, high, found["unit"])
+
+
+# Document 02, P2. The offset that is printed for the numbers of the highest cell, 705 and 706, is a misprint by common consent: every
+# pack maker that was asked sends them as 702 and 703, those of the lowest cell, with none. {signal: (offset printed, offset meant)}
+MISPRINTED_OFFSETS = {705: (1, 0), 706: (1, 0)}
+
+
+def corrected(signal):
+    """What the meaning cell of a signal says, with the offset that is meant where a wrong one is printed. All else is as printed."""
+    meaning = meaning_of(signal.meaning)
+    printed, meant = MISPRINTED_OFFSETS.get(signal.number, (meaning.offset, meaning.offset))
+    assert meaning.offset == printed, f"{signal.number}: the offset {printed} is corrected, and {meaning.offset} is printed"
+    return meaning._replace(offset=Fraction(meant))
 
 
 # --- the coding cell --------------------------------------------------------------------------------------------------

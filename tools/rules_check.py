@@ -1,6 +1,6 @@
 #!/usr/bin/env python3
-"""Holds tools/rules.py against the worked examples that document 01 prints, its two ways to judge routes against each
-other, and the books of examples/ and docs/BOOK.md against tools/rules.py.
+"""Holds tools/rules.py against the worked examples that document 01 prints and the rows that document 02 (P2) corrects, its two ways to
+judge routes against each other, and the books of examples/ and docs/BOOK.md against tools/rules.py.
 
     python3 tools/rules_check.py
 """
@@ -42,6 +42,10 @@ CLASSES = [
     (1705, 2, ("invalid", 2)),
 ]
 
+# Document 02, P2: offset 0, raw 1 to 255, and raw 0 is outside, for the numbers of the highest cell as for those of the lowest.
+CELL_NUMBERS = (702, 703, 705, 706)
+CELL_CLASSES = [(0, ("outside", 0)), (1, ("value", 1000)), (254, ("value", 254000)), (255, ("value", 255000)), (256, ("no", 26))]
+
 
 # Bits of doubles that are written down in many places, and of whole numbers: 1 is 3FF0.., each doubling adds 0010...
 BITS = [
@@ -76,6 +80,8 @@ def doubles():
 def printed_examples():
     for number, raw, expected in CLASSES:
         assert class_of(CATALOGUE, number, raw) == expected, number
+    for raw, expected in CELL_CLASSES:
+        assert {class_of(CATALOGUE, number, raw) for number in CELL_NUMBERS} == {expected}, raw
     assert checksum(0x18FFFAF3, [0] * 8) == 4
     assert checksum(0x18FFFAF3, [0xFF] * 7 + [0x0F]) == 5
     assert precharge_complete(6000, 5700) and not precharge_complete(6000, 5699)

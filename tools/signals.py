@@ -8,7 +8,7 @@ import catalogue
 import standard
 from english import CELLS, TITLES, UNITS, WORDS
 from listed_rows import SIGNALS, listed
-from printed_cells import MARK_WORDS, NO_CODES, codes_of, flags_of, meaning_of, version_limits
+from printed_cells import MARK_WORDS, NO_CODES, codes_of, corrected, flags_of, meaning_of, version_limits
 
 
 class Shown(NamedTuple):
@@ -39,8 +39,9 @@ def check_stored(row, stored):
 
 
 def check_numbers(row, signal):
-    """The list's row is the printed one: the readings of its limits are the printed limits, but for a version's."""
-    meaning = meaning_of(signal.meaning)
+    """The list's row is the printed one, a misprinted offset corrected: the readings of its limits are the printed limits, but for a
+    version's."""
+    meaning = corrected(signal)
     assert row.bits == signal.bits, f"{row.number}: bits, list and print"
     assert row.resolution == meaning.resolution * 1000, f"{row.number}: step, list and print"
     assert row.offset == meaning.offset * 1000, f"{row.number}: offset, list and print"

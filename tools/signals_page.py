@@ -7,7 +7,7 @@ from itertools import groupby
 
 from catalogue import class_of_count
 from english import CELLS, TITLES, WORDS
-from printed_cells import MARK_WORDS, flags_of, gaps
+from printed_cells import MARK_WORDS, flags_of, gaps, meaning_of
 from signals import load
 
 # --- the text around the tables ---------------------------------------------------------------------------------------
@@ -31,7 +31,8 @@ from the catalogue and from what the standard prints, and stops where the two do
   "(no word)" is a code that the standard leaves without one.
 - **Raw counts**: the lowest and the highest that are values, but for the marks among them. A count below or above that is no mark
   is `outside`.
-- **Step**, **Offset**: the reading of a value is raw count x step + offset, in the unit. Of a code it is the code itself.
+- **Step**, **Offset**: the reading of a value is raw count x step + offset, in the unit. Of a code it is the code itself. An offset
+  that the standard misprints stands corrected, with what is printed behind it.
 
 **For a fitter.** The frame lister prints the reading of a value in thousandths, and the raw count of anything else. So divide what
 stands behind `value` by 1000, and where the signal has codes, look for that number in the last column.
@@ -68,8 +69,9 @@ Names are as printed, slips and stray blanks included (`BMS_BattToalDCDCchgEny` 
   Eny like the energies of table 4.
 - **702, 703, 705, 706, 904 to 907**: PackNum in these names is the number of a CSC, SnsNum that of a cell or a probe in it.
 - **703, 706, 904**: the printed unit is 箱, box, which is what is numbered; it is left out here. 706 numbers a cell, and no box.
-- **705, 706**: the printed offset is 1, so raw 0 reads as 1; 702 and 703 have offset 0. The order is another one too: 702 is the
-  cell and 703 the CSC, 705 the CSC and 706 the cell.
+- **705, 706**: the printed offset of 1 is a misprint by common consent: every pack maker that was asked sends them as 702 and 703,
+  with no offset (document 02, P2). So raw 1 is the first CSC or cell, and raw 0 is outside. The printed range, `1~255`, stands.
+- **702, 703, 705, 706**: 702 is the cell and 703 the CSC of the lowest cell voltage, but 705 the CSC and 706 the cell of the highest.
 - **707 to 709**: printed with step 1, unit 0.1V and range `0~5`. The range is taken as volts: step 0.1 V, raw counts 0 to 50.
 - **403, 407, 408, 710, 1002, 1003, 1701 to 1704**: no code is printed, so 65535 is a value, though 701 and 704 have it as invalid.
 - **1104, 1105**: code 0 has no word and is within the printed range, so it is a value.
@@ -129,9 +131,15 @@ def codes_text(signal, codes):
     return ", ".join(code_text(*code) for code in sorted(codes, key=lambda code: code[0]))
 
 
+def offset_text(shown):
+    """The offset, and behind it the printed one where that is corrected."""
+    printed = meaning_of(shown.signal.meaning).offset * 1000
+    return plain(shown.row.offset) + ("" if printed == shown.row.offset else f" (printed: {plain(int(printed))})")
+
+
 def line(shown):
     row, signal = shown.row, shown.signal
-    numbers = [row.bits, plain(row.resolution), plain(row.offset), f"{row.lowest} to {row.highest}"]
+    numbers = [row.bits, plain(row.resolution), offset_text(shown), f"{row.lowest} to {row.highest}"]
     cells = [row.number, f"`{signal.name}` {signal.chinese}", shown.name, shown.unit, *numbers, codes_text(signal, shown.codes)]
     return "| " + " | ".join(str(cell) for cell in cells) + " |"
 

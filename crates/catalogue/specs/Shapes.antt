@@ -30,7 +30,6 @@ shapes =
     ∷ row 13 16 1000 (plus 0) 0 65535 (invalid 65535 65535) unmarked unmarked  -- as 513
     ∷ row 14 8 1000 (plus 0) 1 255 unmarked unmarked unmarked  -- as 601
     ∷ row 15 16 1 (plus 0) 0 65535 (invalid 65535 65535) unmarked unmarked  -- as 603
-    ∷ row 16 8 1000 (plus 1000) 0 254 unmarked unmarked unmarked  -- as 705
     ∷ row 17 8 100 (plus 0) 0 50 unmarked unmarked unmarked  -- as 707
     ∷ row 18 16 1 (plus 0) 0 65535 unmarked unmarked unmarked  -- as 710
     ∷ row 19 8 1000 (minus 40000) 0 250 (invalid 255 255) unmarked unmarked  -- as 803

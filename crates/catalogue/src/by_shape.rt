@@ -48,7 +48,6 @@ fn class_shaped(shape: usize, raw: Raw) -> Class
         13 => one_mark(16, 1000, 0, 0, 65535, INVALID, 65535, 65535, raw),
         14 => no_mark(8, 1000, 0, 1, 255, raw),
         15 => one_mark(16, 1, 0, 0, 65535, INVALID, 65535, 65535, raw),
-        16 => no_mark(8, 1000, 1000, 0, 254, raw),
         17 => no_mark(8, 100, 0, 0, 50, raw),
         18 => no_mark(16, 1, 0, 0, 65535, raw),
         19 => one_mark(8, 1000, -40000, 0, 250, INVALID, 255, 255, raw),

@@ -9,6 +9,7 @@ pub mod Spreading
 pub mod Frames
 pub mod NoBook
 pub mod Dash
+pub mod HighestCell
 pub mod FirstBad
 pub mod Witnesses
 pub mod OneRoute

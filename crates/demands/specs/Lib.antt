@@ -4,3 +4,4 @@ pub mod Loops
 pub mod Examples
 pub mod FirstBad
 pub mod Spreads
+pub mod HighestCell

@@ -1,4 +1,5 @@
--- "Raw limits = (printed limit - offset) / resolution, exact for every row but 1301 to 1304." Assumes nothing.
+-- "Raw limits = (printed limit - offset) / resolution, exact for every row but 1301 to 1304." The offset is the row's: of 705 and 706 the
+-- corrected one, 0, with which the printed 1 to 255 are raw 1 to 255 (document 02, P2). Assumes nothing.
 use mathlib.Core.Path.{_≡_}
 use mathlib.Core.Bool.{Bool, cond, _&&_}
 use mathlib.Core.List.{List, [], _∷_}

@@ -1,7 +1,8 @@
 -- The signal catalogue: a line for each of the 199 signals of tables 2 to 13 and 15 to 19 of QC/T 1201.5-2023.
 -- A line reads: number, bits, resolution and offset in thousandths of the printed unit, lowest and highest raw count,
 -- and up to three marks, each with its first and last code. Its comment is the signal's English name with its unit, where it has one,
--- after a comma; docs/SIGNALS.md has the words of its codes. Assumes nothing.
+-- after a comma; docs/SIGNALS.md has the words of its codes. The numbers are those that are printed, but for the offset of 705 and 706:
+-- the printed 1 is a misprint, and there is none (document 02, P2). Assumes nothing.
 use mathlib.Core.List.{List, [], _∷_}
 use Prim.Native.Nat.{ℕ}
 use lib.IntN.{ℤ, pos, negℤ}
@@ -148,8 +149,8 @@ rows =
     ∷ row 702 8 1000 (plus 0) 1 255 unmarked unmarked unmarked  -- lowest cell voltage: cell number in its CSC
     ∷ row 703 8 1000 (plus 0) 1 255 unmarked unmarked unmarked  -- lowest cell voltage: CSC number
     ∷ row 704 16 1 (plus 0) 0 65535 (invalid 65535 65535) unmarked unmarked  -- highest cell voltage, V
-    ∷ row 705 8 1000 (plus 1000) 0 254 unmarked unmarked unmarked  -- highest cell voltage: CSC number
-    ∷ row 706 8 1000 (plus 1000) 0 254 unmarked unmarked unmarked  -- highest cell voltage: cell number in its CSC
+    ∷ row 705 8 1000 (plus 0) 1 255 unmarked unmarked unmarked  -- highest cell voltage: CSC number
+    ∷ row 706 8 1000 (plus 0) 1 255 unmarked unmarked unmarked  -- highest cell voltage: cell number in its CSC
     ∷ row 707 8 100 (plus 0) 0 50 unmarked unmarked unmarked  -- cell platform voltage, V
     ∷ row 708 8 100 (plus 0) 0 50 unmarked unmarked unmarked  -- lowest usable cell voltage, V
     ∷ row 709 8 100 (plus 0) 0 50 unmarked unmarked unmarked  -- highest usable cell voltage, V
