@@ -5,6 +5,7 @@ where a shape is lacking or left over; that tools/rows_moved.py names it; and th
     python3 tools/rows_check.py
 """
 
+import os
 import re
 import shutil
 import subprocess
@@ -21,8 +22,12 @@ OLD = {SIGNALS: "row 706 8 1000 (plus 0) 1 255 ", PRINTED: "row\t706\t8\t1000\t0
 NEW = {SIGNALS: "row 706 8 1000 (plus 0) 0 255 ", PRINTED: "row\t706\t8\t1000\t0\t0\t255\n", PLAIN: "{ 706, 8, 1000, 0, 0, 255,"}
 
 
+# The environment without git's own names, so that git works on the copy where a hook of git calls this script too.
+OWN_GIT = {name: word for name, word in os.environ.items() if not name.startswith("GIT_")}
+
+
 class Copy:
-    """A copy of the scripts and of what they read and write."""
+    """A copy of the scripts and of what they read and write. What it had at first is a tree of its own repository, and no commit."""
 
     def __init__(self, folder):
         self.folder = Path(folder)
@@ -30,8 +35,12 @@ class Copy:
         for name in (SIGNALS, SHAPES, PRINTED, PLAIN):
             (self.folder / name).parent.mkdir(parents=True, exist_ok=True)
             shutil.copy(ROOT / name, self.folder / name)
-        for words in (["init", "-q"], ["add", "-A"], ["-c", "user.name=rows", "-c", "user.email=rows", "commit", "-qm", "rows"]):
-            subprocess.run(["git", *words], cwd=self.folder, check=True)
+        self.git("init", "-q")
+        self.git("add", "-A")
+        self.first = self.git("write-tree").strip()
+
+    def git(self, *words):
+        return subprocess.run(["git", *words], cwd=self.folder, env=OWN_GIT, check=True, capture_output=True, text=True).stdout
 
     def change(self, name, old, new):
         text = (self.folder / name).read_text(encoding="utf-8")
@@ -39,7 +48,8 @@ class Copy:
         (self.folder / name).write_text(text.replace(old, new), encoding="utf-8")
 
     def run(self, script, *words):
-        done = subprocess.run([sys.executable, self.folder / "tools" / script, *words], cwd=self.folder, capture_output=True, text=True)
+        command = [sys.executable, self.folder / "tools" / script, *words]
+        done = subprocess.run(command, cwd=self.folder, env=OWN_GIT, capture_output=True, text=True)
         return done.returncode, done.stdout, done.stderr
 
     def changed_lines(self, name):
@@ -52,13 +62,13 @@ class Copy:
 def moved_row(copy):
     """One row, first in the definition alone, then everywhere."""
     rest = "rows are what they were, in the definition, as printed by the proved table, and in plain C\n"
-    yield copy.run("rows_moved.py", "HEAD") == (0, f"199 of 199 {rest}", ""), "no row moved"
+    yield copy.run("rows_moved.py", copy.first) == (0, f"199 of 199 {rest}", ""), "no row moved"
     copy.change(SIGNALS, OLD[SIGNALS], NEW[SIGNALS])
-    status, printed, said = copy.run("rows_moved.py", "HEAD")
+    status, printed, said = copy.run("rows_moved.py", copy.first)
     yield status == 1 and not printed and "don't have the same rows" in said, said
     for name in (PRINTED, PLAIN):
         copy.change(name, OLD[name], NEW[name])
-    yield copy.run("rows_moved.py", "HEAD") == (0, f"706\tlowest 1 to 0\n198 of 199 {rest}", ""), "one row moved"
+    yield copy.run("rows_moved.py", copy.first) == (0, f"706\tlowest 1 to 0\n198 of 199 {rest}", ""), "one row moved"
     status, printed, said = copy.run("rows_moved.py", "nothing")
     yield status == 1 and not printed and "git shows no" in said, said
     status, printed, said = copy.run("rows_moved.py")

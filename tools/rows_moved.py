@@ -1,7 +1,7 @@
 #!/usr/bin/env python3
 """Which rows of the catalogue are not what they were at a commit: every number of every row is compared.
 
-    python3 tools/rows_moved.py COMMIT
+    python3 tools/rows_moved.py COMMIT          (whatever git takes for one)
 
 It reads the rows in three places, at the commit and as they are now: the definition, what the proved table prints, to which the gate
 holds it (the `row` lines of the stored cases), and plain C. It stops where the three don't say the same.
