@@ -36,7 +36,8 @@ CELLS_BOOK = {CELLS: [(702, 0), (703, 8), (705, 16), (706, 24)]}
 
 def cell_counts():
     """Counts for that message: each signal at its limits, beside and past them, the others at 1; and all at once."""
-    for raw in (0, 1, 2, 254, 255, 256):
+    yield [1] * 4
+    for raw in (0, 2, 254, 255, 256):
         yield from ([raw if at == place else 1 for at in range(4)] for place in range(4))
         yield [raw] * 4
 

@@ -1,6 +1,7 @@
 #!/usr/bin/env python3
-"""Tries on a copy what a changed row gives: that tools/rows_code.py writes its numbers and its shape and nothing else anew, and stops
-where a shape is lacking or left over; that tools/rows_moved.py names it; and that a correction of what is not printed is refused.
+"""Tries on a copy what a changed row gives: that tools/rows_code.py and shapes_code.py write its numbers and its shape and nothing else
+anew, and stop where a line, a shape or a number is wrong; that tools/rows_moved.py names it; and that a correction of what is not printed
+is refused. The rows that it changes are taken from the lists: whichever they are.
 
     python3 tools/rows_check.py
 """
@@ -11,17 +12,18 @@ import shutil
 import subprocess
 import sys
 import tempfile
+from collections import Counter
 from pathlib import Path
 
-from listed_rows import ROOT, SHAPES, SIGNALS
-from rows_moved import PLAIN, PRINTED
+from listed_rows import ROOT, ROWS_FILE, SHAPES_FILE, listed
+from printed_cells import MISPRINTED_OFFSETS
+from rows_moved import PLAIN_FILE, PRINTED_FILE
+from shapes_code import FILES, shapes_of
 
-COLUMNS, ARMS, LIST = "crates/rows/src/columns.rt", "crates/catalogue/src/shapes.rt", "crates/catalogue/specs/Signals.antt"
-# 706 from raw 0 on, which is the shape of 1201 and no longer that of 702: in the definition, as printed, and in plain C
-OLD = {SIGNALS: "row 706 8 1000 (plus 0) 1 255 ", PRINTED: "row\t706\t8\t1000\t0\t1\t255\n", PLAIN: "{ 706, 8, 1000, 0, 1, 255,"}
-NEW = {SIGNALS: "row 706 8 1000 (plus 0) 0 255 ", PRINTED: "row\t706\t8\t1000\t0\t0\t255\n", PLAIN: "{ 706, 8, 1000, 0, 0, 255,"}
-
-
+COLUMNS_FILE = "crates/rows/src/columns.rt"
+LIST_FILE, NUMBERS_FILE, ARMS_FILE, PROOF_FILE = FILES
+# the text in front of a row's numbers and behind them, in each file that has a row in a line
+AROUND = {ROWS_FILE: ("row {} ", "  -- "), PRINTED_FILE: ("row\t{}\t", "\n"), PLAIN_FILE: ("{{ {}, ", "\n")}
 # The environment without git's own names, so that git works on the copy where a hook of git calls this script too.
 OWN_GIT = {name: word for name, word in os.environ.items() if not name.startswith("GIT_")}
 
@@ -32,7 +34,7 @@ class Copy:
     def __init__(self, folder):
         self.folder = Path(folder)
         shutil.copytree(ROOT / "tools", self.folder / "tools", ignore=shutil.ignore_patterns("__pycache__"))
-        for name in (SIGNALS, SHAPES, PRINTED, PLAIN):
+        for name in (ROWS_FILE, SHAPES_FILE, PRINTED_FILE, PLAIN_FILE, COLUMNS_FILE, *FILES):
             (self.folder / name).parent.mkdir(parents=True, exist_ok=True)
             shutil.copy(ROOT / name, self.folder / name)
         self.git("init", "-q")
@@ -47,6 +49,17 @@ class Copy:
         assert text.count(old) == 1, (name, old)
         (self.folder / name).write_text(text.replace(old, new), encoding="utf-8")
 
+    def put_back(self, *names):
+        self.git("checkout", self.first, "--", *names)
+
+    def like(self, name, number, donor):
+        """Gives a row the numbers of another, in one file."""
+        lines = []
+        for one in (number, donor):
+            before, behind = (part.format(one) for part in AROUND[name])
+            lines.append(re.search(re.escape(before) + ".*?" + re.escape(behind), (self.folder / name).read_text(encoding="utf-8"))[0])
+        self.change(name, lines[0], lines[1].replace(str(donor), str(number), 1))
+
     def run(self, script, *words):
         command = [sys.executable, self.folder / "tools" / script, *words]
         done = subprocess.run(command, cwd=self.folder, env=OWN_GIT, capture_output=True, text=True)
@@ -59,57 +72,95 @@ class Copy:
         return [pair for pair in zip(old, new) if pair[0] != pair[1]]
 
 
-def moved_row(copy):
+class Chosen:
+    """A signal whose shape others have too, one of another shape, and one whose shape is its own."""
+
+    def __init__(self):
+        rows, shapes = ([row for row, _ in listed(name)] for name in (ROWS_FILE, SHAPES_FILE))
+        self.shapes = dict(shapes_of(rows, shapes))
+        often = Counter(self.shapes.values())
+        self.one = next(number for number, shape in self.shapes.items() if often[shape] > 1)
+        self.other = next(number for number, shape in self.shapes.items() if shape != self.shapes[self.one])
+        self.alone = next(number for number, shape in self.shapes.items() if often[shape] == 1)
+
+
+def moved_row(copy, chosen):
     """One row, first in the definition alone, then everywhere."""
     rest = "rows are what they were, in the definition, as printed by the proved table, and in plain C\n"
-    yield copy.run("rows_moved.py", copy.first) == (0, f"199 of 199 {rest}", ""), "no row moved"
-    copy.change(SIGNALS, OLD[SIGNALS], NEW[SIGNALS])
+    count = len(chosen.shapes)
+    yield copy.run("rows_moved.py", copy.first) == (0, f"{count} of {count} {rest}", ""), "no row moved"
+    copy.like(ROWS_FILE, chosen.one, chosen.other)
     status, printed, said = copy.run("rows_moved.py", copy.first)
     yield status == 1 and not printed and "don't have the same rows" in said, said
-    for name in (PRINTED, PLAIN):
-        copy.change(name, OLD[name], NEW[name])
-    yield copy.run("rows_moved.py", copy.first) == (0, f"706\tlowest 1 to 0\n198 of 199 {rest}", ""), "one row moved"
+    for name in (PRINTED_FILE, PLAIN_FILE):
+        copy.like(name, chosen.one, chosen.other)
+    status, printed, said = copy.run("rows_moved.py", copy.first)
+    yield status == 0 and printed.startswith(f"{chosen.one}\t") and printed.endswith(f"\n{count - 1} of {count} {rest}") and printed.count("\n") == 2, printed + said
     status, printed, said = copy.run("rows_moved.py", "nothing")
     yield status == 1 and not printed and "git shows no" in said, said
     status, printed, said = copy.run("rows_moved.py")
     yield status == 1 and not printed and "rows_moved.py COMMIT" in said, said
 
 
-def its_code(copy):
-    """That row's columns and shape."""
-    yield copy.run("rows_code.py", copy.folder) == (0, "", ""), "rows_code.py"
-    yield copy.changed_lines(COLUMNS) == [("    1,", "    0,")], copy.changed_lines(COLUMNS)
-    yield copy.changed_lines(ARMS) == [("        706 => 14,", "        706 => 22,")], copy.changed_lines(ARMS)
-    ((old, new),) = copy.changed_lines(LIST)
-    yield old.replace("(706, 14)", "(706, 22)") == new, new
+def its_code(copy, chosen):
+    """That row's entries, its shape, and no arm and no line of the proof."""
+    status, printed, said = copy.run("rows_code.py")
+    (copy.folder / COLUMNS_FILE).write_text(printed, encoding="utf-8")
+    changed = copy.changed_lines(COLUMNS_FILE)
+    yield status == 0 and changed and all(new.endswith(f", // {chosen.one}") for _, new in changed), said or changed
+    entries = [re.findall(rf"(?m)^    (.*), // {number}$", printed)[1:] for number in (chosen.one, chosen.other)]
+    yield entries[0] == entries[1], entries
+    yield copy.run("shapes_code.py", copy.folder) == (0, "", ""), "shapes_code.py"
+    old, new = chosen.shapes[chosen.one], chosen.shapes[chosen.other]
+    yield copy.changed_lines(NUMBERS_FILE) == [(f"        {chosen.one} => {old},", f"        {chosen.one} => {new},")], copy.changed_lines(NUMBERS_FILE)
+    ((before, behind),) = copy.changed_lines(LIST_FILE)
+    yield before.replace(f"({chosen.one}, {old})", f"({chosen.one}, {new})") == behind, behind
+    yield not copy.changed_lines(ARMS_FILE) and not copy.changed_lines(PROOF_FILE), "an arm or a proof changed"
 
 
-def its_shape(copy):
-    """A row that no shape has, and a shape that no row has."""
-    copy.change(SIGNALS, NEW[SIGNALS], "row 706 8 1000 (plus 1000) 0 254 ")
-    status, _, said = copy.run("rows_code.py", copy.folder)
-    yield status == 1 and "no shape for the rows of [706]" in said, said
-    copy.change(SIGNALS, "row 706 8 1000 (plus 1000) 0 254 ", NEW[SIGNALS])
-    copy.change(SIGNALS, "row 1923 5 1000 (plus 0) 0 31 ", "row 1923 6 1000 (plus 0) 0 63 ")
-    status, _, said = copy.run("rows_code.py", copy.folder)
-    yield status == 1 and "no signal has shape [36]" in said, said
+def wrong_texts(chosen):
+    """(the file of a list, its text with something wrong in it, the words that say so)"""
+    rows, shapes = ((ROOT / name).read_text(encoding="utf-8") for name in (ROWS_FILE, SHAPES_FILE))
+    line = re.search(rf"(?m)^ +(?:∷ )?row {chosen.one} .*\n", rows)[0]
+    shape = re.search(rf"(?m)^ +(?:∷ )?row {chosen.shapes[chosen.one]} .*\n", shapes)[0]
+    again = re.sub(r"(?:∷ )?row \d+", "∷ row 99", shape)
+    yield ROWS_FILE, rows.replace(line, line + line), f"{chosen.one} stands behind {chosen.one}"
+    yield ROWS_FILE, rows.replace(line, line.replace("  -- ", " -- ")), "this line is not like the others"
+    yield ROWS_FILE, rows.replace(line, re.sub(r"row (\d+) (\d+) \d+", r"row \1 \2 12345", line)), f"no shape has the numbers of the rows [{chosen.one}]"
+    yield SHAPES_FILE, shapes.replace(shape, shape + again), "stands behind 99"
+    yield SHAPES_FILE, shapes.replace("\n    ∷ []", f"\n{again}    ∷ []"), "two shapes have the same numbers"
+    yield SHAPES_FILE, re.sub(r"noShape = \d+", "noShape = 0", shapes), "has to be above all of them"
 
 
-def the_correction(copy):
+def wrong_lists(copy, chosen):
+    copy.put_back(ROWS_FILE)
+    for name, text, words in wrong_texts(chosen):
+        (copy.folder / name).write_text(text, encoding="utf-8")
+        status, printed, said = copy.run("shapes_code.py", copy.folder)
+        yield status == 1 and not printed and words in said, f"{words}: {said or printed}"
+        copy.put_back(name)
+    copy.like(ROWS_FILE, chosen.alone, chosen.one)
+    status, _, said = copy.run("shapes_code.py", copy.folder)
+    yield status == 1 and f"no signal has shape [{chosen.shapes[chosen.alone]}]" in said, said
+
+
+def the_correction(copy, _):
     """The correction is of what is printed, and of nothing else."""
     standard = (copy.folder / "tools/standard.json").read_text(encoding="utf-8")
-    line = re.search(r'(?m)^\{"number": 705, .*$', standard)[0]
-    copy.change("tools/standard.json", line, line.replace("偏移量: 1 ", "偏移量: 0 "))
+    number, (printed, meant) = next(iter(MISPRINTED_OFFSETS.items()))
+    line = re.search(rf'(?m)^\{{"number": {number}, .*$', standard)[0]
+    copy.change("tools/standard.json", line, line.replace(f"偏移量: {printed} ", f"偏移量: {meant} "))
     status, _, said = copy.run("catalogue_vectors.py")
-    yield status == 1 and "705: the offset 1 is corrected, and 0 is printed" in said, said
+    yield status == 1 and f"{number}: the offset {printed} is corrected, and {meant} is printed" in said, said
 
 
 def main():
     if not shutil.which("git"):
         sys.exit(print("NOT RUN: what a changed row gives, for want of git"))
+    chosen = Chosen()
     with tempfile.TemporaryDirectory() as folder:
         copy = Copy(folder)
-        answers = [answer for part in (moved_row, its_code, its_shape, the_correction) for answer in part(copy)]
+        answers = [answer for part in (moved_row, its_code, wrong_lists, the_correction) for answer in part(copy, chosen)]
     faults = [said for right, said in answers if not right]
     print(f"rows: {len(answers)} cases of a changed row, {len(faults)} wrong")
     print("".join(f"  {fault}\n" for fault in faults), end="")

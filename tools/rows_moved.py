@@ -4,7 +4,7 @@
     python3 tools/rows_moved.py COMMIT          (whatever git takes for one)
 
 It reads the rows in three places, at the commit and as they are now: the definition, what the proved table prints, to which the gate
-holds it (the `row` lines of the stored cases), and plain C. It stops where the three don't say the same.
+holds it (the `row` lines of the stored cases), and plain C. It stops where the three don't list the same rows in the same order.
 """
 
 import re
@@ -12,16 +12,16 @@ import subprocess
 import sys
 
 from catalogue import Row
-from listed_rows import ROOT, SIGNALS, rows_in
+from listed_rows import ROOT, ROWS_FILE, rows_in
 
-PRINTED = "crates/catalogue_vectors/stdout"
-PLAIN = "host/plain_catalogue.h"
+PRINTED_FILE = "crates/catalogue_vectors/stdout"
+PLAIN_FILE = "host/plain_catalogue.h"
 PLAIN_ROW = re.compile(r"\{ (\d+), (\d+), (\d+), (-?\d+), (\d+), (\d+)u?, (\d), \{ (.*) \} \},")
 PLAIN_MARK = re.compile(r"\{ PC_(\w+), (\d+), (\d+) \}")
 
 
 def of_definition(text):
-    return [row for row, _ in rows_in(text)]
+    return [row for row, _ in rows_in(ROWS_FILE, text)]
 
 
 def of_printed(text):
@@ -33,26 +33,25 @@ def of_printed(text):
 
 
 def of_plain(text):
-    for *numbers, count, marked in PLAIN_ROW.findall(text):
+    for *numbers, _, marked in PLAIN_ROW.findall(text):
         marks = [(kind.lower(), int(first), int(last)) for kind, first, last in PLAIN_MARK.findall(marked)]
-        assert len(marks) == int(count), (PLAIN, numbers)
         yield Row(*(int(number) for number in numbers), marks, None)
 
 
-READERS = {SIGNALS: of_definition, PRINTED: of_printed, PLAIN: of_plain}
+READERS = {ROWS_FILE: of_definition, PRINTED_FILE: of_printed, PLAIN_FILE: of_plain}
 
 
 def rows(text_of):
-    """{number: its row's numbers by name}, the same in all three places."""
-    read = {name: {row.number: row.as_json() for row in reader(text_of(name))} for name, reader in READERS.items()}
+    """{number: its row's numbers by name}, the same list in all three places."""
+    read = {name: [row.as_json() for row in reader(text_of(name))] for name, reader in READERS.items()}
     for name, found in read.items():
-        if found != read[SIGNALS]:
-            sys.exit(f"rows_moved: {name} and {SIGNALS} don't have the same rows; tools/vectors says more")
-    return read[SIGNALS]
+        if found != read[ROWS_FILE]:
+            sys.exit(f"rows_moved: {name} and {ROWS_FILE} don't have the same rows; tools/vectors says more")
+    return {row["number"]: row for row in read[ROWS_FILE]}
 
 
 def moved(before, now):
-    """{number: what is another in its row}, of every number that one of them has."""
+    """(number, what is another in its row), of every number that one of them has."""
     for number in sorted(before.keys() | now.keys()):
         if number not in now or number not in before:
             yield number, "gone" if number not in now else "new"

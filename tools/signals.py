@@ -7,7 +7,7 @@ from typing import NamedTuple
 import catalogue
 import standard
 from english import CELLS, TITLES, UNITS, WORDS
-from listed_rows import SIGNALS, listed
+from listed_rows import ROWS_FILE, listed
 from printed_cells import MARK_WORDS, NO_CODES, codes_of, corrected, flags_of, meaning_of, version_limits
 
 
@@ -85,7 +85,7 @@ def check_words(titles, signals):
 
 def load():
     """({table: printed title}, [Shown]), after every check."""
-    (titles, signals), stored, rows = standard.load(), catalogue.load(), listed(SIGNALS)
+    (titles, signals), stored, rows = standard.load(), catalogue.load(), listed(ROWS_FILE)
     numbers = [signal.number for signal in signals]
     assert [row.number for row, _ in rows] == numbers == list(stored), "signals of list, print and catalogue.json"
     check_words(titles, signals)

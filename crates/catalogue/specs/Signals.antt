@@ -1,4 +1,4 @@
--- Each signal's number and its shape. tools/rows_code.py writes this file: the shape is the one of specs/Shapes.antt whose row has the
+-- Each signal's number and its shape. tools/shapes_code.py writes the list: the shape is the one of specs/Shapes.antt whose row has the
 -- numbers of the signal's row. proofs/Shaped.antt shows that it has. Assumes nothing.
 use mathlib.Core.List.{List, [], _∷_}
 use Prim.Native.Nat.{ℕ}

@@ -1,4 +1,4 @@
-// The class of one raw count of a signal, by the constants of its shape: an arm for each.
+// The class of one raw count of a signal, by the constants of its shape: an arm for each, which tools/shapes_code.py writes.
 use crate::Class;
 use crate::Raw;
 use crate::classes::class_in;

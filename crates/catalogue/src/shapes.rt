@@ -1,6 +1,6 @@
 // The shape of a signal: rows that differ in the number alone have the same. A const array is built anew at every read, and a row
 // is fifteen of them, so the class goes by the shape, found by a `match`, which becomes a jump; the contracts tie it to the catalogue.
-// tools/rows_code.py writes this file, arm by arm what specs/Signals.antt has.
+// tools/shapes_code.py writes the arms, which are what specs/Signals.antt lists.
 ghost use mathlib.Core.Path.{_≡_};
 ghost use Rattle.catalogue.specs.Shapes.{shapeOf};
 

@@ -1,19 +1,19 @@
 -- 705 and 706, the numbers of the highest cell, are read like those of the lowest, and count from 1 (document 02, P2). Assumes nothing.
-use mathlib.Core.Path.{_≡_, refl, sym, ap, _∙_, subst}
-use mathlib.Core.Bool.{false, cond}
-use mathlib.Core.List.{List, _∷_}
-use mathlib.Core.Option.{Option, some, Option·some-injective}
-use Prim.Native.Nat.{ℕ, zero, suc, _+_, _*_, _≤_, _<_}
+use mathlib.Core.Path.{_≡_, refl, sym, ap, _∙_}
+use mathlib.Core.Bool.{Bool, true, false, cond}
+use mathlib.Core.List.{List, [], _∷_}
+use mathlib.Core.Option.{Option, some}
+use Prim.Native.Nat.{ℕ, zero, suc, _+_, _*_, _^_, _≤_, _<_}
 use native.Mathlib.Nat.{le-of-suc-le-suc, not-suc-le-zero}
 use native.Mathlib.Omega.{arith}
 use lib.Dec.{eqb, leb}
 use lib.IntN.{pos}
-use lib.ListN.{length, getD, set, length-set}
-use borrow.Author.Tests.{eq-eqb, ne-eqb, le-leb, lt-leb}
+use lib.ListN.{length, getD, take, drop}
+use borrow.Author.Tests.{eq-eqb, le-leb, lt-leb}
 use Rattle.rows.specs.declared.Row.{Row}
 use Rattle.rows.specs.Rows.{rows, row, plus, unmarked}
 use Rattle.bits.specs.Frame.{frameBytes}
-use Rattle.books.specs.Book.{Placement}
+use Rattle.books.specs.Book.{Placement, Message}
 use Rattle.catalogue.specs.declared.Raw.{Raw}
 use Rattle.catalogue.specs.declared.Class.the-variants.{Value, Outside}
 use Rattle.catalogue.specs.Find.{rowOf, bitsOf}
@@ -21,13 +21,12 @@ use Rattle.catalogue.specs.Class.{between, classFor, classOf}
 use Rattle.framing.specs.declared.Packing.{Packing}
 use Rattle.framing.specs.declared.Packing.the-variants.{Packed, TooWide, ReservedOrOutside}
 use Rattle.framing.specs.Messages.{checksumNumber}
-use Rattle.framing.specs.Packing.{packable, judgedValues, packByMessage, packing, packingNumber}
-use Rattle.framing.proofs.Answers.{WasPacked, was-packed, packed-was}
-use Rattle.framing.proofs.Putting.{Accepted, accepted, accepted-judged}
+use Rattle.framing.specs.Packing.{packable, judgedValues, packedFrame, packedOr, packByMessage, packing, packingNumber}
+use Rattle.framing.specs.Demand.{placementAt}
 use Rattle.doubles.specs.Doubles.{inUnits}
 use Rattle.doubles.proofs.Values.{value-whole}
 use Rattle.dash.specs.Answer.{dashFor, dashOf}
-use Rattle.demands.specs.HighestCell.{count, ReadLike, PackedWith, CountsFromOne}
+use Rattle.demands.specs.HighestCell.{rawCount, ReadLike, ComesTo, CountsFromOne}
 
 -- ---- like their twins
 
@@ -38,6 +37,38 @@ csc-like-lowest raw = refl
 pub cell-like-lowest : ReadLike 706 702
 unfolding classOf rowOf rows
 cell-like-lowest raw = refl
+
+-- ---- behind values that are not refused the next ones decide
+
+one-on : (a b c : Bool) (x y : Packing) → cond a x (cond b TooWide (cond c x ReservedOrOutside)) ≡ Packed
+    → (x ≡ Packed) × (cond a y (cond b TooWide (cond c y ReservedOrOutside)) ≡ y)
+one-on true b c x y e = (e, refl)
+one-on false true c x y e = absurd (omega (arith, ap packingNumber e))
+one-on false false true x y e = (e, refl)
+one-on false false false x y e = absurd (omega (arith, ap packingNumber e))
+
+no-values : (ps : List Placement) → judgedValues ps [] ≡ Packed
+unfolding judgedValues
+no-values [] = refl
+no-values (p ∷ ps) = refl
+
+goes-on : (i : ℕ) (ps : List Placement) (vs : List ℕ) → judgedValues (take i ps) (take i vs) ≡ Packed → judgedValues ps vs ≡ judgedValues (drop i ps) (drop i vs)
+unfolding judgedValues
+goes-on zero ps vs e = refl
+goes-on (suc i) [] vs e = refl
+goes-on (suc i) (p ∷ ps) [] e = sym (no-values (drop i ps))
+goes-on (suc i) (p ∷ ps) (v ∷ vs) e =
+    let on = one-on (eqb (p .number) checksumNumber) (leb (2 ^ bitsOf (p .number)) v) (packable (classOf (p .number) (rawCount v))) _ (judgedValues ps vs) e in
+    on .1 ∙ goes-on i ps vs (on .0)
+
+-- from a position on: the value there, and those behind it
+from-there : (i : ℕ) (ps : List Placement) (vs : List ℕ) → length vs ≡ length ps → i < length vs
+    → judgedValues (drop i ps) (drop i vs) ≡ judgedValues (getD ps i (record { number = 0; start = 0 }) ∷ drop (suc i) ps) (getD vs i 0 ∷ drop (suc i) vs)
+from-there i [] [] n h = absurd (not-suc-le-zero h)
+from-there i [] (v ∷ vs) n h = absurd (omega arith)
+from-there i (p ∷ ps) [] n h = absurd (omega arith)
+from-there zero (p ∷ ps) (v ∷ vs) n h = refl
+from-there (suc i) (p ∷ ps) (v ∷ vs) n h = from-there i ps vs (omega arith) (le-of-suc-le-suc h)
 
 -- ---- from 1 on
 
@@ -50,73 +81,44 @@ module _ (number : ℕ) (here : rowOf number ≡ some (fromOne number)) (other :
   unfolding classOf
   by-row raw = ap (λ (o : Option Row). classFor o raw) here
 
-  outside : classOf number (count 0) ≡ Outside (count 0)
+  outside : classOf number (rawCount 0) ≡ Outside (rawCount 0)
   unfolding between
-  outside = by-row (count 0) ∙ refl
+  outside = by-row (rawCount 0) ∙ refl
 
-  value : (n : ℕ) → 1 ≤ n → n ≤ 255 → classOf number (count n) ≡ Value (record { 0 = pos (n * 1000) })
+  value : (n : ℕ) → 1 ≤ n → n ≤ 255 → classOf number (rawCount n) ≡ Value (record { 0 = pos (n * 1000) })
   unfolding between
   value n low high =
       let no-offset : n * 1000 + 0 ≡ n * 1000 = omega arith in
-      by-row (count n)
+      by-row (rawCount n)
       ∙ simp (lt-leb 256 n (omega arith), lt-leb n 0 (omega arith), le-leb 1 n low, le-leb n 255 high)
       (ap (λ (k : ℕ). Value (record { 0 = pos k })) no-offset)
 
-  -- ---- packing
-
-  -- a raw count of the signal is judged by its bits and its class
+  -- a value of the signal is judged by its bits and its class
   judged : (p : Placement) (ps : List Placement) (v : ℕ) (vs : List ℕ) → p .number ≡ number
-      → judgedValues (p ∷ ps) (v ∷ vs) ≡ cond (leb 256 v) TooWide (cond (packable (classOf number (count v))) (judgedValues ps vs) ReservedOrOutside)
+      → judgedValues (p ∷ ps) (v ∷ vs) ≡ cond (leb 256 v) TooWide (cond (packable (classOf number (rawCount v))) (judgedValues ps vs) ReservedOrOutside)
   unfolding judgedValues bitsOf
   judged p ps v vs e = simp (e, other, here)
 
-  barred : (p : Placement) (ps : List Placement) (vs : List ℕ) → p .number ≡ number → judgedValues (p ∷ ps) (0 ∷ vs) ≡ ReservedOrOutside
-  barred p ps vs e = judged p ps 0 vs e ∙ simp outside
+  module _ (words : List ℕ) (identifier : ℕ) (vs lent : List ℕ) (m : Message) (i : ℕ) (c : ComesTo number words identifier vs lent m i) where
+    by-values : packing words identifier vs lent ≡ (judgedValues (m .placements) vs, packedOr (judgedValues (m .placements) vs) (packedFrame m vs) lent)
+    unfolding packing packByMessage
+    by-values = rw (c .taken, c .found, eq-eqb (length vs) (length (m .placements)) (c .many), eq-eqb (length lent) frameBytes (c .eight)) refl
 
-  passed : (n : ℕ) → 1 ≤ n → n ≤ 255 → (p : Placement) (ps : List Placement) (vs : List ℕ) → p .number ≡ number → judgedValues (p ∷ ps) (n ∷ vs) ≡ judgedValues ps vs
-  passed n low high p ps vs e = judged p ps n vs e ∙ simp (lt-leb 256 n (omega arith), value n low high)
+    by-this : judgedValues (m .placements) vs
+        ≡ cond (leb 256 (getD vs i 0)) TooWide (cond (packable (classOf number (rawCount (getD vs i 0)))) (judgedValues (drop (suc i) (m .placements)) (drop (suc i) vs)) ReservedOrOutside)
+    by-this =
+        goes-on i (m .placements) vs (c .before)
+        ∙ from-there i (m .placements) vs (c .many) (c .within)
+        ∙ judged (placementAt m i) (drop (suc i) (m .placements)) (getD vs i 0) (drop (suc i) vs) (c .signal)
 
-  abbrev nowhere : Placement
-  nowhere = record { number = 0; start = 0 }
+    zero-barred : getD vs i 0 ≡ 0 → packing words identifier vs lent ≡ (ReservedOrOutside, lent)
+    zero-barred z = by-values ∙ ap (λ (r : Packing). (r, packedOr r (packedFrame m vs) lent)) (by-this ∙ simp (z, outside))
 
-  -- accepted values with another one at a position of the signal: what is said of that one
-  module _ (n : ℕ) (r : Packing) (one : (p : Placement) (ps : List Placement) (vs : List ℕ) → p .number ≡ number → judgedValues ps vs ≡ Packed → judgedValues (p ∷ ps) (n ∷ vs) ≡ r) where
-    put-at : {ps : List Placement} {vs : List ℕ} → Accepted ps vs → (i : ℕ) → i < length ps → getD ps i nowhere .number ≡ number → judgedValues ps (set vs i n) ≡ r
-    unfolding judgedValues
-    put-at Accepted.none i h e = absurd (not-suc-le-zero h)
-    put-at (Accepted.skip {p} {ps} {v} {vs} k a) zero h e = one p ps vs e (accepted-judged a)
-    put-at (Accepted.skip {p} {ps} {v} {vs} k a) (suc i) h e = rw (eq-eqb (p .number) checksumNumber k) (put-at a i (le-of-suc-le-suc h) e)
-    put-at (Accepted.fine {p} {ps} {v} {vs} o l k a) zero h e = one p ps vs e (accepted-judged a)
-    put-at (Accepted.fine {p} {ps} {v} {vs} o l k a) (suc i) h e =
-        rw (ne-eqb (p .number) checksumNumber o, lt-leb _ v l, k) (put-at a i (le-of-suc-le-suc h) e)
-
-    put-with : (words : List ℕ) (identifier : ℕ) (vs lent : List ℕ) (i : ℕ) → (at : PackedWith number words identifier vs lent i)
-        → WasPacked words identifier vs lent (at .message) × (judgedValues (at .message .placements) (set vs i n) ≡ r)
-    put-with words identifier vs lent i at =
-        let was = packed-was words identifier vs lent (ap packingNumber (at .packed)) in
-        let same = Option·some-injective (was .0) (at .message) (sym (was .1 .found) ∙ at .found) in
-        let w = subst (WasPacked words identifier vs lent) same (was .1) in
-        (w, put-at (accepted (at .message .placements) vs (w .many) (w .good)) i (at .within) (at .signal))
-
-  zero-barred : (words : List ℕ) (identifier : ℕ) (vs lent : List ℕ) (i : ℕ) → PackedWith number words identifier vs lent i
-      → packing words identifier (set vs i 0) lent ≡ (ReservedOrOutside, lent)
-  unfolding packing packByMessage
-  zero-barred words identifier vs lent i at =
-      let both = put-with 0 ReservedOrOutside (λ p ps vs' e k. barred p ps vs' e) words identifier vs lent i at in
-      rw (
-        both .0 .taken,
-        both .0 .found,
-        eq-eqb (length (set vs i 0)) (length (at .message .placements)) (length-set vs i 0 ∙ both .0 .many),
-        eq-eqb (length lent) frameBytes (both .0 .eight),
-        both .1,
-      ) refl
-
-  others-sent : (n : ℕ) → 1 ≤ n → n ≤ 255 → (words : List ℕ) (identifier : ℕ) (vs lent : List ℕ) (i : ℕ) → PackedWith number words identifier vs lent i
-      → packing words identifier (set vs i n) lent .0 ≡ Packed
-  others-sent n low high words identifier vs lent i at =
-      let both = put-with n Packed (λ p ps vs' e k. passed n low high p ps vs' e ∙ k) words identifier vs lent i at in
-      ap (λ (x : Packing × List ℕ). x .0)
-      (was-packed words identifier (set vs i n) lent (at .message) (record { taken = both .0 .taken; found = both .0 .found; many = length-set vs i n ∙ both .0 .many; eight = both .0 .eight; good = both .1 }))
+    others-sent : 1 ≤ getD vs i 0 → getD vs i 0 ≤ 255 → packing words identifier vs lent .0 ≡ judgedValues (drop (suc i) (m .placements)) (drop (suc i) vs)
+    others-sent low high =
+        ap (λ (x : Packing × List ℕ). x .0) by-values
+        ∙ by-this
+        ∙ simp (lt-leb 256 (getD vs i 0) (omega arith), value (getD vs i 0) low high)
 
   counts-from-one : CountsFromOne number
   unfolding dashOf
@@ -125,7 +127,7 @@ module _ (number : ℕ) (here : rowOf number ≡ some (fromOne number)) (other :
         zero-outside = outside;
         zero-shown = ap dashFor outside;
         reads = value;
-        shows = λ n low high. (inUnits (record { 0 = pos (n * 1000) }), (ap dashFor (value n low high), value-whole number (count n) _ (value n low high) (pos n) refl));
+        shows = λ n low high. (inUnits (record { 0 = pos (n * 1000) }), (ap dashFor (value n low high), value-whole number (rawCount n) _ (value n low high) (pos n) refl));
         zero-refused = zero-barred;
         sent = others-sent;
       }

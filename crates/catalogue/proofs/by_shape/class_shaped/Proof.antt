@@ -1,6 +1,6 @@
 -- `catalogue::by_shape::class_shaped` meets its contract: each arm does the work on the row of its shape, and what is left for
 -- `_` is no shape. Of each arm there is a line for what it asks, which has `kinded→` where the shape has a mark, and one for what it
--- gives. Assumes nothing.
+-- gives; tools/shapes_code.py writes them. Assumes nothing.
 use mathlib.Core.Path.{_≡_, sym, ap, subst}
 use mathlib.Core.Option.{Option}
 use Prim.Native.Nat.{ℕ}
