@@ -12,7 +12,7 @@ import json
 import sys
 
 from catalogue import Row, class_of
-from printed_cells import MARK_WORDS, codes_of, corrected, version_limits
+from printed_cells import MARK_WORDS, MISPRINTED_OFFSETS, codes_of, corrected, version_limits
 from standard import load
 
 # --- one row ----------------------------------------------------------------------------------------------------------
@@ -98,6 +98,7 @@ def output(rows):
 
 def main(arguments):
     _, signals = load()
+    assert MISPRINTED_OFFSETS.keys() <= {signal.number for signal in signals}, "a correction of no signal"
     rows = [row_of(signal) for signal in signals]
     check(rows)
     if arguments == ["--json"]:

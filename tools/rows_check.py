@@ -15,6 +15,7 @@ import tempfile
 from collections import Counter
 from pathlib import Path
 
+from catalogue import Row
 from listed_rows import ROOT, ROWS_FILE, SHAPES_FILE, listed
 from printed_cells import MISPRINTED_OFFSETS
 from rows_moved import PLAIN_FILE, PRINTED_FILE
@@ -50,15 +51,17 @@ class Copy:
         (self.folder / name).write_text(text.replace(old, new), encoding="utf-8")
 
     def put_back(self, *names):
-        self.git("checkout", self.first, "--", *names)
+        for name in names:
+            shutil.copy(ROOT / name, self.folder / name)
+
+    def numbers(self, name, number):
+        """A row as a file has it, from its number on."""
+        before, behind = (part.format(number) for part in AROUND[name])
+        return re.search(re.escape(before) + ".*?" + re.escape(behind), (self.folder / name).read_text(encoding="utf-8"))[0]
 
     def like(self, name, number, donor):
         """Gives a row the numbers of another, in one file."""
-        lines = []
-        for one in (number, donor):
-            before, behind = (part.format(one) for part in AROUND[name])
-            lines.append(re.search(re.escape(before) + ".*?" + re.escape(behind), (self.folder / name).read_text(encoding="utf-8"))[0])
-        self.change(name, lines[0], lines[1].replace(str(donor), str(number), 1))
+        self.change(name, self.numbers(name, number), self.numbers(name, donor).replace(str(donor), str(number), 1))
 
     def run(self, script, *words):
         command = [sys.executable, self.folder / "tools" / script, *words]
@@ -77,6 +80,8 @@ class Chosen:
 
     def __init__(self):
         rows, shapes = ([row for row, _ in listed(name)] for name in (ROWS_FILE, SHAPES_FILE))
+        self.rows = {row.number: row for row in rows}
+        self.free = min(set(range(len(shapes) + 1)) - {shape.number for shape in shapes})
         self.shapes = dict(shapes_of(rows, shapes))
         often = Counter(self.shapes.values())
         self.one = next(number for number, shape in self.shapes.items() if often[shape] > 1)
@@ -88,18 +93,28 @@ def moved_row(copy, chosen):
     """One row, first in the definition alone, then everywhere."""
     rest = "rows are what they were, in the definition, as printed by the proved table, and in plain C\n"
     count = len(chosen.shapes)
-    yield copy.run("rows_moved.py", copy.first) == (0, f"{count} of {count} {rest}", ""), "no row moved"
+    answer = copy.run("rows_moved.py", copy.first)
+    yield answer == (0, f"{count} of {count} {rest}", ""), f"no row moved: {answer}"
     copy.like(ROWS_FILE, chosen.one, chosen.other)
     status, printed, said = copy.run("rows_moved.py", copy.first)
     yield status == 1 and not printed and "don't have the same rows" in said, said
     for name in (PRINTED_FILE, PLAIN_FILE):
         copy.like(name, chosen.one, chosen.other)
-    status, printed, said = copy.run("rows_moved.py", copy.first)
-    yield status == 0 and printed.startswith(f"{chosen.one}\t") and printed.endswith(f"\n{count - 1} of {count} {rest}") and printed.count("\n") == 2, printed + said
+    old, new = (chosen.rows[number].as_json() for number in (chosen.one, chosen.other))
+    what = ", ".join(f"{field} {old[field]} to {new[field]}" for field in Row.FIELDS[1:] if old[field] != new[field])
+    answer = copy.run("rows_moved.py", copy.first)
+    yield answer == (0, f"{chosen.one}\t{what}\n{count - 1} of {count} {rest}", ""), f"one row moved: {answer}"
     status, printed, said = copy.run("rows_moved.py", "nothing")
     yield status == 1 and not printed and "git shows no" in said, said
     status, printed, said = copy.run("rows_moved.py")
     yield status == 1 and not printed and "rows_moved.py COMMIT" in said, said
+    last = max(chosen.rows)
+    for name in AROUND:
+        copy.change(name, copy.numbers(name, last), copy.numbers(name, last).replace(str(last), str(last + 1), 1))
+    answer = copy.run("rows_moved.py", copy.first)
+    yield answer == (0, f"{chosen.one}\t{what}\n{last}\tgone\n{last + 1}\tnew\n{count - 2} of {count} {rest}", ""), f"a row gone, another new: {answer}"
+    copy.put_back(*AROUND)
+    copy.like(ROWS_FILE, chosen.one, chosen.other)
 
 
 def its_code(copy, chosen):
@@ -110,7 +125,8 @@ def its_code(copy, chosen):
     yield status == 0 and changed and all(new.endswith(f", // {chosen.one}") for _, new in changed), said or changed
     entries = [re.findall(rf"(?m)^    (.*), // {number}$", printed)[1:] for number in (chosen.one, chosen.other)]
     yield entries[0] == entries[1], entries
-    yield copy.run("shapes_code.py", copy.folder) == (0, "", ""), "shapes_code.py"
+    answer = copy.run("shapes_code.py", copy.folder)
+    yield answer == (0, "", ""), f"shapes_code.py: {answer}"
     old, new = chosen.shapes[chosen.one], chosen.shapes[chosen.other]
     yield copy.changed_lines(NUMBERS_FILE) == [(f"        {chosen.one} => {old},", f"        {chosen.one} => {new},")], copy.changed_lines(NUMBERS_FILE)
     ((before, behind),) = copy.changed_lines(LIST_FILE)
@@ -126,7 +142,7 @@ def wrong_texts(chosen):
     again = re.sub(r"(?:∷ )?row \d+", "∷ row 99", shape)
     yield ROWS_FILE, rows.replace(line, line + line), f"{chosen.one} stands behind {chosen.one}"
     yield ROWS_FILE, rows.replace(line, line.replace("  -- ", " -- ")), "this line is not like the others"
-    yield ROWS_FILE, rows.replace(line, re.sub(r"row (\d+) (\d+) \d+", r"row \1 \2 12345", line)), f"no shape has the numbers of the rows [{chosen.one}]"
+    yield ROWS_FILE, rows.replace(line, re.sub(r"row (\d+) (\d+) \d+", r"row \1 \2 12345", line)), f"no shape has the numbers of the rows [{chosen.one}]: add one (the lowest free number is {chosen.free}) ("
     yield SHAPES_FILE, shapes.replace(shape, shape + again), "stands behind 99"
     yield SHAPES_FILE, shapes.replace("\n    ∷ []", f"\n{again}    ∷ []"), "two shapes have the same numbers"
     yield SHAPES_FILE, re.sub(r"noShape = \d+", "noShape = 0", shapes), "has to be above all of them"
@@ -141,7 +157,29 @@ def wrong_lists(copy, chosen):
         copy.put_back(name)
     copy.like(ROWS_FILE, chosen.alone, chosen.one)
     status, _, said = copy.run("shapes_code.py", copy.folder)
-    yield status == 1 and f"no signal has shape [{chosen.shapes[chosen.alone]}]" in said, said
+    yield status == 1 and f"no signal has shape [{chosen.shapes[chosen.alone]}]" in said, f"a shape that no signal has: {said}"
+    copy.put_back(ROWS_FILE)
+    status, _, said = copy.run("shapes_code.py")
+    yield status == 1 and "shapes_code.py DIR" in said, f"no folder: {said}"
+
+
+def own_shape(copy, chosen):
+    """A shape more, above all others, for a signal that had one with others: its arm, its lines in the proof, and what is no shape."""
+    shapes = (ROOT / SHAPES_FILE).read_text(encoding="utf-8")
+    number = int(re.search(r"noShape = (\d+)", shapes)[1])
+    line = re.search(rf"(?m)^ +(?:∷ )?row {chosen.shapes[chosen.one]} .*\n", shapes)[0]
+    wider = re.sub(r"row \d+ (\d+) \d+", rf"row {number} \1 12345", line)
+    copy.change(SHAPES_FILE, "\n    ∷ []", "\n" + re.sub(r" +(?:∷ )?row", "    ∷ row", wider) + "    ∷ []")
+    copy.change(SHAPES_FILE, f"noShape = {number}", f"noShape = {number + 1}")
+    copy.change(ROWS_FILE, f"row {chosen.one} {chosen.rows[chosen.one].bits} {chosen.rows[chosen.one].resolution} ", f"row {chosen.one} {chosen.rows[chosen.one].bits} 12345 ")
+    answer = copy.run("shapes_code.py", copy.folder)
+    yield answer == (0, "", ""), f"a shape more: {answer}"
+    arms, proof = ((copy.folder / name).read_text(encoding="utf-8") for name in (ARMS_FILE, PROOF_FILE))
+    old_proof = (ROOT / PROOF_FILE).read_text(encoding="utf-8")
+    yield re.search(rf"(?m)^        {number} => \w+\(\s*\d+,\s+12345,", arms) is not None, arms
+    yield [proof.count(words) - old_proof.count(words) for words in ("(λ c κs. search", "(λ c. search arm)")] == [1, 1], proof
+    changed = [(f"        {chosen.one} => {chosen.shapes[chosen.one]},", f"        {chosen.one} => {number},"), (f"        _ => {number},", f"        _ => {number + 1},")]
+    yield copy.changed_lines(NUMBERS_FILE) == changed, copy.changed_lines(NUMBERS_FILE)
 
 
 def the_correction(copy, _):
@@ -151,7 +189,7 @@ def the_correction(copy, _):
     line = re.search(rf'(?m)^\{{"number": {number}, .*$', standard)[0]
     copy.change("tools/standard.json", line, line.replace(f"偏移量: {printed} ", f"偏移量: {meant} "))
     status, _, said = copy.run("catalogue_vectors.py")
-    yield status == 1 and f"{number}: the offset {printed} is corrected, and {meant} is printed" in said, said
+    yield status == 1 and f"{number}: the offset {printed} is corrected, and {meant} is printed" in said, f"the correction: {said}"
 
 
 def main():
@@ -160,7 +198,7 @@ def main():
     chosen = Chosen()
     with tempfile.TemporaryDirectory() as folder:
         copy = Copy(folder)
-        answers = [answer for part in (moved_row, its_code, wrong_lists, the_correction) for answer in part(copy, chosen)]
+        answers = [answer for part in (moved_row, its_code, wrong_lists, own_shape, the_correction) for answer in part(copy, chosen)]
     faults = [said for right, said in answers if not right]
     print(f"rows: {len(answers)} cases of a changed row, {len(faults)} wrong")
     print("".join(f"  {fault}\n" for fault in faults), end="")

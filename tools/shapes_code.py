@@ -18,7 +18,7 @@ FOLDER = "crates/catalogue/"
 # {file: (the text before the lines, the text behind them)}
 FILES = {
     FOLDER + "specs/Signals.antt": ("signals =\n", "    ∷ []\n"),
-    FOLDER + "src/shapes.rt": ("    match number {\n", "        _ =>"),
+    FOLDER + "src/shapes.rt": ("    match number {\n", "    }\n"),
     FOLDER + "src/by_shape.rt": ("    match shape {\n", "        _ =>"),
     FOLDER + "proofs/by_shape/class_shaped/Proof.antt": ("    (tie.spec\n", "    (λ c. ap "),
 }
@@ -47,11 +47,12 @@ def shapes_of(rows, shapes):
     if shapes[-1].number >= no_shape():
         stop(f"{shapes[-1].number} is no number for a shape: noShape is {no_shape()}, and has to be above all of them")
     lacking = [row.number for row in rows if row.shape() not in by_shape]
+    found = [(row.number, by_shape[row.shape()]) for row in rows if row.shape() in by_shape]
+    unused = sorted(set(by_shape.values()) - {shape for _, shape in found})
     if lacking:
         free = min(set(range(len(shapes) + 1)) - {row.number for row in shapes})
-        stop(f"no shape has the numbers of the rows {lacking}: add one; the lowest free number is {free}")
-    found = [(row.number, by_shape[row.shape()]) for row in rows]
-    unused = sorted(set(by_shape.values()) - {shape for _, shape in found})
+        instead = f", or change the line of {unused}, which no signal has any more" if unused else ""
+        stop(f"no shape has the numbers of the rows {lacking}: add one (the lowest free number is {free}){instead}")
     if unused:
         stop(f"no signal has shape {unused}: take its line out, and leave its number free")
     return found
@@ -96,7 +97,7 @@ def main():
         sys.exit(__doc__)
     rows, shapes = ([row for row, _ in listed(name)] for name in (ROWS_FILE, SHAPES_FILE))
     found = shapes_of(rows, shapes)
-    number_arms = "".join(f"        {number} => {shape},\n" for number, shape in found)
+    number_arms = "".join(f"        {number} => {shape},\n" for number, shape in [*found, ("_", no_shape())])
     for name, lines in zip(FILES, (pairs(found), number_arms, "".join(arm(shape) for shape in shapes), proof_lines(shapes))):
         path = Path(sys.argv[1]) / name
         path.parent.mkdir(parents=True, exist_ok=True)

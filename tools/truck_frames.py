@@ -41,6 +41,8 @@ ODD_LINES = [
 
 
 def main():
+    if len(sys.argv) != 2:
+        sys.exit(__doc__)
     book_text = open(os.path.join(EXAMPLES, "truck.book"), "rb").read()
     answer, book = read_book(book_text)
     assert answer[0] == "ok", answer
