@@ -67,7 +67,7 @@ module _ (a b c d : List ℕ) (la : length a ≡ messageLimit) (lb : length b �
 ends-less : (n k : ℕ) → (n + k) - n ≡ k
 ends-less n k = omega arith
 
-shown-back : (n : ℕ) (ms : List Message) → shown n (identifiers ms) (endsAfter n ms) (allPlacements ms) ≡ ms
+pub shown-back : (n : ℕ) (ms : List Message) → shown n (identifiers ms) (endsAfter n ms) (allPlacements ms) ≡ ms
 unfolding shown endsAfter allPlacements
 shown-back n [] = refl
 shown-back n (m ∷ ms) =

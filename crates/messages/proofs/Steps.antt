@@ -6,37 +6,17 @@ use Prim.Native.Nat.{ℕ, _+_, _≤_, _<_}
 use native.Mathlib.Omega.{arith}
 use native.Mathlib.Numerals.{add-one}
 use lib.Dec.{eqb}
-use lib.ListN.{length, getD, drop, set, drop-of-length-le}
-use lib.Seq.{drop-cons, sets, length-sets}
+use lib.ListN.{length, getD, set}
+use lib.Seq.{sets, length-sets}
 use Rattle.bits.specs.Word.{Fits, fieldOf, bytesOf}
 use Rattle.bits.specs.Checksum.{checksumOf}
 use Rattle.books.specs.Book.{Placement}
 use Rattle.books.specs.Lines.{isIn}
 use Rattle.books.specs.Words.{sideBySide}
+pub use Rattle.books.proofs.Sides.{from, placementAt, rest, rest-more, rest-none}
 use Rattle.catalogue.specs.Find.{bitsOf}
 use Rattle.framing.specs.Messages.{checksumNumber, checksumStart, checksumBits}
 use Rattle.messages.specs.Signals.{AllFit, checkHolds}
-
--- a list from i on, where i is within it
-pub from : (l : List ℕ) (i : ℕ) → i < length l → drop i l ≡ getD l i 0 ∷ drop (i + 1) l
-from l i h = drop-cons l i 0 h ∙ ap (λ (k : ℕ). getD l i 0 ∷ drop k l) (sym (add-one i))
-
--- ---- placements from i on
-
-abbrev pub placementAt : List ℕ → List ℕ → ℕ → Placement
-placementAt ns ss i = record { number = getD ns i 0; start = getD ss i 0 }
-
-abbrev pub rest : List ℕ → List ℕ → ℕ → List Placement
-rest ns ss i = sideBySide (drop i ns) (drop i ss)
-
-pub rest-more : (ns ss : List ℕ) (i : ℕ) → i < length ns → length ss ≡ length ns → rest ns ss i ≡ placementAt ns ss i ∷ rest ns ss (i + 1)
-unfolding sideBySide
-rest-more ns ss i h e =
-    ap (λ (l : List ℕ). sideBySide l (drop i ss)) (from ns i h) ∙ ap (λ (l : List ℕ). sideBySide (getD ns i 0 ∷ drop (i + 1) ns) l) (from ss i (omega arith))
-
-pub rest-none : (ns ss : List ℕ) (i : ℕ) → length ns ≤ i → rest ns ss i ≡ []
-unfolding sideBySide
-rest-none ns ss i h = ap (λ (l : List ℕ). sideBySide l (drop i ss)) (drop-of-length-le ns h)
 
 fit-first : {p : Placement} {ps : List Placement} → AllFit (p ∷ ps) → Fits (p .start) (bitsOf (p .number))
 fit-first (AllFit.more f fs) = f

@@ -123,9 +123,26 @@ decimal-written (b ∷ t) n e = go (ltb (suc (length t)) 1) (ltb 5 (suc (length 
         from-digits b t n few z (numeral-written 10 (omega arith) (omega arith) (b ∷ t) (suc (length t)) n refl e)
 
 -- no more digits are written than can be read
-width-few : (n : ℕ) → n < decimalLimit → decimalWidth n ≤ decimalDigits
-width-few n h = let s : Some n = some-width n h in omega (arith, s .wide .width, s .wide .few)
+pub width-few : (n : ℕ) → decimalWidth n ≤ decimalDigits
+unfolding decimalWidth
+width-few n = go (ltb n 10) (ltb n 100) (ltb n 1000) (ltb n 10000)
+  where
+    go : (a b c d : Bool) → cond a 1 (cond b 2 (cond c 3 (cond d 4 5))) ≤ decimalDigits
+    go true b c d = omega arith
+    go false true c d = omega arith
+    go false false true d = omega arith
+    go false false false true = omega arith
+    go false false false false = omega arith
+
+-- and as many as hold the number
+pub width-holds : (n : ℕ) → n < decimalLimit → n < 10 ^ decimalWidth n
+width-holds n h = let s : Some n = some-width n h in rw (s .wide .width) (s .wide .below)
+
+-- a decimal's length is its width
+pub decimal-long : (n : ℕ) → length (decimalText n) ≡ decimalWidth n
+unfolding decimalText
+decimal-long n = length-digits 10 (decimalWidth n) n
 
 pub length-decimal : (n : ℕ) → n < decimalLimit → length (decimalText n) ≤ decimalDigits
 unfolding decimalText
-length-decimal n h = rw (length-digits 10 (decimalWidth n) n) (width-few n h)
+length-decimal n h = rw (length-digits 10 (decimalWidth n) n) (width-few n)

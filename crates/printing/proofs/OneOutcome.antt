@@ -26,7 +26,7 @@ use Rattle.printing.proofs.numbers.put_signed as put-signed
 
 -- a clause that states that a text was put at a place, and one that says also how long it is at most
 module _ {M : Type 1} (𝓤 : URA M) (clause : ℕ × List ℕ → SProp 𝓤) (old : List ℕ) (at : ℕ) (text : List ℕ) where
-  one-put : ((x : ℕ × List ℕ) → clause x ≡ fact 𝓤 (Put old at text (x .1) (x .0))) → Only 𝓤 clause
+  pub one-put : ((x : ℕ × List ℕ) → clause x ≡ fact 𝓤 (Put old at text (x .1) (x .0))) → Only 𝓤 clause
   one-put says =
       record {
         coded = coded× codedℕ (codedList codedℕ);

@@ -7,6 +7,9 @@ use native.Mathlib.Numerals.{add-one}
 use native.Mathlib.Omega.{arith}
 use lib.ListN.{length, drop, set, getD, length-append, length-set, drop-of-length-le}
 use lib.Seq.{sets, length-sets, drop-cons}
+use Rattle.numerals.specs.Written.{identifierText, decimalWidth, decimalText}
+use Rattle.numerals.proofs.Identifiers.{length-identifier}
+use Rattle.numerals.proofs.Decimals.{decimal-long}
 use Rattle.printing.specs.Put.{Put, PutWithin}
 
 pub sets-append : (l : List ℕ) (at : ℕ) (a b : List ℕ) → sets (sets l at a) (at + length a) b ≡ sets l at (a ++ b)
@@ -29,6 +32,13 @@ put-as {old} {at} {a} {b} {new} {next} e p = subst (λ (l : List ℕ). Put old a
 
 pub put-within : (most : ℕ) {old : List ℕ} {at : ℕ} {text new : List ℕ} {next : ℕ} → Put old at text new next → next ≤ at + most → PutWithin old at most text new next
 put-within most p h = record { put = p; short = omega (arith, p .now-at) }
+
+-- the two kinds of numbers of a route book
+pub put-identifier : {old new : List ℕ} {at next : ℕ} (i : ℕ) → (next ≡ at + 8) × (new ≡ sets old at (identifierText i)) → Put old at (identifierText i) new next
+put-identifier i p = record { now-there = p .1; now-at = omega (arith, p .0, length-identifier i) }
+
+pub put-decimal : {old new : List ℕ} {at next : ℕ} (n : ℕ) → (next ≡ at + decimalWidth n) × (new ≡ sets old at (decimalText n)) → Put old at (decimalText n) new next
+put-decimal n p = record { now-there = p .1; now-at = omega (arith, p .0, decimal-long n) }
 
 -- i bytes of a text are written: writing what is left gives the final list
 pub record Written (old : List ℕ) (at : ℕ) (text out : List ℕ) (i : ℕ) : Type 0 where

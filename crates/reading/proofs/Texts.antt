@@ -66,7 +66,7 @@ signal-writable ms p e =
     let b = leb-false startLimit (p .start) (a .1) in
     (omega (arith, known-small (p .number) (eqb-false (bitsOf (p .number)) 0 (a .0))), omega arith)
 
-messages-writable : {ms : List Message} → Built ms → AllWritable (messageLines ms)
+pub messages-writable : {ms : List Message} → Built ms → AllWritable (messageLines ms)
 unfolding messageLines
 messages-writable none = nothing
 messages-writable (message {ms} i b e) = subst AllWritable (sym (lines-message ms i)) (all-append (messages-writable b) (also (message-writable ms i e) nothing))

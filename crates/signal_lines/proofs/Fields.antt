@@ -1,11 +1,7 @@
 -- A printed line, field by field. Assumes nothing.
 use mathlib.Core.Path.{_≡_, refl, subst⁻¹}
 use mathlib.Core.List.{List, [], _∷_, _++_, append-assoc}
-use Prim.Native.Nat.{ℕ, _+_}
-use native.Mathlib.Omega.{arith}
-use lib.Seq.{sets}
-use Rattle.numerals.specs.Written.{identifierText}
-use Rattle.numerals.proofs.Digits.{length-digits}
+use Prim.Native.Nat.{ℕ}
 use Rattle.parts.specs.Parts.{tab, newline}
 use Rattle.parts.specs.Joined.{join}
 use Rattle.printing.specs.Put.{Put}
@@ -29,7 +25,3 @@ module _ {old one two new : List ℕ} {at m n next : ℕ} {a : List ℕ} where
 pub put-last : {old one new : List ℕ} {at m next : ℕ} {a : List ℕ} → Put old at a one m → Put one m (newline ∷ []) new next
     → Put old at (printedLine (a ∷ [])) new next
 put-last {old} {one} {new} {at} {m} {next} {a} p q = subst⁻¹ (λ (l : List ℕ). Put old at l new next) (field-last a) (and-then p q)
-
-pub put-identifier : {old new : List ℕ} {at next : ℕ} (i : ℕ) → (next ≡ at + 8) × (new ≡ sets old at (identifierText i)) → Put old at (identifierText i) new next
-unfolding identifierText
-put-identifier i p = record { now-there = p .1; now-at = omega (arith, p .0, length-digits 16 8 i) }

@@ -14,11 +14,17 @@ use contract.Lifetimes.{Lfts}
 use contract.Monad.{Fun}
 use denote.Ref.{RefT, now, at-last}
 use Rattle.only.specs.Only.{Only, only-this}
+use Rattle.only.specs.Outcomes.{OneResult, result-is}
 use Rattle.numerals.specs.Numeral.{identifierDigits}
-use Rattle.numerals.specs.Written.{digitsOf, identifierText}
+use Rattle.numerals.specs.Written.{digitsOf, identifierText, decimalWidth, decimalText}
+use Rattle.writing.proofs.decimal_width as decimal-width
+use Rattle.writing.proofs.put_decimal as put-decimal
 use Rattle.writing.proofs.put_digits as put-digits
 use Rattle.writing.proofs.put_hexadecimals as put-hexadecimals
 use Rattle.writing.proofs.put_identifier as put-identifier
+
+pub one-decimal-width : (M : Type 1) → OneResult M decimal-width.ended decimal-width.clauses
+one-decimal-width M = result-is (λ c. decimalWidth (c .arguments .0)) refl
 
 module _ {M : Type 1} (𝓤 : URA M) (H : Heap 𝓤) (A : Atoms 𝓤) (mem : Memory → SProp 𝓤) (run : Routine → Fun 𝓤) (κs : Lfts 1) (out : RefT (List ℕ)) (at : ℕ) where
   pub one-put-digits : (k n base : ℕ) → Only 𝓤 (λ (x : List ℕ). put-digits.clauses 𝓤 H A mem run κs (out, (at, (k, (n, (base, tt))))) .ensures tt tt (at-last out x, (at, (k, (n, (base, tt))))))
@@ -33,6 +39,17 @@ module _ {M : Type 1} (𝓤 : URA M) (H : Heap 𝓤) (A : Atoms 𝓤) (mem : Mem
         coded = coded× codedℕ (codedList codedℕ);
         outcome = (at + identifierDigits, sets (now out) at (identifierText n));
         Says = λ x. (x .0 ≡ at + identifierDigits) × (x .1 ≡ sets (now out) at (identifierText n));
+        says = λ x. refl;
+        there = (refl, refl);
+        alone = λ x h i. (h .0 i, h .1 i);
+      }
+
+  pub one-put-decimal : (n : ℕ) → Only 𝓤 (λ (x : ℕ × List ℕ). put-decimal.clauses 𝓤 H A mem run κs (out, (at, (n, tt))) .ensures tt (x .0) (at-last out (x .1), (at, (n, tt))))
+  one-put-decimal n =
+      record {
+        coded = coded× codedℕ (codedList codedℕ);
+        outcome = (at + decimalWidth n, sets (now out) at (decimalText n));
+        Says = λ x. (x .0 ≡ at + decimalWidth n) × (x .1 ≡ sets (now out) at (decimalText n));
         says = λ x. refl;
         there = (refl, refl);
         alone = λ x h i. (h .0 i, h .1 i);

@@ -1,12 +1,13 @@
-// Digits of a number into a lent slice at a place, and an identifier as a route book writes it, in 8 digits 0-9 A-F. Each function asks
-// for room and writes just those bytes; that of an identifier says where the next byte goes.
+// Digits of a number into a lent slice at a place, and the two kinds of numbers as a route book writes them: an identifier in 8 digits
+// 0-9 A-F, any other number in decimal digits, none needless. Each function asks for room and writes just those bytes; those of the
+// book's numbers say where the next byte goes.
 use numerals::IDENTIFIER_DIGITS;
 ghost use mathlib.Core.Path.{_≡_};
 ghost use Prim.Native.Nat.{_+_, _≤_, _<_};
 ghost use lib.ListN.{length};
 ghost use lib.Seq.{sets};
 ghost use Rattle.numerals.specs.Numeral.{identifierDigits};
-ghost use Rattle.numerals.specs.Written.{digitByte, digitsOf, identifierText};
+ghost use Rattle.numerals.specs.Written.{digitByte, digitsOf, identifierText, decimalWidth, decimalLimit, decimalText};
 ghost use Rattle.writing.specs.DigitRoom.{DigitRoom};
 
 fn digit_byte(d: u64) -> u8
@@ -54,4 +55,32 @@ pub fn put_identifier(out: &mut [u8], at: usize, n: u32) -> usize
 {
     put_digits(&mut *out, at, IDENTIFIER_DIGITS, n as u64, 16);
     at + IDENTIFIER_DIGITS
+}
+
+// How many decimal digits a number has, of those that a book can write.
+pub fn decimal_width(n: u32) -> usize
+    ensures { λ r. ⌜ r ≡ decimalWidth n ⌝ }
+{
+    if n < 10 {
+        return 1;
+    }
+    if n < 100 {
+        return 2;
+    }
+    if n < 1000 {
+        return 3;
+    }
+    if n < 10000 {
+        return 4;
+    }
+    5
+}
+
+pub fn put_decimal(out: &mut [u8], at: usize, n: u32) -> usize
+    requires { ⌜ (n < decimalLimit) × (at + decimalWidth n ≤ length (now out)) ⌝ }
+    ensures { λ r. ⌜ (r ≡ at + decimalWidth n) × (now (out .exit) ≡ sets (now (out .entry)) at (decimalText n)) ⌝ }
+{
+    let width = decimal_width(n);
+    put_digits(&mut *out, at, width, n as u64, 10);
+    at + width
 }

@@ -1,9 +1,9 @@
 -- `signal_lines::put_reading` meets its contract: identifier, number and the rest of the line, tabs between. Assumes nothing.
 use native.Mathlib.Omega.{arith}
-use Rattle.printing.proofs.Puts.{put-within}
+use Rattle.printing.proofs.Puts.{put-within, put-identifier}
 use Rattle.printing.proofs.Spelling.{natural-few}
 use Rattle.signal_lines.specs.Printed.{listedLineRoom}
-use Rattle.signal_lines.proofs.Fields.{put-more, put-identifier}
+use Rattle.signal_lines.proofs.Fields.{put-more}
 use borrow.Author.Needs.{needs}
 use Rattle.signal_lines.proofs.put_reading.Statement.{statement}
 use Rattle.signal_lines.proofs.put_reading.Tie as tie

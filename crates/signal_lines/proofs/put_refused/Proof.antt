@@ -1,8 +1,8 @@
 -- `signal_lines::put_refused` meets its contract: the identifier, a tab, and the rest of the line. Assumes nothing.
 use native.Mathlib.Omega.{arith}
-use Rattle.printing.proofs.Puts.{put-within}
+use Rattle.printing.proofs.Puts.{put-within, put-identifier}
 use Rattle.signal_lines.specs.Printed.{listedLineRoom}
-use Rattle.signal_lines.proofs.Fields.{put-more, put-identifier}
+use Rattle.signal_lines.proofs.Fields.{put-more}
 use borrow.Author.Needs.{needs}
 use Rattle.signal_lines.proofs.put_refused.Statement.{statement}
 use Rattle.signal_lines.proofs.put_refused.Tie as tie

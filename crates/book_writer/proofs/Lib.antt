@@ -1,0 +1,7 @@
+pub mod Columns
+pub mod TextLength
+pub mod Messages
+pub mod Shown
+pub mod Whole
+pub mod Decided
+pub mod OneOutcome

@@ -1,0 +1,60 @@
+-- Lines written one after another into a lent list: writing those that are left gives the final list. Assumes nothing.
+use mathlib.Core.Path.{_≡_, refl, sym, ap, _∙_}
+use Prim.Native.Nat.{ℕ, _+_, _≤_}
+use native.Mathlib.Nat.{add-zero}
+use native.Mathlib.Omega.{arith}
+use mathlib.Core.List.{List, [], _∷_, _++_}
+use lib.ListN.{length, length-append}
+use lib.Seq.{sets}
+use Rattle.parts.specs.Joined.{textOfLines}
+use Rattle.line.specs.declared.Line.{Line}
+use Rattle.printing.specs.Put.{Put}
+use Rattle.printing.proofs.Puts.{sets-append, put-length}
+use Rattle.line_writer.specs.Texts.{linesText, AllFewDigits, nothing, also, LinesFit}
+use Rattle.line_writer.proofs.Lengths.{text-append}
+
+pub record LinesLeft (old : List ℕ) (first : ℕ) (all : List Line) (out : List ℕ) (at : ℕ) (left : List Line) : Type 0 where
+  pub rest : sets out at (linesText left) ≡ sets old first (linesText all)
+  pub ends : at + length (linesText left) ≡ first + length (linesText all)
+  pub size : length out ≡ length old
+  pub digits : AllFewDigits left
+  pub room : first + length (linesText all) ≤ length old
+
+-- at first all are left
+pub all-left : {old : List ℕ} {first : ℕ} {all : List Line} → LinesFit old first all → LinesLeft old first all old first all
+all-left f = record { rest = refl; ends = refl; size = refl; digits = f .digits; room = f .room }
+
+-- parts of such lines
+first-digits : (xs left : List Line) → AllFewDigits (xs ++ left) → AllFewDigits xs
+first-digits [] left a = nothing
+first-digits (x ∷ xs) left (also w a) = also w (first-digits xs left a)
+
+rest-digits : (xs left : List Line) → AllFewDigits (xs ++ left) → AllFewDigits left
+rest-digits [] left a = a
+rest-digits (x ∷ xs) left (also w a) = rest-digits xs left a
+
+module _ {old : List ℕ} {first : ℕ} {all : List Line} {out : List ℕ} {at : ℕ} where
+  module _ (xs left : List Line) (l : LinesLeft old first all out at (xs ++ left)) where
+    both : length (linesText (xs ++ left)) ≡ length (linesText xs) + length (linesText left)
+    both = ap length (text-append xs left) ∙ length-append (linesText xs) (linesText left)
+
+    -- there is room for the first of those that are left
+    pub first-fit : LinesFit out at xs
+    first-fit = record { digits = first-digits xs left (l .digits); room = omega (arith, both, l .ends, l .size, l .room) }
+
+    -- which are then no longer left
+    pub lines-put : {new : List ℕ} {next : ℕ} → Put out at (linesText xs) new next → LinesLeft old first all new next left
+    lines-put {new} {next} p = record {
+      rest =
+          ap (λ (t : List ℕ). sets t next (linesText left)) (p .now-there) ∙ ap (λ (n : ℕ). sets (sets out at (linesText xs)) n (linesText left)) (p .now-at) ∙
+          sets-append out at (linesText xs) (linesText left) ∙ ap (sets out at) (sym (text-append xs left)) ∙ l .rest;
+      ends = omega (arith, both, l .ends, p .now-at);
+      size = put-length p ∙ l .size;
+      digits = rest-digits xs left (l .digits);
+      room = l .room;
+    }
+
+  -- in the end none is left, and all are written
+  pub none-left : LinesLeft old first all out at [] → Put old first (linesText all) out at
+  unfolding textOfLines
+  none-left l = record { now-there = l .rest; now-at = sym (add-zero at) ∙ l .ends }

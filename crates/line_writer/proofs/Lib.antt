@@ -1,0 +1,4 @@
+pub mod Lengths
+pub mod Pieces
+pub mod Left
+pub mod OneOutcome
