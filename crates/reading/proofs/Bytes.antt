@@ -94,7 +94,7 @@ unfolding lineText
 line-bytes l w = join-bytes tab (omega arith) (fields-bytes l w)
 
 -- a line that is not refused is well formed
-ill-passes : {A : Type 0} (b : Book) → refusalOf b line.IllFormed ≡ 0 → A
+pub ill-passes : {A : Type 0} (b : Book) → refusalOf b line.IllFormed ≡ 0 → A
 unfolding refusalOf
 ill-passes b e = let z : _≡_ {A = ℕ} 2 0 = e in absurd (omega arith)
 

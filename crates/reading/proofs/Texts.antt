@@ -40,7 +40,7 @@ all-append : {ls ms : List Line} → AllWritable ls → AllWritable ms → AllWr
 all-append nothing b = b
 all-append (also w a) b = also w (all-append a b)
 
-texts-free : (ls : List Line) → AllLack newline (map lineText ls)
+pub texts-free : (ls : List Line) → AllLack newline (map lineText ls)
 texts-free [] = no-part
 texts-free (l ∷ ls) = part (text-free l) (texts-free ls)
 
