@@ -17,6 +17,7 @@ use Rattle.reading.proofs.Texts.{text-read, texts-free}
 use Rattle.reading.proofs.Exact.{has-text}
 use Rattle.rewriting.specs.SameLines.{lineBytes, textLines, messageLinesOf, routeLinesOf, RoutesLast}
 use Rattle.rewriting.proofs.Growing.{messageTexts, routeTexts, every-line, message-lines, route-lines}
+use Rattle.rewriting.proofs.Orders.{only-order}
 use Rattle.rewriting.proofs.Parted.{whole, length-parted, last-parted, all-those, parted-last}
 
 -- ---- what is written of a book
@@ -30,12 +31,6 @@ unfolding textLines bookText bookLines
 written-lines b =
     ap (map lineBytes) (lines-written (map lineText (bookLines b)) (texts-free (bookLines b))) ∙ bytes-ended (map lineText (bookLines b)) ∙
     map-append lineText (messageLines (b .messages)) (map routeLine (b .routes))
-
--- ---- two texts of one book
-module _ (text other : List ℕ) {b : Book} {at to : List ℕ} (e : linesRead text ≡ passed b at) (f : linesRead other ≡ passed b to) where
-  -- ONLY THE ORDER between the two kinds may differ: they have the same M and S lines, and the same R lines
-  pub only-order : (messageLinesOf other ≡ messageLinesOf text) × (routeLinesOf other ≡ routeLinesOf text)
-  only-order = (sym (message-lines other f) ∙ message-lines text e, sym (route-lines other f) ∙ route-lines text e)
 
 -- ---- a text, and what is written of its book
 module _ (text : List ℕ) {b : Book} {at : List ℕ} (e : linesRead text ≡ passed b at) where
@@ -74,7 +69,11 @@ module _ (text : List ℕ) {b : Book} {at : List ℕ} (e : linesRead text ≡ pa
   routes-last =
       subst RoutesLast (sym (written-lines b ∙ rw (message-lines text e, route-lines text e))) (parted-last (textLines text) (all-those (textLines text)))
 
-  -- so it comes back, and so on: whatever book it is read as, the same is written of it
+  -- so no other text comes back
+  pub only-last : bookText b ≡ text → RoutesLast (textLines text)
+  only-last same = subst (λ (t : List ℕ). RoutesLast (textLines t)) same routes-last
+
+  -- what is written comes back, and so on: whatever book it is read as, the same is written of it
   pub fixed : {c : Book} {to : List ℕ} → linesRead (bookText b) ≡ passed c to → bookText c ≡ bookText b
   fixed f = ap bookText (same-book (sym f ∙ read-again))
 

@@ -40,7 +40,8 @@ record Grown (b c : Book) (ls : List (List ℕ)) : Type 0 where
   pub messages : messageTexts c ≡ messageTexts b ++ those isMOrSLine ls
   pub routes : routeTexts c ≡ routeTexts b ++ those isRLine ls
 
-after : (P : List ℕ → Bool) (x : List (List ℕ)) {y z : List (List ℕ)} (l : List ℕ) (ls : List (List ℕ)) → y ≡ x ++ those P (l ∷ []) → z ≡ y ++ those P ls → z ≡ x ++ those P (l ∷ ls)
+after : (P : List ℕ → Bool) (x : List (List ℕ)) {y z : List (List ℕ)} (l : List ℕ) (ls : List (List ℕ))
+    → y ≡ x ++ those P (l ∷ []) → z ≡ y ++ those P ls → z ≡ x ++ those P (l ∷ ls)
 after P x l ls e f =
     f ∙ ap (λ (t : List (List ℕ)). t ++ those P ls) e ∙ append-assoc x (those P (l ∷ [])) (those P ls) ∙
     ap (λ (t : List (List ℕ)). x ++ t) (sym (those-append P (l ∷ []) ls))
@@ -102,14 +103,16 @@ record Read (b c : Book) (ts : List TextLine) : Type 0 where
   pub kinds : MSAndRLines ts
   pub grown : Grown b c (map lineBytes ts)
 
-read-on : (b : Book) (l : List ℕ) (ts : List TextLine) {c : Book} → refusalOf b (lineMeaning l) ≡ 0 → Read (withLine b (lineMeaning l)) c ts → Read b c (ended l ∷ ts)
+read-on : (b : Book) (l : List ℕ) (ts : List TextLine) {c : Book} → refusalOf b (lineMeaning l) ≡ 0
+    → Read (withLine b (lineMeaning l)) c ts → Read b c (ended l ∷ ts)
 read-on b l ts {c} e r = by (canonical l)
   where
     by : (lineMeaning l ≡ line.IllFormed) ⊎ Canonical l (lineMeaning l) → Read b c (ended l ∷ ts)
     by (inl ill) = ill-passes b (subst (λ (m : Line). refusalOf b m ≡ 0) ill e)
     by (inr w) = record {
       kinds = subst (λ (x : List ℕ). MSAndRLines (ended x ∷ ts)) (sym (w .text)) (kind-with b (lineMeaning l) e (r .kinds));
-      grown = grown-on l (map lineBytes ts) (subst (λ (x : List ℕ). Grown b (withLine b (lineMeaning l)) (x ∷ [])) (sym (w .text)) (grown-with b (lineMeaning l) e)) (r .grown);
+      grown = grown-on l (map lineBytes ts)
+          (subst (λ (x : List ℕ). Grown b (withLine b (lineMeaning l)) (x ∷ [])) (sym (w .text)) (grown-with b (lineMeaning l) e)) (r .grown);
     }
 
 read-all : (n : ℕ) (b : Book) (at : List ℕ) (ts : List TextLine) {c : Book} {to : List ℕ} → readFrom n b at (map meaningOf ts) ≡ passed c to → Read b c ts

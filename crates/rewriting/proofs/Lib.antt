@@ -1,3 +1,4 @@
 pub mod Growing
 pub mod Parted
+pub mod Orders
 pub mod Back

@@ -12,18 +12,18 @@ use Rattle.parts.specs.Parts.{TextLine, newline, split, linesOf, lines}
 use Rattle.parts.specs.Joined.{join, textOfLines}
 use Rattle.parts.proofs.Joins.{join-split}
 use Rattle.line.specs.Meaning.{letterR}
-use Rattle.rewriting.specs.SameLines.{lineBytes, textLines, isMOrSLine, isRLine, MSAndRLines, no-line, m-or-s-line, r-line, AllRLines, no-more, RoutesLast, r-lines, no-r-line}
+use Rattle.rewriting.specs.SameLines.{lineBytes, textLines, isMOrSLine, isRLine, MSAndRLines, no-line, m-or-s-line, r-line, AllRLines, no-more, r-next, RoutesLast, r-lines, no-r-line}
 
 -- ---- no line is of both kinds
-not-both : {A : Type 0} (q : Bool) → q ≡ true → q ≡ false → A
+pub not-both : {A : Type 0} (q : Bool) → q ≡ true → q ≡ false → A
 not-both q e f = let z : _≡_ {A = ℕ} 0 1 = cc in absurd (omega arith)
 
-r-only : (l : List ℕ) → isRLine l ≡ true → isMOrSLine l ≡ false
+pub r-only : (l : List ℕ) → isRLine l ≡ true → isMOrSLine l ≡ false
 unfolding isRLine isMOrSLine
 r-only [] e = refl
 r-only (k ∷ l) e = rw (eqb-true k letterR e)
 
-m-or-s-only : (l : List ℕ) → isMOrSLine l ≡ true → isRLine l ≡ false
+pub m-or-s-only : (l : List ℕ) → isMOrSLine l ≡ true → isRLine l ≡ false
 m-or-s-only l e = go (isRLine l) refl
   where
     go : (q : Bool) → isRLine l ≡ q → q ≡ false
@@ -71,16 +71,17 @@ length-parted {ts} k =
 -- ---- lines with the R lines last
 none-of-m : {ls : List (List ℕ)} → AllRLines ls → those isMOrSLine ls ≡ []
 none-of-m no-more = refl
-none-of-m (r-line {l} e a) = rw (r-only l e) (none-of-m a)
+none-of-m (r-next {l} e a) = rw (r-only l e) (none-of-m a)
 
 all-of-r : {ls : List (List ℕ)} → AllRLines ls → those isRLine ls ≡ ls
 all-of-r no-more = refl
-all-of-r (r-line {l} e a) = rw e (ap (_∷_ l) (all-of-r a))
+all-of-r (r-next {l} e a) = rw e (ap (_∷_ l) (all-of-r a))
 
 all-r : {ls : List (List ℕ)} → AllRLines ls → those isMOrSLine ls ++ those isRLine ls ≡ ls
 all-r {ls} a = ap (λ (ms : List (List ℕ)). ms ++ those isRLine ls) (none-of-m a) ∙ all-of-r a
 
-pub last-parted : {ts : List TextLine} → MSAndRLines ts → RoutesLast (map lineBytes ts) → those isMOrSLine (map lineBytes ts) ++ those isRLine (map lineBytes ts) ≡ map lineBytes ts
+pub last-parted : {ts : List TextLine} → MSAndRLines ts → RoutesLast (map lineBytes ts)
+    → those isMOrSLine (map lineBytes ts) ++ those isRLine (map lineBytes ts) ≡ map lineBytes ts
 last-parted no-line r = refl
 last-parted (m-or-s-line e k) (r-lines a) = all-r a
 last-parted (m-or-s-line {l} e k) (no-r-line f r) = rw (e, f) (ap (_∷_ l) (last-parted k r))
@@ -93,7 +94,7 @@ all-those [] = no-more
 all-those (l ∷ ls) = go (isRLine l) refl (all-those ls)
   where
     go : (q : Bool) → isRLine l ≡ q → AllRLines (those isRLine ls) → AllRLines (cond q (l ∷ those isRLine ls) (those isRLine ls))
-    go true e a = r-line e a
+    go true e a = r-next e a
     go false e a = a
 
 pub parted-last : (ls : List (List ℕ)) {ms : List (List ℕ)} → AllRLines ms → RoutesLast (those isMOrSLine ls ++ ms)

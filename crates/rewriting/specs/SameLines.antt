@@ -40,11 +40,12 @@ pub data MSAndRLines : List TextLine → Type 0 where
   m-or-s-line : {l : List ℕ} {ls : List TextLine} → isMOrSLine l ≡ true → MSAndRLines ls → MSAndRLines (ended l ∷ ls)
   r-line : {l : List ℕ} {ls : List TextLine} → isRLine l ≡ true → MSAndRLines ls → MSAndRLines (ended l ∷ ls)
 
--- lines with the R lines last: some that are no R lines, then R lines alone
+-- R lines alone
 pub data AllRLines : List (List ℕ) → Type 0 where
   no-more : AllRLines []
-  r-line : {l : List ℕ} {ls : List (List ℕ)} → isRLine l ≡ true → AllRLines ls → AllRLines (l ∷ ls)
+  r-next : {l : List ℕ} {ls : List (List ℕ)} → isRLine l ≡ true → AllRLines ls → AllRLines (l ∷ ls)
 
+-- lines with the R lines last: some that are no R lines, then R lines alone
 pub data RoutesLast : List (List ℕ) → Type 0 where
   r-lines : {ls : List (List ℕ)} → AllRLines ls → RoutesLast ls
   no-r-line : {l : List ℕ} {ls : List (List ℕ)} → isRLine l ≡ false → RoutesLast ls → RoutesLast (l ∷ ls)

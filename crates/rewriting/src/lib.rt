@@ -1,1 +1,2 @@
-// No code: specs/ says which lines a text has, by their kinds, and proofs/ that writing a book back gives those of the text it was read from.
+// No code: specs/ says which lines a text has, by their kinds, and proofs/ that a text and what is written of its book have the same ones, and which texts
+// are read as one book.
