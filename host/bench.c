@@ -12,6 +12,7 @@
 
 struct face {
     uint32_t (*book_read)(const uint8_t *, uint64_t, uint32_t *, uint32_t *);
+    uint32_t (*book_write)(const uint32_t *, uint8_t *, uint64_t, uint32_t *);
     uint32_t (*class_of)(uint32_t, uint32_t, uint32_t *, int64_t *);
     uint32_t (*dash)(uint32_t, uint32_t, uint32_t *, double *);
     uint32_t (*frame_read)(const uint32_t *, uint32_t, const uint8_t *, uint64_t, uint32_t *, uint64_t, uint8_t *, uint64_t, int64_t *, uint64_t, uint32_t *);
@@ -22,10 +23,10 @@ struct face {
     uint32_t (*sleep_watch)(uint32_t *, uint32_t *, uint32_t, uint32_t);
 };
 
-static const struct face library = { pc_book_read, pc_class, pc_dash, pc_frame_read, pc_frame_pack, pc_spread, pc_fault_sum, pc_power_step, pc_sleep_watch };
-static const struct face plain = { plain_book_read, plain_class, plain_dash, plain_frame_read, plain_frame_pack, plain_spread, plain_fault_sum, plain_power_step, plain_sleep_watch };
+static const struct face library = { pc_book_read, pc_book_write, pc_class, pc_dash, pc_frame_read, pc_frame_pack, pc_spread, pc_fault_sum, pc_power_step, pc_sleep_watch };
+static const struct face plain = { plain_book_read, plain_book_write, plain_class, plain_dash, plain_frame_read, plain_frame_pack, plain_spread, plain_fault_sum, plain_power_step, plain_sleep_watch };
 
-static const struct face nothing = { no_book_read, no_class, no_dash, no_frame_read, no_frame_pack, no_spread, no_fault_sum, no_power_step, no_sleep_watch };
+static const struct face nothing = { no_book_read, no_book_write, no_class, no_dash, no_frame_read, no_frame_pack, no_spread, no_fault_sum, no_power_step, no_sleep_watch };
 
 /* The one that is measured. */
 static const struct face *face;
@@ -34,7 +35,7 @@ static const struct face *face;
 
 static struct made_text text;
 static uint32_t book[PC_BOOK_WORDS], message, first_signal, signal_count;
-static uint8_t frame[PC_FRAME_BYTES];
+static uint8_t frame[PC_FRAME_BYTES], written[PC_MOST_WRITTEN];
 static uint32_t values[PC_MOST_READINGS], raws[PC_MOST_READINGS], places[PC_MOST_ROUTES], counts[27];
 static uint8_t classes[PC_MOST_READINGS];
 static int64_t thousandths[PC_MOST_READINGS];
@@ -131,6 +132,12 @@ static uint32_t call_book_refused(uint32_t turn) {
     return 0;
 }
 
+static uint32_t call_book_write(uint32_t turn) {
+    uint32_t count;
+    (void)turn;
+    return face->book_write(book, written, sizeof written, &count);
+}
+
 /* Each of the 199 signals in turn. */
 static uint32_t call_class(uint32_t turn) {
     uint32_t class_code;
@@ -192,6 +199,8 @@ static const struct {
     { "book-read-30-bits", thirty_bits, call_book_read },
     { "book-read-loop", closed_chain, call_book_refused },
     { "book-read-doubling", double_chain, call_book_refused },
+    { "book-write-typical", typical_book, call_book_write },
+    { "book-write-full", full_book, call_book_write },
     { "frame-read-typical", typical_book, call_frame_read },
     { "frame-read-full", full_book, call_frame_read },
     { "frame-read-30-bits", thirty_bits, call_frame_read },

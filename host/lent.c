@@ -34,6 +34,10 @@ void lent_out(struct lent *block, struct chance *c, const char *name, const void
     memcpy(block->plain + at, block->was + at, whole);
 }
 
+const void *lent_was(const struct lent *block) {
+    return block->was + block->first;
+}
+
 void *lent_library(const struct lent *block) {
     return block->library + block->first;
 }
@@ -58,7 +62,7 @@ static int stands_around(const struct lent *block, const uint8_t *copy) {
 }
 
 const char *lent_fault(const struct lent *block, int must_stay) {
-    const uint8_t *was = block->was + block->first;
+    const void *was = lent_was(block);
     if (!still_filled(block, block->library))
         return "the library wrote past its end";
     if (!still_filled(block, block->plain))

@@ -23,6 +23,7 @@ int lent_open(struct lent *block);
    from one on; or so many bytes apart from it, at most LENT_WATCHED. At most LENT_ROOM - 2 x LENT_WATCHED bytes. */
 void lent_out(struct lent *block, struct chance *c, const char *name, const void *contents, size_t bytes, size_t apart);
 
+const void *lent_was(const struct lent *block);
 void *lent_library(const struct lent *block);
 void *lent_plain(const struct lent *block);
 

@@ -8,6 +8,10 @@ static uint32_t no_book_read(const uint8_t *a, uint64_t b, uint32_t *c, uint32_t
     (void)a, (void)b, (void)c, (void)d;
     return 0;
 }
+static uint32_t no_book_write(const uint32_t *a, uint8_t *b, uint64_t c, uint32_t *d) {
+    (void)a, (void)b, (void)c, (void)d;
+    return 0;
+}
 static uint32_t no_class(uint32_t a, uint32_t b, uint32_t *c, int64_t *d) {
     (void)a, (void)b, (void)c, (void)d;
     return 0;

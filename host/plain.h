@@ -6,6 +6,7 @@
 #include "punnetcrest.h"
 
 uint32_t plain_book_read(const uint8_t *text, uint64_t text_length, uint32_t book[PC_BOOK_WORDS], uint32_t *line);
+uint32_t plain_book_write(const uint32_t book[PC_BOOK_WORDS], uint8_t *text, uint64_t text_length, uint32_t *count);
 uint32_t plain_class(uint32_t number, uint32_t raw, uint32_t *class_code, int64_t *thousandths);
 uint32_t plain_dash(uint32_t number, uint32_t raw, uint32_t *class_code, double *reading);
 uint32_t plain_frame_read(const uint32_t book[PC_BOOK_WORDS], uint32_t identifier, const uint8_t *frame, uint64_t frame_length,
@@ -31,7 +32,8 @@ uint32_t plain_frame_read_tested(const uint32_t book[PC_BOOK_WORDS], uint32_t id
    route concerned; else 0. */
 uint32_t plain_routes_refusal(const uint32_t *from, const uint32_t *to, uint32_t count, uint32_t *lowest);
 
-/* Whether the message and signal tables of the book are those of a taken book. */
+/* Whether the message and signal tables of the book are those of a taken book; whether its routes are. */
 int plain_messages_taken(const uint32_t book[PC_BOOK_WORDS]);
+int plain_routes_taken(const uint32_t book[PC_BOOK_WORDS]);
 
 #endif

@@ -57,8 +57,7 @@ uint32_t plain_routes_refusal(const uint32_t *from, const uint32_t *to, uint32_t
     return PC_DONE;
 }
 
-/* Whether the routes of the book are those of a taken book. */
-static int routes_taken(const uint32_t book[PC_BOOK_WORDS]) {
+int plain_routes_taken(const uint32_t book[PC_BOOK_WORDS]) {
     uint32_t count = book[PC_BOOK_ROUTES], lowest;
     if (count > PC_MOST_ROUTES)
         return 0;
@@ -81,7 +80,7 @@ static uint32_t spread_from(const uint32_t book[PC_BOOK_WORDS], uint32_t place, 
 uint32_t plain_spread(const uint32_t book[PC_BOOK_WORDS], uint32_t bus, uint32_t identifier, uint32_t *places,
                       uint64_t places_length, uint32_t *count) {
     uint32_t spread[PC_MOST_ROUTES];
-    if (!routes_taken(book))
+    if (!plain_routes_taken(book))
         return PC_NOT_A_BOOK;
     if (bus > 7 || identifier >= (uint32_t)1 << 29)
         return PC_PLACE_OVER_LIMIT;

@@ -1,6 +1,7 @@
 /* Compiled before the plain sources, this makes of them a stand-in for the library: the test is tried against it, and against
    damaged copies of it. */
 #define plain_book_read pc_book_read
+#define plain_book_write pc_book_write
 #define plain_class pc_class
 #define plain_dash pc_dash
 #define plain_frame_read pc_frame_read
@@ -13,3 +14,4 @@
 #define plain_frame_read_tested stand_in_frame_read_tested
 #define plain_routes_refusal stand_in_routes_refusal
 #define plain_messages_taken stand_in_messages_taken
+#define plain_routes_taken stand_in_routes_taken

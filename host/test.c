@@ -12,6 +12,7 @@ static const struct {
     int refusals[16];             /* those that it gives, 0 among them, ended by -1 */
 } functions[FUNCTIONS] = {
     { "pc_book_read", { 0, 1, 2, 3, 4, 5, 6, 7, 8, 9, 10, 11, -1 } },
+    { "pc_book_write", { 0, 12, 71, -1 } },
     { "pc_class", { 0, 3, 26, -1 } },
     { "pc_dash", { 0, 3, 26, -1 } },
     { "pc_frame_read", { 0, 12, 21, 22, 23, 24, -1 } },
@@ -73,7 +74,7 @@ struct lent *lend_bytes(const char *name, const void *contents, size_t bytes) {
     return &blocks[used++];
 }
 
-static void fail(const char *what, const char *name) {
+void fail_case(const char *what, const char *name) {
     printf("%s: %s%s%s (seed %" PRIu64 ", group %" PRIu64 ", case %" PRIu64 ")\n", functions[calling].name, name, *name ? ": " : "", what,
            seed, group, cases);
     exit(1);
@@ -91,12 +92,12 @@ void judge(uint32_t library, uint32_t plain, int read_only) {
     char both[64];
     if (library != plain || !gives(calling, library)) {
         sprintf(both, "the library gave %" PRIu32 ", the plain one %" PRIu32, library, plain);
-        fail(both, "");
+        fail_case(both, "");
     }
     for (int i = 0; i < used; i++) {
         const char *fault = lent_fault(&blocks[i], i < read_only || (library != 0 && calling != BOOK_READ));
         if (fault)
-            fail(fault, blocks[i].name);
+            fail_case(fault, blocks[i].name);
     }
     met[calling][library]++;
 }
@@ -106,9 +107,9 @@ static void stopped(const void *address) {
     for (int i = 0; i < used; i++) {
         const char *trespass = lent_trespass(&blocks[i], address);
         if (trespass)
-            fail(trespass, blocks[i].name);
+            fail_case(trespass, blocks[i].name);
     }
-    fail("a read or write outside all that was lent", "");
+    fail_case("a read or write outside all that was lent", "");
 }
 
 /* ---- The run. */
@@ -129,9 +130,12 @@ static void try_group(void) {
     for (int i = 0; i < 10; i++)
         try_spread();
     for (int i = 0; i < 4; i++) {
+        try_book_write();
         try_row_in_frame();
         try_lent_edge();
     }
+    if (once_in(4))
+        try_longest_text();
 }
 
 /* Prints how often each refusal was met. Gives how many never were. */

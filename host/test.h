@@ -18,7 +18,7 @@ uint32_t any_number(void);
 
 /* ---- A case: begun, lent to, judged. */
 
-enum function { BOOK_READ, CLASS, DASH, FRAME_READ, FRAME_PACK, SPREAD, FAULT_SUM, POWER_STEP, SLEEP_START, SLEEP_WATCH, FUNCTIONS };
+enum function { BOOK_READ, BOOK_WRITE, CLASS, DASH, FRAME_READ, FRAME_PACK, SPREAD, FAULT_SUM, POWER_STEP, SLEEP_START, SLEEP_WATCH, FUNCTIONS };
 
 void begin_case(enum function f);
 
@@ -35,10 +35,14 @@ struct lent *lend_bytes(const char *name, const void *contents, size_t bytes);
    apart. */
 void judge(uint32_t library, uint32_t plain, int read_only);
 
+/* Ends the run and says what is wrong, and with which block where the name is not empty. */
+void fail_case(const char *what, const char *name);
+
 /* ---- Edges (test_edges.c): inputs that tell a rule from one that is off by one. Each family of them is counted one by one. */
 
 enum edges {
     LONG_LENGTHS, TEXT_LENGTHS, FULL_TABLES, FULL_LINES, EDGE_LINES, KNOTS, BOOK_COUNTS, LENT_EDGES, SPREAD_ROOMS, SPREAD_PLACES,
+    WRITE_COUNTS, WRITE_ROOMS, WRITE_BOOKS, WRITE_REFUSED, WRITE_LONGEST,
     ROW_COUNTS, ROW_FRAMES, SIGNAL_NUMBERS, READ_ROOMS, CHECKS, FRAME_LENGTHS, PACK_LENGTHS, PACK_COUNTS, FRAME_PLACES,
     FAULT_ALONE, FAULT_LIMITS, FAULT_LENGTHS, FAULT_AGREEMENT,
     POWER_RULES, POWER_VOLTAGES, POWER_HUNDREDTHS, POWER_CURRENTS, POWER_LIMITS, POWER_ORDER,
@@ -67,19 +71,27 @@ uint32_t place_in(const uint32_t *list, uint32_t count, uint32_t number);
 /* A book of a text that is taken. */
 void make_taken_book(uint32_t book[PC_BOOK_WORDS]);
 
+/* The text read by both. Gives the refusal, with the book and the line that they left. */
+uint32_t compare_book_read(const uint8_t *bytes, size_t length, uint32_t book[PC_BOOK_WORDS], uint32_t *line);
+
+/* The book written by both with a room of so many bytes. Gives the refusal. */
+uint32_t compare_book_write(const uint32_t book[PC_BOOK_WORDS], uint32_t room);
+
 /* Makes another of them the group's own. */
 void make_good_book(void);
 
 /* The group's book or an empty one, whole or damaged, or words by chance. */
 void choose_book(uint32_t book[PC_BOOK_WORDS]);
 
-/* Counts the edge where one of the three counts of a book is the most, or one over, there or in a book that is else empty, in
-   a call that tests it and gave this refusal. */
-void meet_count(const uint32_t book[PC_BOOK_WORDS], uint32_t count, uint32_t refusal);
+/* Counts the edge of the family where one of the three counts of a book is the most, or one over, there or in a book that is else
+   empty, in a call that tests it and gave this refusal. */
+void meet_count(enum edges family, const uint32_t book[PC_BOOK_WORDS], uint32_t count, uint32_t refusal);
 
 void try_long_length(void);
 void try_texts(void);
 void try_spread(void);
+void try_book_write(void);
+void try_longest_text(void);
 void try_classes(void);
 void try_frame_read(void);
 void try_frame_pack(void);

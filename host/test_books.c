@@ -72,6 +72,8 @@ void choose_book(uint32_t book[PC_BOOK_WORDS]) {
         for (int i = 0; i < PC_BOOK_WORDS; i++)
             book[i] = once_in(2) ? any_number() : 0;
     } else if (once_in(10)) {
+        if (once_in(4))
+            memset(book, 0, sizeof good);
         book[count] = most[count] + below(2);
     } else if (once_in(8)) {
         tie_routes(book);
@@ -86,11 +88,11 @@ static int alone(const uint32_t book[PC_BOOK_WORDS], uint32_t word) {
     return others == 0;
 }
 
-void meet_count(const uint32_t book[PC_BOOK_WORDS], uint32_t count, uint32_t refusal) {
+void meet_count(enum edges family, const uint32_t book[PC_BOOK_WORDS], uint32_t count, uint32_t refusal) {
     if (book[count] == most[count] && refusal != PC_NOT_A_BOOK)
-        meet(BOOK_COUNTS, 3 * count);
+        meet(family, 3 * count);
     if (book[count] == most[count] + 1)
-        meet(BOOK_COUNTS, 3 * count + (alone(book, count) ? 2 : 1));
+        meet(family, 3 * count + (alone(book, count) ? 2 : 1));
 }
 
 /* Gives the refusal, and how many places there are. */
@@ -120,7 +122,7 @@ void try_spread(void) {
     uint32_t bus = !once_in(16) ? PC_BUS(place) : once_in(2) ? 7 + below(3) : any_number();
     uint32_t identifier = !once_in(16) ? PC_IDENTIFIER(place) : once_in(2) ? 0x1FFFFFFF + below(2) : any_number();
     uint32_t refusal = compare_spread(book, bus, identifier, below(once_in(3) ? 8 : 70), &found);
-    meet_count(book, PC_BOOK_ROUTES, refusal);
+    meet_count(BOOK_COUNTS, book, PC_BOOK_ROUTES, refusal);
     if (refusal != PC_NOT_A_BOOK)
         meet_place(bus, identifier);
     if (refusal != PC_DONE)

@@ -11,7 +11,7 @@ static const struct {
     const char *name;
     uint32_t count;               /* of its edges; where they are counted they have an order */
 } families[FAMILIES] = {
-    [LONG_LENGTHS] = { "a length over 32 bits", 9 },
+    [LONG_LENGTHS] = { "a length over 32 bits", 10 },
     [TEXT_LENGTHS] = { "lengths of a text", 4 },
     [FULL_TABLES] = { "a table full, and one line more", 6 },
     [FULL_LINES] = { "full tables, and a line wrong by itself", FULL_TEXTS },
@@ -21,6 +21,11 @@ static const struct {
     [LENT_EDGES] = { "one number of a lent book at a limit", LENT_BOOKS },
     [SPREAD_ROOMS] = { "room for a spread", 4 },
     [SPREAD_PLACES] = { "bus and identifier of a place", 8 },
+    [WRITE_COUNTS] = { "counts of a book to write, most and one over", 9 },
+    [WRITE_ROOMS] = { "room for a text", 5 + 2 },
+    [WRITE_BOOKS] = { "books to write, empty, full and in part", 10 },
+    [WRITE_REFUSED] = { "tables of a book not to write, and no room", 5 * 2 },
+    [WRITE_LONGEST] = { "room for the longest text", 3 },
     [ROW_COUNTS] = { "counts at each row's limits, marks and bits", PLAIN_ROWS * ROW_EDGES },
     [ROW_FRAMES] = { "the same counts packed and read", PLAIN_ROWS * ROW_EDGES },
     [SIGNAL_NUMBERS] = { "numbers of signals and between", 2048 },

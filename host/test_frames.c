@@ -142,8 +142,8 @@ void try_frame_read(void) {
     for (int i = 0; i < 3; i++)
         rooms[i] = any_room(end - first);
     uint32_t refusal = compare_frame_read(book, identifier, bytes, length, rooms);
-    meet_count(book, PC_BOOK_MESSAGES, refusal);
-    meet_count(book, PC_BOOK_SIGNALS, refusal);
+    meet_count(BOOK_COUNTS, book, PC_BOOK_MESSAGES, refusal);
+    meet_count(BOOK_COUNTS, book, PC_BOOK_SIGNALS, refusal);
     meet_length(FRAME_LENGTHS, length, refusal);
     if (refusal == PC_DONE || refusal == PC_ROOM_FOR_READINGS)
         meet_rooms(rooms, end - first);
@@ -216,7 +216,8 @@ void try_row_in_frame(void) {
     meet(ROW_FRAMES, which);
 }
 
-/* The next book that is lent with one number at a limit or past it: of an identifier, of a start, of a signal. */
+/* The next book that is lent with one number at a limit or past it: of an identifier, of a start, of a signal; read by, packed by and
+   written. */
 void try_lent_edge(void) {
     static const uint32_t identifiers[LENT_IDENTIFIERS] = { 0x1FFFFFFF, 0x20000000, 0x20000001, 0xFFFFFFFF };
     static uint32_t edge;
@@ -238,5 +239,6 @@ void try_lent_edge(void) {
     put_check(frame, book[PC_BOOK_IDENTIFIERS], 0);
     compare_frame_read(book, book[PC_BOOK_IDENTIFIERS], frame, sizeof frame, rooms);
     compare_frame_pack(book, book[PC_BOOK_IDENTIFIERS], &raw, 1, sizeof frame);
+    compare_book_write(book, PC_MOST_WRITTEN);
     meet(LENT_EDGES, which);
 }

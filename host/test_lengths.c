@@ -6,11 +6,11 @@
 static const char text[] = "M\t18FF21F3\nS\t203\t0\nR\t0\t18FF21F3\t1\t18FF21F3\n";
 enum { TEXT = sizeof text - 1, IDENTIFIER = 0x18FF21F3, FAULTS = 27 };
 
-enum length { OF_TEXT, OF_FRAME_TO_READ, OF_RAWS, OF_CLASSES, OF_THOUSANDTHS, OF_VALUES, OF_FRAME_TO_PACK, OF_PLACES, OF_COUNTS, LENGTHS };
+enum length { OF_TEXT, OF_WRITTEN, OF_FRAME_TO_READ, OF_RAWS, OF_CLASSES, OF_THOUSANDTHS, OF_VALUES, OF_FRAME_TO_PACK, OF_PLACES, OF_COUNTS, LENGTHS };
 
 /* What the call says where that length is over 32 bits. */
 static const uint32_t meant[LENGTHS] = {
-    PC_TEXT_TOO_LONG, PC_NOT_EIGHT_BYTES, PC_DONE, PC_DONE, PC_DONE, PC_COUNT_OF_VALUES, PC_NOT_EIGHT_BYTES, PC_DONE, PC_NOT_27_FAULTS,
+    PC_TEXT_TOO_LONG, PC_DONE, PC_NOT_EIGHT_BYTES, PC_DONE, PC_DONE, PC_DONE, PC_COUNT_OF_VALUES, PC_NOT_EIGHT_BYTES, PC_DONE, PC_NOT_27_FAULTS,
 };
 
 /* What is added to the length that is tried: a number of times 2^32. */
@@ -22,9 +22,9 @@ static uint64_t long_if(enum length which, uint64_t length) {
     return which == tried ? upper_half + length : length;
 }
 
-/* Room for one entry, or for many of which the lower half has none. */
-static uint64_t room_if(enum length which) {
-    return which == tried ? upper_half : 1;
+/* Room for so many entries, or for many more of which the lower half has none. */
+static uint64_t room_if(enum length which, uint64_t entries) {
+    return which == tried ? upper_half : entries;
 }
 
 static uint32_t long_text(void) {
@@ -37,11 +37,22 @@ static uint32_t long_text(void) {
     return plain;
 }
 
+/* The book's lines stand in the order in which they are written. */
+static uint32_t long_write(const uint32_t book[PC_BOOK_WORDS]) {
+    begin_case(BOOK_WRITE);
+    struct lent *b = lend("book", book, 4 * PC_BOOK_WORDS), *t = lend_bytes("text", 0, TEXT), *count = lend("count", 0, 4);
+    uint64_t room = room_if(OF_WRITTEN, TEXT);
+    uint32_t library = pc_book_write(L(b, uint32_t), L(t, uint8_t), room, L(count, uint32_t));
+    uint32_t plain = plain_book_write(P(b, uint32_t), P(t, uint8_t), room, P(count, uint32_t));
+    judge(library, plain, 1);
+    return plain;
+}
+
 static uint32_t long_read(const uint32_t book[PC_BOOK_WORDS]) {
     begin_case(FRAME_READ);
     struct lent *b = lend("book", book, 4 * PC_BOOK_WORDS), *frame = lend_bytes("frame", 0, PC_FRAME_BYTES), *raws = lend("raws", 0, 4);
     struct lent *classes = lend_bytes("classes", 0, 1), *thousandths = lend("thousandths", 0, 8), *count = lend("count", 0, 4);
-    uint64_t length = long_if(OF_FRAME_TO_READ, PC_FRAME_BYTES), r = room_if(OF_RAWS), c = room_if(OF_CLASSES), t = room_if(OF_THOUSANDTHS);
+    uint64_t length = long_if(OF_FRAME_TO_READ, PC_FRAME_BYTES), r = room_if(OF_RAWS, 1), c = room_if(OF_CLASSES, 1), t = room_if(OF_THOUSANDTHS, 1);
     uint32_t library = pc_frame_read(L(b, uint32_t), IDENTIFIER, L(frame, uint8_t), length, L(raws, uint32_t), r, L(classes, uint8_t), c,
                                      L(thousandths, int64_t), t, L(count, uint32_t));
     uint32_t plain = plain_frame_read(P(b, uint32_t), IDENTIFIER, P(frame, uint8_t), length, P(raws, uint32_t), r, P(classes, uint8_t), c,
@@ -64,7 +75,7 @@ static uint32_t long_pack(const uint32_t book[PC_BOOK_WORDS]) {
 static uint32_t long_spread(const uint32_t book[PC_BOOK_WORDS]) {
     begin_case(SPREAD);
     struct lent *b = lend("book", book, 4 * PC_BOOK_WORDS), *places = lend("places", 0, 4), *count = lend("count", 0, 4);
-    uint64_t room = room_if(OF_PLACES);
+    uint64_t room = room_if(OF_PLACES, 1);
     uint32_t library = pc_spread(L(b, uint32_t), 0, IDENTIFIER, L(places, uint32_t), room, L(count, uint32_t));
     uint32_t plain = plain_spread(P(b, uint32_t), 0, IDENTIFIER, P(places, uint32_t), room, P(count, uint32_t));
     judge(library, plain, 1);
@@ -86,6 +97,8 @@ static uint32_t long_call(const uint32_t book[PC_BOOK_WORDS]) {
     switch (tried) {
     case OF_TEXT:
         return long_text();
+    case OF_WRITTEN:
+        return long_write(book);
     case OF_VALUES:
     case OF_FRAME_TO_PACK:
         return long_pack(book);

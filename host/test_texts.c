@@ -23,16 +23,22 @@ static void meet_text(uint32_t refusal, const uint32_t book[PC_BOOK_WORDS], uint
     meet_each(FULL_TABLES, full, 6);
 }
 
-/* Gives the refusal, and its line. */
-static uint32_t try_book_read(uint32_t *at_line) {
+uint32_t compare_book_read(const uint8_t *bytes, size_t length, uint32_t book[PC_BOOK_WORDS], uint32_t *line) {
     begin_case(BOOK_READ);
-    struct lent *t = lend_bytes("text", text.bytes, text.length), *book = lend("book", 0, 4 * PC_BOOK_WORDS), *line = lend("line", 0, 4);
-    uint32_t library = pc_book_read(L(t, uint8_t), text.length, L(book, uint32_t), L(line, uint32_t));
-    uint32_t plain = plain_book_read(P(t, uint8_t), text.length, P(book, uint32_t), P(line, uint32_t));
+    struct lent *t = lend_bytes("text", bytes, length), *b = lend("book", 0, 4 * PC_BOOK_WORDS), *l = lend("line", 0, 4);
+    uint32_t library = pc_book_read(L(t, uint8_t), length, L(b, uint32_t), L(l, uint32_t));
+    uint32_t plain = plain_book_read(P(t, uint8_t), length, P(b, uint32_t), P(l, uint32_t));
     judge(library, plain, 1);
-    *at_line = *P(line, uint32_t);
-    meet_text(plain, P(book, uint32_t), *at_line);
+    memcpy(book, P(b, uint32_t), 4 * PC_BOOK_WORDS);
+    *line = *P(l, uint32_t);
     return plain;
+}
+
+/* Gives the refusal, and its line. */
+static uint32_t try_book_read(uint32_t *line) {
+    uint32_t book[PC_BOOK_WORDS], refusal = compare_book_read(text.bytes, text.length, book, line);
+    meet_text(refusal, book, *line);
+    return refusal;
 }
 
 static void make_any_text(void) {

@@ -78,7 +78,7 @@ static size_t touched(void (*call)(void)) {
 static char text[4096];
 static uint32_t book[PC_BOOK_WORDS], line, refusal, class_code, values[4] = { 19999, 250, 5, 0 };
 static uint32_t raws[PC_MOST_READINGS], places[PC_MOST_ROUTES], counts[27], sum[PC_FAULT_WORDS], power, last_wake, asleep;
-static uint8_t frame[PC_FRAME_BYTES], classes[PC_MOST_READINGS];
+static uint8_t written[PC_MOST_WRITTEN], frame[PC_FRAME_BYTES], classes[PC_MOST_READINGS];
 static int64_t thousandths[PC_MOST_READINGS];
 static double reading;
 static uint32_t count;
@@ -87,6 +87,9 @@ static const uint32_t seen[PC_POWER_WORDS] = { 2, 2, 2, 1, 0, 20000, 6000, 5900 
 
 static void call_book_read(void) {
     refusal = ENTER(pc_book_read, (const uint8_t *)text, strlen(text), book, &line);
+}
+static void call_book_write(void) {
+    refusal = ENTER(pc_book_write, book, written, sizeof written, &count);
 }
 static void call_class(void) {
     refusal = ENTER(pc_class, 203, 1, &class_code, thousandths);
@@ -138,6 +141,7 @@ int main(int argc, char **argv) {
     size_t by_book_read = touched(call_book_read);
     if (argc == 1) {
         say("pc_book_read", by_book_read);
+        say("pc_book_write", touched(call_book_write));
         say("pc_class", touched(call_class));
         say("pc_dash", touched(call_dash));
         say("pc_fault_sum", touched(call_fault_sum));

@@ -60,6 +60,7 @@ enum pc_refusal {
     PC_CLOCK_WENT_BACK = 51,      /* while awake, the time is 2^31 ms (24 days) or more past the last wake, round the circle */
     PC_PLACE_OVER_LIMIT = 61,     /* bus over 7, or identifier of 2^29 or more */
     PC_ROOM_FOR_SPREAD = 62,      /* room for fewer places than the spread has */
+    PC_ROOM_FOR_TEXT = 71,        /* room for fewer bytes than the book's text has */
     PC_NOT_A_POWER_STATE = 91,    /* this header's own: a state that is none of enum pc_power */
     PC_NOT_A_SLEEP_STATE = 92     /* this header's own: asleep is neither 0 nor 1 */
 };
@@ -86,7 +87,8 @@ enum {
     PC_MOST_SIGNALS = 256,
     PC_MOST_ROUTES = 64,          /* and places that a frame reaches */
     PC_MOST_READINGS = 64,        /* of one frame: no message has more signals */
-    PC_MOST_TEXT = 32768,
+    PC_MOST_TEXT = 32768,         /* of a text to read */
+    PC_MOST_WRITTEN = 4800,       /* of a text that is written back: 64 x 11 + 256 x 10 + 64 x 24 */
     PC_FRAME_BYTES = 8
 };
 
@@ -104,6 +106,11 @@ enum {
 /* Reads a book's text. Refusals 1 to 11: the book is then empty, every word 0, and *line is the line at fault, 0 for 1.
    Otherwise the book holds the text's tables and *line is 0. Whatever the book and *line held before is lost. */
 uint32_t pc_book_read(const uint8_t *text, uint64_t text_length, uint32_t book[PC_BOOK_WORDS], uint32_t *line);
+
+/* Writes a book back as text, at the front of the room: each M line with its S lines, in the book's order, then the R lines
+   in theirs; *count is its length in bytes, at most PC_MOST_WRITTEN. The rest of the room stays as it was. The text reads
+   back as the same book. Refusals 12, by all tables of the book, and 71. */
+uint32_t pc_book_write(const uint32_t book[PC_BOOK_WORDS], uint8_t *text, uint64_t text_length, uint32_t *count);
 
 /* Classes one raw count of the signal with that number: *class_code is one of enum pc_class_code, *thousandths the
    reading of a value and 0 for any other class. Refusals 3 (no such signal), 26. */
