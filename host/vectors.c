@@ -1,47 +1,9 @@
 /* vectors SUBJECT: runs the cases of tools/SUBJECT_vectors.py from standard input and prints what came out, a line a case.
-   The subjects are catalogue, dash, routes, spread, book, frames, packing, record, faults, power and sleep. For catalogue the
-   input is signal numbers and raw counts, one pair a line. */
+   The subjects are catalogue, dash, routes, spread, book, writer, frames, packing, record, faults, power and sleep. For catalogue
+   the input is signal numbers and raw counts, one pair a line. */
 #include "dash_line.h"
-#include <inttypes.h>
-#include <stdio.h>
-#include <stdlib.h>
+#include "lent_cases.h"
 #include <string.h>
-
-enum { MOST_BYTES = 1 << 20 };
-static uint8_t input[MOST_BYTES];
-static size_t length, at;
-static uint32_t book[PC_BOOK_WORDS];
-
-static uint32_t hex(int digits) {
-    uint32_t value = 0;
-    for (int i = 0; i < digits; i++) {
-        uint8_t c = at < length ? input[at++] : '0';
-        value = value * 16 + (uint32_t)(c <= '9' ? c - '0' : c - 'A' + 10);
-    }
-    return value;
-}
-
-static void end_of_line(void) {
-    if (at >= length || input[at] != '\n') {
-        fprintf(stderr, "vectors: byte %zu of the input ends no line\n", at);
-        exit(2);
-    }
-    at++;
-}
-
-static void print_refusal(uint32_t refusal) {
-    printf("no\t%" PRIu32 "\n", refusal);
-}
-
-/* A length, a newline, the text, a newline: the text becomes the book. */
-static uint32_t read_book(uint32_t *line) {
-    uint32_t bytes = hex(8);
-    end_of_line();
-    uint32_t refusal = FACE(book_read)(input + at, bytes, book, line);
-    at += bytes;
-    end_of_line();
-    return refusal;
-}
 
 static void catalogue_case(void) {
     unsigned number, raw;
@@ -70,20 +32,6 @@ static void dash_case(void) {
     uint32_t number = hex(8), raw = hex(8);
     end_of_line();
     print_dash(number, raw);
-}
-
-static void print_spread(uint32_t bus, uint32_t identifier, uint32_t room, const char *word) {
-    uint32_t places[256];
-    uint32_t count;
-    uint32_t refusal = FACE(spread)(book, bus, identifier, places, room, &count);
-    if (refusal) {
-        print_refusal(refusal);
-        return;
-    }
-    printf("%s\t%" PRIu32, word, count);
-    for (uint32_t i = 0; i < count; i++)
-        printf("\t%08" PRIX32, places[i]);
-    printf("\n");
 }
 
 /* The routes become a text of R lines, so the book reader judges them. */
@@ -115,87 +63,6 @@ static void book_case(void) {
         printf("no\t%" PRIu32 "\t%" PRIu32 "\n", refusal, line);
     else
         printf("ok\t%" PRIu32 "\t%" PRIu32 "\t%" PRIu32 "\n", book[PC_BOOK_MESSAGES], book[PC_BOOK_SIGNALS], book[PC_BOOK_ROUTES]);
-}
-
-static void read_case(void) {
-    uint32_t identifier = hex(8), room = hex(2), bytes = hex(2), raws[256];
-    uint32_t count;
-    uint8_t frame[256], classes[256];
-    int64_t thousandths[256];
-    for (uint32_t i = 0; i < bytes; i++)
-        frame[i] = (uint8_t)hex(2);
-    end_of_line();
-    uint32_t refusal = FACE(frame_read)(book, identifier, frame, bytes, raws, room, classes, room, thousandths, room, &count);
-    if (refusal) {
-        print_refusal(refusal);
-        return;
-    }
-    printf("read\t%" PRIu32, count);
-    for (uint32_t i = 0; i < count; i++)
-        printf("\t%" PRIu32 "\t%s\t%" PRId64, raws[i], class_words[classes[i]], thousandths[i]);
-    printf("\n");
-}
-
-static void pack_case(void) {
-    uint32_t identifier = hex(8), bytes = hex(2), count = hex(2), values[256];
-    uint8_t frame[256];
-    for (uint32_t i = 0; i < count; i++)
-        values[i] = hex(8);
-    end_of_line();
-    uint32_t refusal = FACE(frame_pack)(book, identifier, values, count, frame, bytes);
-    if (refusal) {
-        print_refusal(refusal);
-        return;
-    }
-    printf("packed\t");
-    for (int i = 0; i < PC_FRAME_BYTES; i++)
-        printf("%02X", frame[i]);
-    printf("\n");
-}
-
-static void spread_case(void) {
-    uint32_t bus = hex(8), identifier = hex(8), room = hex(2);
-    end_of_line();
-    print_spread(bus, identifier, room, "spread");
-}
-
-/* Sets one entry of the book: a column's letter, an index, the value. */
-static void damage_book(void) {
-    static const struct { char letter; int first; } columns[] = {
-        { 'M', PC_BOOK_MESSAGES }, { 'S', PC_BOOK_SIGNALS }, { 'R', PC_BOOK_ROUTES }, { 'I', PC_BOOK_IDENTIFIERS },
-        { 'E', PC_BOOK_ENDS }, { 'N', PC_BOOK_NUMBERS }, { 'T', PC_BOOK_STARTS }, { 'F', PC_BOOK_FROM }, { 'G', PC_BOOK_TO },
-    };
-    char letter = (char)input[at++];
-    uint32_t index = hex(2), value = hex(8);
-    end_of_line();
-    for (size_t i = 0; i < sizeof columns / sizeof *columns; i++)
-        if (columns[i].letter == letter)
-            book[(uint32_t)columns[i].first + index] = value;
-}
-
-/* A line of the spread, frames, packing and record streams, by its first byte. */
-static void lent_book_case(void) {
-    uint32_t line;
-    switch (input[at++]) {
-    case 'B':
-        read_book(&line);
-        return;
-    case 'F':
-        read_case();
-        return;
-    case 'P':
-        pack_case();
-        return;
-    case 'S':
-        spread_case();
-        return;
-    case 'X':
-        damage_book();
-        return;
-    default:
-        fprintf(stderr, "vectors: byte %zu begins no case\n", at - 1);
-        exit(2);
-    }
 }
 
 static void faults_case(void) {
@@ -250,8 +117,8 @@ static void sleep_case(void) {
 int main(int argc, char **argv) {
     static const struct { const char *subject; void (*run)(void); } subjects[] = {
         { "catalogue", catalogue_case }, { "dash", dash_case }, { "routes", routes_case }, { "spread", lent_book_case }, { "book", book_case },
-        { "frames", lent_book_case }, { "packing", lent_book_case }, { "record", lent_book_case }, { "faults", faults_case },
-        { "power", power_case }, { "sleep", sleep_case },
+        { "writer", lent_book_case }, { "frames", lent_book_case }, { "packing", lent_book_case }, { "record", lent_book_case },
+        { "faults", faults_case }, { "power", power_case }, { "sleep", sleep_case },
     };
     length = fread(input, 1, sizeof input, stdin);
     for (size_t i = 0; argc == 2 && i < sizeof subjects / sizeof *subjects; i++)

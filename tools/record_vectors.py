@@ -1,13 +1,15 @@
 #!/usr/bin/env python3
-"""Calls on a lent book record, sound and damaged: the spread with 61 and 62, and 12 before any other refusal. host/check runs
-them, in C, by the library and by the plain implementation.
+"""Calls on a lent book record, sound and damaged: the spread with 61 and 62, the text with 71, and 12 before any other refusal.
+host/check runs them, in C, by the library and by the plain implementation.
 
     python3 tools/record_vectors.py DIR
 
 The stream: `B` with a book's text (length in 8 hex digits, newline, bytes, newline) reads it into the record. `X`, a
 column's letter (tools/records.py), an index (2 hex digits) and a value (8) sets one entry. `S`, bus (8), identifier (8),
-room (2) asks for a spread; `F` and `P` lines read and pack as in the other vectors. The answer to S: `spread`, the
-count and the entries as 8 hex digits each, or `no` and the refusal.
+room (2) asks for a spread; `W`, room (8), asks for the book's text; `F` and `P` lines read and pack as in the other vectors.
+The answer to S: `spread`, the count and the entries as 8 hex digits each, or `no` and the refusal. The answer to W, whose room
+is filled with `*` before: `text`, the count of bytes and how many behind it are still `*`, and on the next line the text; or `no`,
+the refusal and how many bytes of the room are still `*`.
 """
 
 import random
@@ -18,6 +20,7 @@ from frames_vectors import answer as reading_line
 from packing_vectors import answer as packing_line
 from records import SIZES, message_book, record_of, spread_by
 from rules import place, read_book
+from writing import MOST_WRITTEN, write_answer
 
 MOST = 2**32 - 1
 PLAIN = b"M\t18FF21F3\nS\t203\t0\nS\t204\t16\nM\t00000005\nS\t204\t0\nR\t0\t18FF21F3\t1\t18FF21F3\nR\t1\t18FF21F3\t2\t18FF21D0\n"
@@ -46,6 +49,9 @@ class Stream:
         answer = tabbed(word, found) if word == "no" else tabbed(word, len(found), *map(h8, found))
         self.say("S" + h8(bus) + h8(identifier) + h2(room), answer)
 
+    def text(self, room):
+        self.say("W" + h8(room), write_answer(self.record, room))
+
     def read(self, identifier, room, frame):
         line = "F" + h8(identifier) + h2(room) + h2(len(frame)) + "".join(map(h2, frame))
         book = message_book(self.record)
@@ -64,6 +70,8 @@ class Stream:
         self.pack(0x12345678, 7, [])
         self.spread(0, 0x18FF21F3, 64)
         self.spread(8, 0x18FF21F3, 0)
+        self.text(MOST_WRITTEN)
+        self.text(0)
 
 
 def route_text(routes):
@@ -118,7 +126,8 @@ DAMAGES = [
 
 
 def damages(stream):
-    """A plain book with each damage. The calls on messages and those on routes each look at their own tables."""
+    """A plain book with each damage. The calls on messages and those on routes each look at their own tables, the one
+    for the text at all."""
     for damage in [[]] + DAMAGES:
         stream.book(PLAIN)
         for entry in damage:
@@ -138,6 +147,7 @@ def stray_damages(stream, chance):
         stream.read(0x18FF2119, 2, [0] * 8)
         stream.pack(0x18FF4000, 8, [])
         stream.spread(7, 7, 64)
+        stream.text(MOST_WRITTEN)
 
 
 def main():

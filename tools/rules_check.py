@@ -1,6 +1,6 @@
 #!/usr/bin/env python3
 """Holds tools/rules.py against the worked examples that document 01 prints and the rows that document 02 (P2) corrects, its two ways to
-judge routes against each other, and the books of examples/ and docs/BOOK.md against tools/rules.py.
+judge routes against each other, the books of examples/ and docs/BOOK.md against tools/rules.py, and tools/writing.py against the books.
 
     python3 tools/rules_check.py
 """
@@ -23,6 +23,8 @@ from rules import (
     verdict_by_chains,
     verdict_by_counting,
 )
+from records import messages_text, record_of, routes_text
+from writing import MOST_WRITTEN, book_text, write_call
 
 ROOT = os.path.join(os.path.dirname(__file__), "..")
 
@@ -124,6 +126,41 @@ def books_of_the_page():
         assert checker_line(read_book(text.encode())[0]) == answer, text
 
 
+def written_books():
+    """Books that are written as they stand, and with the R lines last; 12 and 71; each taken book of the vectors reads back as itself."""
+    for text in (FIRST, contents("examples/truck.book"), b"", b"M\t00000000\nS\t204\t56\n"):
+        assert book_text(*tables_of(text)).encode() == text
+    assert book_text(*tables_of(b"R\t7\t00000000\t0\t1FFFFFFF\nM\t0000000A\n")) == "M\t0000000A\nR\t7\t00000000\t0\t1FFFFFFF\n"
+    record = record_of(read_book(FIRST)[1])
+    assert write_call(record, len(FIRST)) == ("text", FIRST.decode()) and write_call(record, len(FIRST) - 1) == ("no", 71)
+    for letter in "SR":
+        assert write_call({**record, letter: [3]}, 0) == ("no", 12)
+    assert MOST_WRITTEN == 4800
+    for text in stored_books():
+        answer, book = read_book(text)
+        again, read = read_book(book_text(book.messages, book.routes).encode())
+        assert again == (answer if answer[0] == "ok" else ("ok", 0, 0, 0)) and tables(read) == tables(book), text
+        record = record_of(book)
+        assert book_text(book.messages, book.routes).encode() == messages_text(record) + routes_text(record), text
+
+
+def tables(book):
+    return book.messages, book.routes
+
+
+def tables_of(text):
+    return tables(read_book(text)[1])
+
+
+def stored_books():
+    """The texts of the cases of the book."""
+    stream = contents("crates/book_vectors/stdin")
+    while stream:
+        length = int(stream[:8], 16)
+        yield stream[9 : 9 + length]
+        stream = stream[10 + length :]
+
+
 def ages():
     assert SleepWatch(0).call(9999, False) == "awake"
     assert SleepWatch(0).call(10000, False) == "asleep"
@@ -143,6 +180,7 @@ if __name__ == "__main__":
     printed_books()
     example_books()
     books_of_the_page()
+    written_books()
     ages()
     both_verdicts_agree()
     print("rules: all worked examples hold")

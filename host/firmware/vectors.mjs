@@ -1,6 +1,6 @@
 // node vectors.mjs MODULE SUBJECT: runs the cases of tools/SUBJECT_vectors.py from standard input by the proved module in WebAssembly and
 // prints what came out, a line a case, as host/vectors.c does by an archive. The subjects are catalogue, dash, routes, spread, book,
-// frames, packing, faults, power, sleep and record; for catalogue the input is signal numbers and raw counts, one pair a line.
+// writer, frames, packing, faults, power, sleep and record; for catalogue the input is signal numbers and raw counts, one pair a line.
 import fs from 'node:fs';
 
 const [path, subject] = process.argv.slice(2);
@@ -11,7 +11,7 @@ const print = (...fields) => printed.push(fields.join('\t') + '\n');
 
 // ---- The header's numbers.
 const BOOK_WORDS = 771, FROM = 643, MOST_ROUTES = 64, FAULT_WORDS = 7, POWER_WORDS = 8, POWER_START = 0, FRAME_BYTES = 8;
-const CLOSED_CHAIN = 10, DOUBLE_CHAIN = 11;
+const CLOSED_CHAIN = 10, DOUBLE_CHAIN = 11, FILLING = 42;
 const CLASSES = ['value', 'invalid', 'absent', 'error', 'reserved', 'outside'];
 const PLACES_IN_BOOK = { M: 0, S: 1, R: 2, I: 3, E: 67, N: 131, T: 387, F: FROM, G: 707 };
 const busOf = place => place >>> 29, identifierOf = place => place & 0x1FFFFFFF;
@@ -138,13 +138,22 @@ const lentBook = {
     endOfLine();
     printSpread(bus, identifier, room, 'spread');
   },
+  W() {
+    const room = digits(8);
+    endOfLine();
+    bytesAt(text, room).fill(FILLING);
+    const refusal = calls.pc_book_write(book, text, BigInt(room), count);
+    const many = refusal ? 0 : words(count, 1)[0], stayed = bytesAt(text + many, room - many).filter(byte => byte === FILLING).length;
+    print(...refusal ? ['no', refusal, stayed] : ['text', many, stayed]);
+    printed.push(Buffer.from(bytesAt(text, many)).toString('latin1'));
+  },
   X() {
     const column = letter(), index = digits(2), value = digits(8);
     endOfLine();
     words(book, BOOK_WORDS)[PLACES_IN_BOOK[column] + index] = value;
   },
 };
-cases.spread = cases.frames = cases.packing = cases.record = () => lentBook[letter()]();
+cases.spread = cases.writer = cases.frames = cases.packing = cases.record = () => lentBook[letter()]();
 
 if (!(subject in cases)) throw new Error(`there is no subject '${subject}'`);
 while (at < input.length) cases[subject]();
