@@ -34,7 +34,7 @@ def helps():
     programs = sorted(path.parts[-3] for path in ROOT.glob("crates/*/src/main.rt"))
     status, printed, said = call("run", "--help")
     users, tests = listed(printed)
-    yield status == 0 and not said and users == ["book_check", "frame_list", "dash_list"] and sorted(users + tests) == programs, printed + said
+    yield status == 0 and not said and users == ["book_check", "book_write", "frame_list", "dash_list"] and sorted(users + tests) == programs, printed + said
     yield call("run") == (2, "", printed), "run"
     for words in (["nothing"], ["../run"], ["only"]):
         status, empty, said = call("run", *words)
