@@ -9,6 +9,7 @@ import os
 import random
 import re
 
+from records import messages_text, record_of, routes_text
 from rules import (
     CATALOGUE,
     SleepWatch,
@@ -23,7 +24,6 @@ from rules import (
     verdict_by_chains,
     verdict_by_counting,
 )
-from records import messages_text, record_of, routes_text
 from writing import MOST_WRITTEN, book_text, write_call
 
 ROOT = os.path.join(os.path.dirname(__file__), "..")

@@ -53,13 +53,13 @@ def shortest():
 
 
 def mixed(chance):
-    """A book's lines with the R lines anywhere between, first, and each behind an M line."""
+    """A book's lines with the R lines anywhere between, first, each behind an M line, and last but backwards."""
     messages = text_of(WORKED).splitlines(keepends=True)
     routes = route_text([(i % 8, 0x18FF0000 + i, (i + 3) % 8, 0x18FF8000 + i * i) for i in range(24)]).splitlines(keepends=True)
     anywhere = list(messages)
-    at = sorted(chance.randrange(len(messages) + 1) for _ in routes)
-    for place_of, line in reversed(list(zip(at, routes))):
-        anywhere.insert(place_of, line)
+    indices = sorted(chance.randrange(len(messages) + 1) for _ in routes)
+    for index, line in reversed(list(zip(indices, routes))):
+        anywhere.insert(index, line)
     heads = [line for line in messages if line.startswith(b"M")]
     behind = b"".join(line + (routes[heads.index(line)] if line in heads else b"") for line in messages)
     for text in (b"".join(anywhere), b"".join(routes + messages), behind, b"".join(messages + routes[::-1])):

@@ -9,19 +9,19 @@ from records import message_book, route_book
 MOST_WRITTEN = 64 * len("M\t00000000\n") + 256 * len("S\t1927\t63\n") + 64 * len("R\t0\t00000000\t0\t00000000\n")
 
 
+def identifier_digits(identifier):
+    return format(identifier, "X").rjust(8, "0")
+
+
 def place_fields(key):
     bus, identifier = divmod(key, 2**29)
-    return str(bus), identifier_field(identifier)
-
-
-def identifier_field(identifier):
-    return format(identifier, "X").rjust(8, "0")
+    return str(bus), identifier_digits(identifier)
 
 
 def lines_of(messages, routes):
     """The fields of each line."""
     for identifier, placements in messages:
-        yield "M", identifier_field(identifier)
+        yield "M", identifier_digits(identifier)
         for number, start in placements:
             yield "S", str(number), str(start)
     for origin, end in routes:
