@@ -1,7 +1,7 @@
 // What a call for the text gives, printed.
 ghost use Prim.Native.Nat.{_≤_};
-use book_writer::Wrote;
 use crate::FILLING;
+use book_writer::Wrote;
 use libc::STDOUT_FILENO;
 use record::BOOK_WORDS;
 use streams::write_first;
