@@ -1,10 +1,10 @@
 // Checks the route books on standard input, one after the other. Each is its length in eight hex digits and a newline, its bytes,
 // and a newline. Each gives the book checker's line.
+use book_streams::send_answer;
 use libc::STDIN_FILENO;
 use numerals::identifier_or_0;
 use parts::part_before;
 use streams::read_first;
-use streams::write_first;
 
 const MOST_BOOKS: u32 = 1000000;
 
@@ -23,10 +23,7 @@ fn size_in(head: &[u8]) -> usize {
 fn check(text: &[u8], size: usize) {
     if size <= text.len() {
         let mut words = [0u32; record::BOOK_WORDS];
-        let answer = book::read(part_before(text, size), &mut words);
-        let mut line = [0u8; answer_line::LINE_ROOM];
-        let length = answer_line::print(answer, &mut line);
-        write_first(&line, length);
+        send_answer(book::read(part_before(text, size), &mut words));
     }
 }
 

@@ -6,14 +6,12 @@ mod input;
 
 use answers::Answer;
 use book::read;
+use book_streams::ENOUGH;
+use book_streams::send_answer;
 use input::Held;
 use input::read_and_list;
 use record::BOOK_WORDS;
 use signal_lines::Figures;
-use streams::write_first;
-
-// One byte more than the longest text of a book.
-const ENOUGH: usize = 32769;
 
 const INPUT: usize = 65536;
 
@@ -63,7 +61,5 @@ pub fn run(figures: Figures) {
         list_input(&words, &mut input, &mut out, figures);
         return;
     }
-    let mut line = [0u8; answer_line::LINE_ROOM];
-    let length = answer_line::print(answer, &mut line);
-    write_first(&line, length);
+    send_answer(answer);
 }

@@ -7,3 +7,4 @@ pub mod SleepNumbers
 pub mod SpreadNumbers
 pub mod SumNumbers
 pub mod UnpackNumbers
+pub mod WriteNumbers

@@ -17,6 +17,7 @@ use denote.Ref.{RefT, now, at-last}
 use Rattle.only.specs.Only.{Only, only-this}
 use Rattle.framing.proofs.CodedSlices.{codedSlices}
 use Rattle.punnetcrest.specs.Booking.{BookRead}
+use Rattle.punnetcrest.specs.BookText.{WriteCall}
 use Rattle.punnetcrest.specs.Classing.{classed}
 use Rattle.punnetcrest.specs.Dashing.{dashed}
 use Rattle.punnetcrest.specs.Packing.{packed}
@@ -27,6 +28,8 @@ use Rattle.punnetcrest.specs.Summing.{faultsSummed}
 use Rattle.punnetcrest.specs.Unpacking.{ReadingRoom, roomLent, unpacked}
 use Rattle.punnetcrest.proofs.BookNumbers.{read-outcome, read-there, read-alone}
 use Rattle.punnetcrest.proofs.SpreadNumbers.{spread-outcome, spread-there, spread-alone}
+use Rattle.punnetcrest.proofs.WriteNumbers.{write-outcome, write-there, write-alone}
+use Rattle.punnetcrest.proofs.book_text.pc_book_write as book-write
 use Rattle.punnetcrest.proofs.booking.pc_book_read as book-read
 use Rattle.punnetcrest.proofs.classing.pc_class as class-call
 use Rattle.punnetcrest.proofs.dashing.pc_dash as dash-call
@@ -49,6 +52,18 @@ module _ {M : Type 1} (𝓤 : URA M) (H : Heap 𝓤) (A : Atoms 𝓤) (mem : Mem
         says = λ x. refl;
         there = read-there (now text);
         alone = read-alone (now text);
+      }
+
+  pub one-book-write : (κs : Lfts 3) (book text : RefT (List ℕ)) (count : RefT ℕ)
+      → Only 𝓤 (λ (x : ℕ × (List ℕ × ℕ)). book-write.clauses 𝓤 H A mem run κs (book, (text, (count, tt))) .ensures tt (x .0) (book, (at-last text (x .1 .0), (at-last count (x .1 .1), tt))))
+  one-book-write κs book text count =
+      record {
+        coded = coded× codedℕ (coded× (codedList codedℕ) codedℕ);
+        outcome = write-outcome (now book) (now text) (now count);
+        Says = λ x. WriteCall (now book) (now text) (now count) (x .0) (x .1 .0) (x .1 .1);
+        says = λ x. refl;
+        there = write-there (now book) (now text) (now count);
+        alone = write-alone (now book) (now text) (now count);
       }
 
   pub one-class : (κs : Lfts 2) (number raw : ℕ) (code : RefT ℕ) (reading : RefT ℤ)

@@ -5,7 +5,8 @@ use mathlib.Core.List.{List}
 use Rattle.routes.specs.declared.Sent.{Sent}
 use Rattle.routes.specs.Answers.{SpreadAnswer, sentNumber, placeCount}
 use Rattle.routes.proofs.Decided.{SpreadLeft, answered, answer-once}
-use Rattle.punnetcrest.specs.Spreading.{countLeft, SpreadCall}
+use Rattle.punnetcrest.specs.Counted.{countLeft}
+use Rattle.punnetcrest.specs.Spreading.{SpreadCall}
 
 module _ (words : List ℕ) (bus identifier : ℕ) (room : List ℕ) (count : ℕ) where
   pub as-spread : {after : List ℕ} {given told : Sent} → SpreadAnswer words bus identifier room (sentNumber given) (placeCount given) after → given ≡ told

@@ -1,5 +1,7 @@
 pub mod Booking
+pub mod BookText
 pub mod Classing
+pub mod Counted
 pub mod Dashing
 pub mod Packing
 pub mod Powering

@@ -1,14 +1,9 @@
 -- The spread in numbers: what the call returns, with the room for places and *count as it leaves them. Assumes nothing.
 use Prim.Native.Nat.{ℕ}
 use mathlib.Core.Path.{_≡_}
-use mathlib.Core.Bool.{cond}
 use mathlib.Core.List.{List}
-use lib.Dec.{eqb}
 use Rattle.routes.specs.Answers.{SpreadAnswer}
-
--- *count after the call: how many places were written, or as it was where the call refuses
-abbrev pub countLeft : ℕ → ℕ → ℕ → ℕ
-countLeft why written count = cond (eqb why 0) written count
+use Rattle.punnetcrest.specs.Counted.{countLeft}
 
 -- pc_spread, with these words, bus, identifier, room and *count, returns r and leaves the room and *count so
 pub record SpreadCall (words : List ℕ) (bus identifier : ℕ) (room : List ℕ) (count r : ℕ) (after : List ℕ) (counted : ℕ) : Type 0 where
