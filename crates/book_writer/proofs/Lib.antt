@@ -4,4 +4,5 @@ pub mod Messages
 pub mod Shown
 pub mod Whole
 pub mod Decided
+pub mod Bound
 pub mod OneOutcome

@@ -36,7 +36,7 @@ map-append : (ps qs : List Placement) → map signalLine (ps ++ qs) ≡ map sign
 map-append [] qs = refl
 map-append (p ∷ ps) qs = ap (_∷_ (signalLine p)) (map-append ps qs)
 
-signals-append : (ps qs : List Placement) → signalBytes (ps ++ qs) ≡ signalBytes ps + signalBytes qs
+pub signals-append : (ps qs : List Placement) → signalBytes (ps ++ qs) ≡ signalBytes ps + signalBytes qs
 signals-append ps qs = ap (λ (l : List Line). length (linesText l)) (map-append ps qs) ∙ two (map signalLine ps) (map signalLine qs)
 
 -- of M lines with their S lines

@@ -32,6 +32,10 @@ bookOf w = record { messages = messagesOf w; routes = routesOf w }
 abbrev pub textOf : List ℕ → List ℕ
 textOf w = bookText (bookOf w)
 
+-- no text of a book has more bytes: 64 M lines of 11, 256 S lines of 10 and 64 R lines of 24
+abbrev pub mostWritten : ℕ
+mostWritten = 4800
+
 -- all tables are those of a taken book: messages and signals, and routes
 pub record TablesTaken (w : List ℕ) : Type 0 where
   pub messages : messagesTaken w ≡ true

@@ -22,10 +22,12 @@ fn put_signals(out: &mut [u8], at: usize, numbers: &[u32], starts: &[u32]) -> us
     ensures { λ r. ⌜ Put (now (out .entry)) at (linesText (signalLines (now (numbers .entry)) (now (starts .entry)))) (now (out .exit)) r ⌝ }
 {
     let mut next: usize = at;
+    let mut left = numbers.len();
     let mut i: usize = 0;
-    while i < numbers.len() {
+    while left > 0 {
         next = put_signal(&mut *out, next, numbers[i], starts[i]);
         i += 1;
+        left -= 1;
     }
     next
 }

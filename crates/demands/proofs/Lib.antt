@@ -8,6 +8,7 @@ pub mod Taken
 pub mod Spreading
 pub mod Frames
 pub mod NoBook
+pub mod WritingBack
 pub mod Dash
 pub mod HighestCell
 pub mod FirstBad

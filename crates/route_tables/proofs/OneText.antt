@@ -36,7 +36,7 @@ parts-of w r =
     (drop-drop messageWords idsAt w ∙ sym (take-all routeWords (drop fromsAt w) (omega (arith, length-drop fromsAt w, r .long)))))
 
 -- where messages and routes stand in a record, it has the words of their book
-stand-words : (w : List ℕ) (b : Book) → IsRecord w → Stands w (b .messages) → RoutesStand w (b .routes) → w ≡ wordsOf b
+pub stand-words : (w : List ℕ) (b : Book) → IsRecord w → Stands w (b .messages) → RoutesStand w (b .routes) → w ≡ wordsOf b
 unfolding wordsOf
 stand-words w b r m s =
     parts-of w r ∙
