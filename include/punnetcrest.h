@@ -24,7 +24,7 @@
 #endif
 
 /* The version of the library. CHANGELOG.md says what each version asks of callers. */
-#define PC_VERSION "0.4.0"
+#define PC_VERSION "0.4.1"
 
 #ifdef __cplusplus
 extern "C" {

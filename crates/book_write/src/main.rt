@@ -15,7 +15,7 @@ use streams::write_first;
 // The text of a book that was taken. There is room for any.
 fn send_text(book: &[u32; BOOK_WORDS]) {
     let mut room = [0u8; MOST_WRITTEN];
-    if let Wrote::Bytes(count) = book_writer::write(book, &mut room) {
+    if let Wrote::Length(count) = book_writer::write(book, &mut room) {
         write_first(&room, wide(count));
     }
 }

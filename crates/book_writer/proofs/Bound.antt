@@ -1,16 +1,16 @@
 -- No book's text is longer than 4,800 bytes: an M line has 11, an S line at most 10, an R line 24. Assumes nothing.
 use mathlib.Core.Path.{_≡_, refl}
-use mathlib.Core.Bool.{Bool, true, false, _&&_, _||_, not, cond, and-eq-true-iff}
+use mathlib.Core.Bool.{Bool, true, false, _||_, not, cond, and-eq-true-iff}
 use Prim.Native.Nat.{ℕ, _+_, _*_, _≤_, _<_}
 use native.Mathlib.Omega.{arith}
-use mathlib.Core.List.{List, [], _∷_, _++_, map}
+use mathlib.Core.List.{List, [], _∷_, _++_}
 use lib.Dec.{eqb, ltb, leb}
 use lib.ListN.{length, length-append}
 use borrow.Author.Tests.{leb-false, eqb-false, lt-ltb}
 use Rattle.numerals.specs.Written.{decimalWidth}
 use Rattle.parts.specs.Joined.{textOfLines}
 use Rattle.books.specs.Book.{Book, Message, Placement, Route, numbers, allPlacements}
-use Rattle.books.specs.Lines.{isIn, unknownOrOver, misplaced, meetsEarlier, identifierLimit, messageLimit, signalLimit, startLimit}
+use Rattle.books.specs.Lines.{isIn, unknownOrOver, misplaced, meetsEarlier, identifierLimit, startLimit}
 use Rattle.books.specs.Good.{fitsAfter, goodAfter, goodFrom, good}
 use Rattle.books.specs.Built.{Built}
 use Rattle.books.proofs.Building.{built-good}
@@ -18,7 +18,7 @@ use Rattle.books.proofs.Columns.{within}
 use Rattle.books.proofs.Known.{known-small}
 use Rattle.books.proofs.Tests.{both-false}
 use Rattle.catalogue.specs.Find.{bitsOf}
-use Rattle.reading.specs.Written.{signalLine, routeLine, bookText, BetweenPlaces, no-route, route, Routed}
+use Rattle.reading.specs.Written.{bookText, BetweenPlaces, no-route, route, Routed}
 use Rattle.line_writer.proofs.Lengths.{signal-long, route-long}
 use Rattle.book_writer.specs.Answers.{mostWritten}
 use Rattle.book_writer.proofs.TextLength.{signalBytes, routeBytes, one-signal, one-route, signals-append, text-long}

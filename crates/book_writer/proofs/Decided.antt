@@ -16,13 +16,13 @@ use Rattle.book_writer.proofs.Whole.{messages-not}
 
 -- an answer is told by its number and its count
 wrote-once : (a b : Wrote) → wroteNumber a ≡ wroteNumber b → byteCount a ≡ byteCount b → a ≡ b
-wrote-once (wrote.Bytes n) (wrote.Bytes m) e f = ap wrote.Bytes f
-wrote-once (wrote.Bytes n) wrote.NotABook e f = absurd (omega arith)
-wrote-once (wrote.Bytes n) wrote.NoRoom e f = absurd (omega arith)
-wrote-once wrote.NotABook (wrote.Bytes m) e f = absurd (omega arith)
+wrote-once (wrote.Length n) (wrote.Length m) e f = ap wrote.Length f
+wrote-once (wrote.Length n) wrote.NotABook e f = absurd (omega arith)
+wrote-once (wrote.Length n) wrote.NoRoom e f = absurd (omega arith)
+wrote-once wrote.NotABook (wrote.Length m) e f = absurd (omega arith)
 wrote-once wrote.NotABook wrote.NotABook e f = refl
 wrote-once wrote.NotABook wrote.NoRoom e f = absurd (omega arith)
-wrote-once wrote.NoRoom (wrote.Bytes m) e f = absurd (omega arith)
+wrote-once wrote.NoRoom (wrote.Length m) e f = absurd (omega arith)
 wrote-once wrote.NoRoom wrote.NotABook e f = absurd (omega arith)
 wrote-once wrote.NoRoom wrote.NoRoom e f = refl
 
@@ -53,7 +53,7 @@ module _ (w room : List ℕ) where
       go : Dec (TablesTaken w) → Dec (length (textOf w) ≤ length room) → (x : Wrote × List ℕ) × WriteAnswer w room (wroteNumber (x .0)) (byteCount (x .0)) (x .1)
       go (no n) r = ((wrote.NotABook, room), not-a-book n)
       go (yes t) (no n) = ((wrote.NoRoom, room), by-tables t (no-room (omega arith)))
-      go (yes t) (yes l) = ((wrote.Bytes (length (textOf w)), textOf w ++ drop (length (textOf w)) room), by-tables t (writes l))
+      go (yes t) (yes l) = ((wrote.Length (length (textOf w)), textOf w ++ drop (length (textOf w)) room), by-tables t (writes l))
 
   -- and no other
   pub answer-once : {y n : ℕ} {a : List ℕ} {z m : ℕ} {b : List ℕ} → WriteAnswer w room y n a → WriteAnswer w room z m b → _≡_ {A = WriteLeft} (y, (n, a)) (z, (m, b))

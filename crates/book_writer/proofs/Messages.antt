@@ -1,15 +1,14 @@
 -- A walk along the columns of messages and of all their signals, a message at a time. Assumes nothing.
 use mathlib.Core.Path.{_≡_, refl, sym, ap, _∙_, subst}
-use Prim.Native.Nat.{ℕ, suc, _+_, _-_, _≤_, _<_}
+use Prim.Native.Nat.{ℕ, _+_, _-_, _≤_, _<_}
 use native.Mathlib.Omega.{arith}
-use native.Mathlib.Numerals.{add-one}
 use mathlib.Core.List.{List, [], _∷_, _++_, map}
 use lib.ListN.{length, getD, take, drop, length-append, length-map, length-drop}
 use lib.Seq.{take-at, drop-at, drop-drop}
 use Rattle.line.specs.declared.Line.{Line}
 use Rattle.line.specs.declared.Line.the-variants as line
 use Rattle.books.specs.Book.{Message, Placement, identifiers, numbers, allPlacements}
-use Rattle.books.specs.Words.{placementStarts, endsAfter, sideBySide, shown}
+use Rattle.books.specs.Words.{placementStarts, endsAfter, sideBySide}
 use Rattle.books.proofs.Columns.{shown-back}
 use Rattle.books.proofs.Ends.{map-append}
 use Rattle.books.proofs.Sides.{side-back, from}

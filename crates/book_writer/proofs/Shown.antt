@@ -1,15 +1,13 @@
 -- What the columns of a record have, where its tables are those of a taken book. Assumes nothing.
-use mathlib.Core.Path.{_≡_, refl, sym, ap, _∙_, subst}
+use mathlib.Core.Path.{_≡_, sym, ap, _∙_, subst}
 use mathlib.Core.Bool.{true}
-use Prim.Native.Nat.{ℕ, _+_, _*_, _^_, _≤_, _<_}
+use Prim.Native.Nat.{ℕ, _≤_}
 use native.Mathlib.Omega.{arith}
-use mathlib.Core.List.{List, [], _∷_, _++_, map}
-use lib.ListN.{length, getD, take, drop, length-map}
-use lib.Seq.{sets, length-take-le}
+use mathlib.Core.List.{List, map}
+use lib.ListN.{length, take, length-map}
 use Rattle.record.specs.Limits.{messageLimit, signalLimit, routeLimit}
-use Rattle.record.specs.Place.{placeLimit}
-use Rattle.record.specs.Columns.{messageCountOf, signalCountOf, routeCountOf, idsOf, endsOf, numbersOf, startsOf, fromsOf, tosOf, IsRecord}
-use Rattle.books.specs.Book.{Message, Placement, Route, identifiers, numbers, allPlacements}
+use Rattle.record.specs.Columns.{messageCountOf, signalCountOf, routeCountOf, idsOf, endsOf, numbersOf, startsOf, fromsOf, tosOf}
+use Rattle.books.specs.Book.{Message, Placement, identifiers, numbers, allPlacements}
 use Rattle.books.specs.Words.{placementStarts, endsAfter, sideBySide, messagesOf, messagesTaken, froms, tos, routesOf, routesSideBySide, Stands}
 use Rattle.books.proofs.Columns.{Within, within, taken-stands, take-column, length-ends, ids-stand, ends-stand, numbers-stand, starts-stand}
 use Rattle.books.proofs.RouteColumns.{froms-are, tos-are, from-count, to-count, routes-side}

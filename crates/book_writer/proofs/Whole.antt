@@ -1,20 +1,19 @@
 -- The whole text of a book whose tables are those of a taken one: how long it is, and that both parts, written one after the other,
 -- are it. Assumes nothing.
-use mathlib.Core.Path.{_≡_, refl, sym, ap, _∙_, subst}
+use mathlib.Core.Path.{_≡_, sym, ap, _∙_, subst}
 use mathlib.Core.Bool.{Bool, true, false}
-use Prim.Native.Nat.{ℕ, _+_, _*_, _≤_, _<_}
+use Prim.Native.Nat.{ℕ, _+_, _*_, _≤_}
 use native.Mathlib.Nat.{zero-add}
 use native.Mathlib.Omega.{arith}
 use mathlib.Core.List.{List, [], _∷_, _++_, map}
-use lib.ListN.{length, drop, length-append, length-map}
+use lib.ListN.{length, drop, length-append}
 use lib.Seq.{sets, sets-eq}
-use Rattle.record.specs.Limits.{messageLimit, signalLimit, routeLimit}
 use Rattle.record.specs.Columns.{messageCountOf}
 use Rattle.line.specs.declared.Line.{Line}
 use Rattle.line.specs.declared.Line.the-variants as line
 use Rattle.line.specs.Written.{Writable}
 use Rattle.books.specs.Book.{Placement, Route, allPlacements}
-use Rattle.books.specs.Words.{messagesOf, routesOf, messagesTaken}
+use Rattle.books.specs.Words.{messagesOf, routesOf}
 use Rattle.books.proofs.Building.{good-built}
 use Rattle.books.proofs.Columns.{taken-stands}
 use Rattle.reading.specs.Written.{routeLine, messageLines, bookLines, bookText}
@@ -24,7 +23,7 @@ use Rattle.printing.specs.Put.{Put}
 use Rattle.printing.proofs.Puts.{and-then}
 use Rattle.line_writer.specs.Texts.{linesText, FewDigits, AllFewDigits, LinesFit}
 use Rattle.line_writer.proofs.Lengths.{text-append}
-use Rattle.book_writer.specs.Answers.{bookOf, textOf, TablesTaken, WriteBy, no-room, writes}
+use Rattle.book_writer.specs.Answers.{bookOf, textOf, TablesTaken, WriteBy, writes}
 use Rattle.book_writer.proofs.TextLength.{signalBytes, routeBytes, signals-few, routes-few, text-long}
 use Rattle.book_writer.proofs.Shown.{stand, limits}
 

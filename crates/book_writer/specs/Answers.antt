@@ -14,13 +14,13 @@ use Rattle.book_writer.specs.declared.Wrote.the-variants as wrote
 
 -- document 02's number of each answer; 0 is no refusal
 abbrev pub wroteNumber : Wrote → ℕ
-wroteNumber (wrote.Bytes n) = 0
+wroteNumber (wrote.Length n) = 0
 wroteNumber wrote.NotABook = 12
 wroteNumber wrote.NoRoom = 71
 
 -- and how many bytes it counts
 abbrev pub byteCount : Wrote → ℕ
-byteCount (wrote.Bytes n) = n
+byteCount (wrote.Length n) = n
 byteCount wrote.NotABook = 0
 byteCount wrote.NoRoom = 0
 

@@ -17,8 +17,8 @@ pub const MOST_WRITTEN: usize = 4800;
 
 // What came of a call for a book's text.
 pub enum Wrote {
-    // this many bytes stand at the front of the room
-    Bytes(u32),
+    // a text of this many bytes stands at the front of the room
+    Length(u32),
     // the record is that of no taken book
     NotABook,
     // the room is smaller than the text
@@ -36,7 +36,7 @@ fn write_tested(book: &[u32; BOOK_WORDS], room: &mut [u8]) -> Wrote
     }
     let routes = put_message_lines(book, &mut *room);
     put_route_lines(book, &mut *room, routes);
-    Wrote::Bytes(length)
+    Wrote::Length(length)
 }
 
 // Writes the text of the book to the front of the room.

@@ -5,12 +5,12 @@ use mathlib.Core.Path.{_≡_, refl, sym, ap, _∙_, subst}
 use mathlib.Core.Logic.{_↔_}
 use Prim.Native.Nat.{ℕ, _≤_, _<_}
 use native.Mathlib.Omega.{arith}
-use mathlib.Core.List.{List, _++_}
+use mathlib.Core.List.{List}
 use lib.ListN.{length, take, drop}
 use lib.Seq.{take-append-seam, drop-append-seam}
 use Rattle.record.specs.Columns.{messageCountOf, signalCountOf, routeCountOf, IsRecord}
 use Rattle.answers.specs.Numbers.{Said, taken}
-use Rattle.books.specs.Book.{Book, allPlacements}
+use Rattle.books.specs.Book.{Book}
 use Rattle.books.specs.Words.{wordsOf, messagesOf, routesOf}
 use Rattle.books.proofs.Building.{good-built, built-good}
 use Rattle.books.proofs.Columns.{within, taken-stands, words-stand, shows}
@@ -20,21 +20,21 @@ use Rattle.reading.specs.Taken.{TakenWith}
 use Rattle.reading.proofs.Passing.{read-built}
 use Rattle.reading.proofs.Counts.{text-routed}
 use Rattle.reading.proofs.Exact.{has-text}
-use Rattle.route_tables.specs.Tables.{LeftOf, OfTakenText}
+use Rattle.route_tables.specs.Tables.{LeftOf}
 use Rattle.route_tables.proofs.FromTexts.{routed-shown}
-use Rattle.route_tables.proofs.OneText.{stand-words, of-taken-text, text-messages-taken, text-routes-taken}
+use Rattle.route_tables.proofs.OneText.{stand-words, text-messages-taken, text-routes-taken}
 use Rattle.book.specs.Answered.{Answered, taken-with}
 use Rattle.book.proofs.Once.{answered-once}
 use Rattle.book_writer.specs.Answers.{bookOf, textOf, mostWritten, TablesTaken, WriteBy, no-room, writes, WriteAnswer, not-a-book, by-tables}
 use Rattle.book_writer.proofs.Bound.{bound}
 use Rattle.rewriting.specs.SameLines.{textLines, RoutesLast}
 use Rattle.rewriting.proofs.Back as back
-use Rattle.demands.specs.WritingBack.{Wrote, SameLines, SameTables}
+use Rattle.demands.specs.WritingBack.{AtFront, SameLines, SameTables}
 use Rattle.demands.proofs.Taken.{left}
 
 -- ---- what an answer that refuses nothing left
 module _ (w room : List ℕ) where
-  by-front : {why n : ℕ} {after : List ℕ} → WriteBy w room why n after → why ≡ 0 → Wrote room n after (textOf w)
+  by-front : {why n : ℕ} {after : List ℕ} → WriteBy w room why n after → why ≡ 0 → AtFront room n after (textOf w)
   by-front (no-room l) e = absurd (omega arith)
   by-front (writes l) e = record {
     count = refl;
@@ -42,7 +42,7 @@ module _ (w room : List ℕ) where
     rest = drop-append-seam (textOf w) (drop (length (textOf w)) room);
   }
 
-  pub written : {why n : ℕ} {after : List ℕ} → WriteAnswer w room why n after → why ≡ 0 → Wrote room n after (textOf w)
+  pub written : {why n : ℕ} {after : List ℕ} → WriteAnswer w room why n after → why ≡ 0 → AtFront room n after (textOf w)
   written (not-a-book x) e = absurd (omega arith)
   written (by-tables t b) e = by-front b e
 
@@ -137,7 +137,7 @@ module _ (text : List ℕ) {m s r : ℕ} {w : List ℕ} (a : Answered text (take
     pub refused-71 : (why ≡ 71) ↔ (length room < length text)
     refused-71 = let k = told-room w room taken-tables b in (λ e. omega (arith, k .0 e, as-long), λ h. k .1 (omega (arith, as-long)))
 
-    pub write-of-taken : length text ≤ length room → Wrote room n after (textOf w) × SameLines text (take n after)
+    pub write-of-taken : length text ≤ length room → AtFront room n after (textOf w) × SameLines text (take n after)
     write-of-taken h =
         let z = told-number w room taken-tables b (omega (arith, as-long)) in
         let f = written w room b z in

@@ -10,7 +10,7 @@ use Rattle.answers.specs.Numbers.{Said, taken}
 use Rattle.rewriting.specs.SameLines.{messageLinesOf, routeLinesOf}
 
 -- a text was written to the front of the room: so many bytes of it, and the rest of the room as lent
-pub record Wrote (room : List ℕ) (n : ℕ) (after text : List ℕ) : Type 0 where
+pub record AtFront (room : List ℕ) (n : ℕ) (after text : List ℕ) : Type 0 where
   pub count : n ≡ length text
   pub front : take n after ≡ text
   pub rest : drop n after ≡ drop n room

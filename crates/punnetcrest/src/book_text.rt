@@ -9,7 +9,7 @@ pub extern "C" fn pc_book_write(book: &[u32; BOOK_WORDS], text: &mut [u8], count
 {
     let answer = book_writer::write(book, text);
     match answer {
-        book_writer::Wrote::Bytes(n) => {
+        book_writer::Wrote::Length(n) => {
             *count = n;
             0
         }

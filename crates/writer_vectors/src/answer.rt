@@ -48,7 +48,7 @@ fn print_refusal(room: &[u8], number: usize) {
 // The room is as it is lent.
 pub fn print_answer(book: &[u32; BOOK_WORDS], room: &mut [u8]) {
     match book_writer::write(book, &mut *room) {
-        Wrote::Bytes(n) => print_text(&*room, n as usize),
+        Wrote::Length(n) => print_text(&*room, n as usize),
         Wrote::NotABook => print_refusal(&*room, 12),
         Wrote::NoRoom => print_refusal(&*room, 71),
     }

@@ -1,5 +1,4 @@
 -- `line_writer::signal_length` meets its contract: letter, two tabs, newline, and the digits of both numbers. Assumes nothing.
-use mathlib.Core.Path.{sym, _∙_}
 use native.Mathlib.Omega.{arith}
 use Rattle.numerals.proofs.Decimals.{width-few}
 use Rattle.line_writer.proofs.Lengths.{signal-long}

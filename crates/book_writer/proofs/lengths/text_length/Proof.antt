@@ -4,7 +4,7 @@ use native.Mathlib.Omega.{arith}
 use lib.ListN.{length}
 use Rattle.line_writer.specs.Texts.{linesText}
 use Rattle.book_writer.proofs.TextLength.{signalBytes}
-use Rattle.book_writer.proofs.Shown.{few-messages, few-signals, few-routes, routes-level, own-signals, own-routes}
+use Rattle.book_writer.proofs.Shown.{few-messages, few-signals, few-routes, own-signals, own-routes}
 use Rattle.book_writer.proofs.Whole.{few-bytes, length-is}
 use borrow.Author.Needs.{needs}
 use Rattle.book_writer.proofs.lengths.text_length.Statement.{statement}

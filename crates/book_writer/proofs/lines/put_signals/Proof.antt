@@ -10,7 +10,6 @@ use Rattle.reading.specs.Written.{signalLine}
 use Rattle.line_writer.proofs.Left.{LinesLeft, all-left, first-fit, lines-put, none-left}
 use Rattle.book_writer.specs.ShownLines.{signalLines}
 use Rattle.book_writer.proofs.Columns.{signal-left, no-signal-left}
-use borrow.Author.Needs.{needs}
 use Rattle.book_writer.proofs.lines.put_signals.Statement.{statement}
 use Rattle.book_writer.proofs.lines.put_signals.Tie as tie
 use Rattle.book_writer.proofs.lines.put_signals.Reads as reads
