@@ -70,19 +70,9 @@ module _ (w room : List ℕ) where
 -- ---- of any record
 module _ (w : List ℕ) (r : IsRecord w) where
   -- the book that it shows is that of its own text, and the record is its words
-  own-text : TablesTaken w → LeftOf (textOf w) w
-  own-text t =
-      let s = taken-stands w (t .messages) in
-      record {
-        book = bookOf w;
-        taken = has-text (bookOf w) (good-built (messagesOf w) (s .1)) (routed-shown w r) (t .routes .sound);
-        words = stand-words w (bookOf w) r (s .0) (t .routes .stand);
-      }
-
   own-answer : TablesTaken w → Answered (textOf w) (taken (messageCountOf w) (signalCountOf w) (routeCountOf w)) w
   own-answer t =
       let s = taken-stands w (t .messages) in
-      let l = own-text t in
       let a = taken-with (has-text (bookOf w) (good-built (messagesOf w) (s .1)) (routed-shown w r) (t .routes .sound)) in
       rw (s .0 .messages, s .0 .signals, t .routes .stand .count) (subst (Answered (textOf w) _) (sym (stand-words w (bookOf w) r (s .0) (t .routes .stand))) a)
 
