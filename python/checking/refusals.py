@@ -38,7 +38,7 @@ def list_of(numbers):
 
 
 def too_long(book, line, said):
-    yield "A book of 64 messages, 256 signals and 64 routes needs about 5,000 bytes. Is it the file you meant?"
+    yield "No book that can be taken has more than 4,800 bytes. Is it the file you meant?"
 
 
 # ---- the form of a line

@@ -1,6 +1,9 @@
 // The book writer: a route book on standard input; on standard output its text, each M line with its S lines, then the R lines, in book
 // order; of a book that is refused the checker's line. Like the book checker it reads no more of its input than tells that a text is too
 // long, and takes no words.
+ghost use Prim.Native.Nat.{_≤_};
+ghost use lib.ListN.{length};
+ghost use Rattle.book_writer.specs.Answers.{mostWritten};
 use answers::Answer;
 use book_streams::ENOUGH;
 use book_streams::send_answer;
@@ -12,11 +15,12 @@ use record::BOOK_WORDS;
 use record::wide;
 use streams::write_first;
 
-// The text of a book that was taken. There is room for any.
-fn send_text(book: &[u32; BOOK_WORDS]) {
-    let mut room = [0u8; MOST_WRITTEN];
-    if let Wrote::Length(count) = book_writer::write(book, &mut room) {
-        write_first(&room, wide(count));
+// The text of a book that was taken, by way of a room that has space for any.
+fn send_text(book: &[u32; BOOK_WORDS], room: &mut [u8])
+    requires { ⌜ mostWritten ≤ length (now room) ⌝ }
+{
+    if let Wrote::Length(count) = book_writer::write(book, &mut *room) {
+        write_first(&*room, wide(count));
     }
 }
 
@@ -33,7 +37,8 @@ fn main() {
     let mut words = [0u32; BOOK_WORDS];
     let answer = book::read(&text[..size], &mut words);
     if let Answer::Taken(_, _, _) = answer {
-        send_text(&words);
+        let mut room = [0u8; MOST_WRITTEN];
+        send_text(&words, &mut room);
         return;
     }
     send_answer(answer);

@@ -1,17 +1,14 @@
 -- How long the text of a book is: 11 bytes for each message, and those of the lines of its signals and routes. Assumes nothing.
 use mathlib.Core.Path.{_≡_, refl, ap, _∙_}
-use Prim.Native.Nat.{ℕ, _+_, _*_, _≤_, _<_}
-use native.Mathlib.Nat.{zero-add}
+use Prim.Native.Nat.{ℕ, _+_, _*_, _≤_}
 use native.Mathlib.Omega.{arith}
 use mathlib.Core.List.{List, [], _∷_, _++_, map}
-use lib.ListN.{length, getD, length-append}
+use lib.ListN.{length, length-append}
 use Rattle.numerals.proofs.Decimals.{width-few}
 use Rattle.parts.specs.Joined.{textOfLines}
 use Rattle.line.specs.declared.Line.{Line}
 use Rattle.line.specs.declared.Line.the-variants as line
-use Rattle.books.specs.Book.{Book, Message, Placement, Route, allPlacements, routeBetween}
-use Rattle.books.specs.Words.{sideBySide, routesSideBySide}
-use Rattle.books.proofs.Sides.{placementAt, rest, rest-more, rest-none, routesFromOn, routes-more, routes-none}
+use Rattle.books.specs.Book.{Book, Message, Placement, Route, allPlacements}
 use Rattle.reading.specs.Written.{signalLine, routeLine, messageLines, bookLines, bookText}
 use Rattle.line_writer.specs.Texts.{linesText}
 use Rattle.line_writer.proofs.Lengths.{message-long, signal-long, route-few, text-append}
@@ -68,41 +65,3 @@ routes-few (r ∷ rs) = omega (arith, one-route r rs, route-few (r .from) (r .to
 pub text-long : (b : Book) → length (bookText b) ≡ 11 * length (b .messages) + signalBytes (allPlacements (b .messages)) + routeBytes (b .routes)
 unfolding bookText bookLines
 text-long b = omega (arith, two (messageLines (b .messages)) (map routeLine (b .routes)), messages-long (b .messages))
-
--- the lengths of the S lines so far, and those from i on, are those of all
-pub record LengthSoFar (ns ss : List ℕ) (sum i : ℕ) : Type 0 where
-  pub whole : sum + signalBytes (rest ns ss i) ≡ signalBytes (sideBySide ns ss)
-  pub within : i ≤ length ns
-
-pub length-start : (ns ss : List ℕ) → LengthSoFar ns ss 0 0
-length-start ns ss = record { whole = zero-add (signalBytes (sideBySide ns ss)); within = omega arith }
-
-module _ (ns ss : List ℕ) (e : length ss ≡ length ns) {sum i : ℕ} (s : LengthSoFar ns ss sum i) where
-  pub length-more : {n : ℕ} → i < length ns → n ≡ length (linesText (signalLine (placementAt ns ss i) ∷ [])) → LengthSoFar ns ss (sum + n) (i + 1)
-  length-more h is = record {
-    whole = omega (arith, s .whole, is, ap signalBytes (rest-more ns ss i h e), one-signal (placementAt ns ss i) (rest ns ss (i + 1)));
-    within = omega arith;
-  }
-
-  pub length-all : length ns ≤ i → sum ≡ signalBytes (sideBySide ns ss)
-  unfolding textOfLines
-  length-all h = let z : signalBytes (rest ns ss i) ≡ 0 = ap signalBytes (rest-none ns ss i h) in omega (arith, s .whole)
-
--- the lengths of the R lines so far, and those from i on, are those of all
-pub record RouteLengthSoFar (fs ts : List ℕ) (sum i : ℕ) : Type 0 where
-  pub whole : sum + routeBytes (routesFromOn fs ts i) ≡ routeBytes (routesSideBySide fs ts)
-  pub within : i ≤ length fs
-
-pub routes-start : (fs ts : List ℕ) → RouteLengthSoFar fs ts 0 0
-routes-start fs ts = record { whole = zero-add (routeBytes (routesSideBySide fs ts)); within = omega arith }
-
-module _ (fs ts : List ℕ) (e : length ts ≡ length fs) {sum i : ℕ} (s : RouteLengthSoFar fs ts sum i) where
-  pub routes-on : {n : ℕ} → i < length fs → n ≡ length (linesText (routeLine (routeBetween (getD fs i 0) (getD ts i 0)) ∷ [])) → RouteLengthSoFar fs ts (sum + n) (i + 1)
-  routes-on h is = record {
-    whole = omega (arith, s .whole, is, ap routeBytes (routes-more fs ts i h e), one-route (routeBetween (getD fs i 0) (getD ts i 0)) (routesFromOn fs ts (i + 1)));
-    within = omega arith;
-  }
-
-  pub routes-all : length fs ≤ i → sum ≡ routeBytes (routesSideBySide fs ts)
-  unfolding textOfLines
-  routes-all h = let z : routeBytes (routesFromOn fs ts i) ≡ 0 = ap routeBytes (routes-none fs ts i h) in omega (arith, s .whole)

@@ -13,11 +13,13 @@ use Rattle.line.specs.declared.Line.{Line}
 use Rattle.line.specs.declared.Line.the-variants as line
 use Rattle.line.specs.Written.{Writable}
 use Rattle.books.specs.Book.{Placement, Route, allPlacements}
-use Rattle.books.specs.Words.{messagesOf, routesOf}
+use Rattle.books.specs.Words.{messagesOf, routesOf, messagesTaken}
 use Rattle.books.proofs.Building.{good-built}
 use Rattle.books.proofs.Columns.{taken-stands}
 use Rattle.reading.specs.Written.{routeLine, messageLines, bookLines, bookText}
 use Rattle.reading.proofs.Texts.{AllWritable, nothing, also, messages-writable}
+use Rattle.chains.specs.Tells.{Tells}
+use Rattle.route_tables.specs.Tables.{RoutesTaken}
 use Rattle.route_tables.proofs.Shown.{few-shown}
 use Rattle.printing.specs.Put.{Put}
 use Rattle.printing.proofs.Puts.{and-then}
@@ -30,6 +32,11 @@ use Rattle.book_writer.proofs.Shown.{stand, limits}
 -- one answer of a test can't be both
 pub messages-not : {a r : Bool} → a ≡ true → r ≡ a → r ≡ false → ⊥
 messages-not e f g = let z : true ≡ false = sym (f ∙ e) ∙ g in absurd (let x : _≡_ {A = ℕ} 0 1 = cc in omega arith)
+
+-- where the messages are taken, the test of the routes tells of all tables
+pub all-told : (w : List ℕ) → messagesTaken w ≡ true → (r : Bool) → Tells (RoutesTaken w) r → Tells (TablesTaken w) r
+all-told w m true t = record { messages = m; routes = t }
+all-told w m false t = λ a. t (a .routes)
 
 -- lines that have texts can be written, and R lines can in any case
 digits-of : (l : Line) → Writable l → FewDigits l

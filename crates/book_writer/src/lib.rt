@@ -9,6 +9,7 @@ use lines::put_message_lines;
 use lines::put_route_lines;
 use record::BOOK_WORDS;
 use record::wide;
+ghost use Rattle.chains.specs.Tells.{Tells};
 ghost use Rattle.book_writer.specs.Answers.{TablesTaken, wroteNumber, byteCount, WriteBy, WriteAnswer};
 
 // No text of a book is longer: 64 M lines of 11 bytes, 256 S lines of 10 and 64 R lines of 24. A room of this many bytes is always
@@ -23,6 +24,16 @@ pub enum Wrote {
     NotABook,
     // the room is smaller than the text
     NoRoom,
+}
+
+// Whether all tables of the book are those of a taken one.
+fn tables_taken(book: &[u32; BOOK_WORDS]) -> bool
+    ensures { λ r. ⌜ Tells (TablesTaken (now (book .entry))) r ⌝ }
+{
+    if !tables::messages_taken(book) {
+        return false;
+    }
+    route_tables::routes_taken(book)
 }
 
 // Writes the text of a book whose tables have been tested to the front of the room.
@@ -43,10 +54,7 @@ fn write_tested(book: &[u32; BOOK_WORDS], room: &mut [u8]) -> Wrote
 pub fn write(book: &[u32; BOOK_WORDS], room: &mut [u8]) -> Wrote
     ensures { λ r. ⌜ WriteAnswer (now (book .entry)) (now (room .entry)) (wroteNumber r) (byteCount r) (now (room .exit)) ⌝ }
 {
-    if !tables::messages_taken(book) {
-        return Wrote::NotABook;
-    }
-    if !route_tables::routes_taken(book) {
+    if !tables_taken(book) {
         return Wrote::NotABook;
     }
     write_tested(book, room)

@@ -15,6 +15,7 @@ use Rattle.books.specs.Words.{wordsOf, messagesOf, routesOf}
 use Rattle.books.proofs.Building.{good-built, built-good}
 use Rattle.books.proofs.Columns.{within, taken-stands, words-stand, shows}
 use Rattle.books.proofs.RouteColumns.{words-routes, shows-routes}
+use Rattle.reading.specs.Reading.{passed, linesRead}
 use Rattle.reading.specs.Written.{bookText}
 use Rattle.reading.specs.Taken.{TakenWith}
 use Rattle.reading.proofs.Passing.{read-built}
@@ -105,9 +106,9 @@ module _ (b : Book) (text : List ℕ) (t : TakenWith text b) where
       let s = shows-routes (wordsOf b) (b .routes) (r .few) (words-routes b (l .few) (l .room) (r .few)) in
       ap (λ ms. record { messages = ms; routes = routesOf (wordsOf b) }) m ∙ ap (λ rs. record { messages = b .messages; routes = rs }) s
 
-  -- no taken text is longer than 4,800 bytes
-  pub taken-short : length text ≤ mostWritten
-  taken-short = omega (arith, back.same-length text (t .read), bound b (read-built text (t .read)) (text-routed text (t .read)))
+-- no text whose lines pass, whatever its length, is longer than 4,800 bytes
+pub passed-short : (text : List ℕ) {b : Book} {at : List ℕ} → linesRead text ≡ passed b at → length text ≤ mostWritten
+passed-short text {b} e = omega (arith, back.same-length text e, bound b (read-built text e) (text-routed text e))
 
 module _ (text : List ℕ) {m s r : ℕ} {w : List ℕ} (a : Answered text (taken m s r) w) where
   abbrev l : LeftOf text w

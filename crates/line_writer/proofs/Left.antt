@@ -1,7 +1,8 @@
--- Lines written one after another into a lent list: writing those that are left gives the final list. Assumes nothing.
+-- Lines written one after another into a lent list: writing those that are left gives the final list; and their lengths summed up, likewise.
+-- Assumes nothing.
 use mathlib.Core.Path.{_≡_, refl, sym, ap, _∙_}
 use Prim.Native.Nat.{ℕ, _+_, _≤_}
-use native.Mathlib.Nat.{add-zero}
+use native.Mathlib.Nat.{add-zero, zero-add}
 use native.Mathlib.Omega.{arith}
 use mathlib.Core.List.{List, [], _∷_, _++_}
 use lib.ListN.{length, length-append}
@@ -58,3 +59,19 @@ module _ {old : List ℕ} {first : ℕ} {all : List Line} {out : List ℕ} {at :
   pub none-left : LinesLeft old first all out at [] → Put old first (linesText all) out at
   unfolding textOfLines
   none-left l = record { now-there = l .rest; now-at = sym (add-zero at) ∙ l .ends }
+
+-- ---- a sum of lengths: with that of the lines that are left it is that of all
+pub record LengthSoFar (all : List Line) (sum : ℕ) (left : List Line) : Type 0 where
+  pub whole : sum + length (linesText left) ≡ length (linesText all)
+
+pub none-summed : (all : List Line) → LengthSoFar all 0 all
+none-summed all = record { whole = zero-add (length (linesText all)) }
+
+module _ {all : List Line} {sum : ℕ} where
+  pub one-summed : (l : Line) (left : List Line) → LengthSoFar all sum (l ∷ left) → {n : ℕ} → n ≡ length (linesText (l ∷ [])) → LengthSoFar all (sum + n) left
+  one-summed l left s e =
+      record { whole = omega (arith, s .whole, e, ap length (text-append (l ∷ []) left), length-append (linesText (l ∷ [])) (linesText left)) }
+
+  pub all-summed : LengthSoFar all sum [] → sum ≡ length (linesText all)
+  unfolding textOfLines
+  all-summed s = sym (add-zero sum) ∙ s .whole

@@ -1,20 +1,9 @@
-// What the programs `routes_vectors` and `spread_vectors` share: a number of two hex digits, and a call for a spread with what came of
-// it printed: a word, the count and the places, or `no` and the refusal.
-ghost use mathlib.Core.Path.{_≡_};
-ghost use mathlib.Core.List.{[], _∷_};
-ghost use Rattle.numerals.specs.Numeral.{numeralFrom, orZero};
+// What the programs `routes_vectors` and `spread_vectors` share: a call for a spread with what came of it printed: a word, the count and
+// the places, or `no` and the refusal.
 use libc::STDOUT_FILENO;
-use numerals::identifier_or_0;
 use record::BOOK_WORDS;
 use record::ROUTES;
 use routes::Sent;
-
-// The number that two digits 0-9 A-F write; 0 where they write none.
-pub fn short_hex(high: u8, low: u8) -> usize
-    ensures { λ r. ⌜ r ≡ orZero (numeralFrom 16 0 (high ∷ low ∷ [])) ⌝ }
-{
-    identifier_or_0(&[b'0', b'0', b'0', b'0', b'0', b'0', high, low]) as usize
-}
 
 fn print_place(place: u32) {
     let mut text = [b'\t', 0, 0, 0, 0, 0, 0, 0, 0];

@@ -10,7 +10,7 @@ use record::IDENTIFIER_LIMIT;
 use record::ROUTE_COUNT;
 use record::ROUTES;
 use record::TOS;
-use route_cases::short_hex;
+use record_cases::short_hex;
 use streams::read_first;
 use verdict::Verdict;
 

@@ -2,41 +2,13 @@
 // (`R` the count of routes, `F` the places they lead from, `G` those they lead to), an index in two hex digits and a value in eight,
 // which sets an entry; or `S`, a bus and an identifier in eight digits each and a room in two, which asks for a spread and gives a line:
 // `spread`, the count and the places, or `no` and the refusal.
-ghost use Prim.Native.Nat.{_≤_};
-ghost use Rattle.record.specs.Columns.{bookWords};
 use libc::STDIN_FILENO;
 use numerals::identifier_or_0;
 use record::BOOK_WORDS;
-use record::FROMS;
-use record::ROUTE_COUNT;
-use record::TOS;
-use route_cases::short_hex;
+use record_cases::set_entry;
+use record_cases::short_hex;
 
 const MOST_LINES: u32 = 1000000;
-
-// Where the column of a letter begins.
-fn column(letter: u8) -> usize
-    ensures { λ r. ⌜ r ≤ bookWords ⌝ }
-{
-    if letter == b'R' {
-        return ROUTE_COUNT;
-    }
-    if letter == b'F' {
-        return FROMS;
-    }
-    TOS
-}
-
-fn set_entry(book: &mut [u32; BOOK_WORDS]) {
-    let mut line = [0u8; 12];
-    io::read_full(STDIN_FILENO, &mut line);
-    let index = short_hex(line[1], line[2]);
-    let value = identifier_or_0(&line[3..11]);
-    let start = column(line[0]);
-    if index < BOOK_WORDS - start {
-        book[start + index] = value;
-    }
-}
 
 fn ask(book: &[u32; BOOK_WORDS]) {
     let mut line = [0u8; 19];

@@ -5,23 +5,12 @@
 // bytes of the room are.
 mod answer;
 
-ghost use Prim.Native.Nat.{_≤_};
-ghost use Rattle.record.specs.Columns.{bookWords};
 use answer::print_answer;
 use libc::STDIN_FILENO;
 use numerals::identifier_or_0;
 use parts::part_before;
 use record::BOOK_WORDS;
-use record::ENDS;
-use record::FROMS;
-use record::IDS;
-use record::MESSAGE_COUNT;
-use record::NUMBERS;
-use record::ROUTE_COUNT;
-use record::SIGNAL_COUNT;
-use record::STARTS;
-use record::TOS;
-use route_cases::short_hex;
+use record_cases::set_entry;
 use streams::read_first;
 
 const MOST_LINES: u32 = 1000000;
@@ -52,34 +41,6 @@ fn read_book(book: &mut [u32; BOOK_WORDS]) {
     if size < ROOM {
         read_first(&mut text, size + 1);
         take_first(&text, size, book);
-    }
-}
-
-// Where the column of a letter begins.
-fn column(letter: u8) -> usize
-    ensures { λ r. ⌜ r ≤ bookWords ⌝ }
-{
-    match letter {
-        b'M' => MESSAGE_COUNT,
-        b'S' => SIGNAL_COUNT,
-        b'R' => ROUTE_COUNT,
-        b'I' => IDS,
-        b'E' => ENDS,
-        b'N' => NUMBERS,
-        b'T' => STARTS,
-        b'F' => FROMS,
-        _ => TOS,
-    }
-}
-
-fn set_entry(book: &mut [u32; BOOK_WORDS]) {
-    let mut line = [0u8; 12];
-    io::read_full(STDIN_FILENO, &mut line);
-    let index = short_hex(line[1], line[2]);
-    let value = identifier_or_0(&line[3..11]);
-    let start = column(line[0]);
-    if index < BOOK_WORDS - start {
-        book[start + index] = value;
     }
 }
 

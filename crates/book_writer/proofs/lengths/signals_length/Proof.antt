@@ -1,10 +1,15 @@
 -- `book_writer::lengths::signals_length` meets its contract: what is summed so far, and what is left, is all. Assumes nothing.
 use Prim.Native.Nat.{_-_}
+use mathlib.Core.List.{map}
 use native.Mathlib.Omega.{arith}
 use lib.ListN.{length}
 use Rattle.books.specs.Words.{sideBySide}
-use Rattle.books.proofs.Sides.{side-length}
-use Rattle.book_writer.proofs.TextLength.{LengthSoFar, length-start, length-more, length-all, signals-few}
+use Rattle.books.proofs.Sides.{rest, side-length}
+use Rattle.reading.specs.Written.{signalLine}
+use Rattle.line_writer.proofs.Left.{LengthSoFar, none-summed, one-summed, all-summed}
+use Rattle.book_writer.specs.ShownLines.{signalLines}
+use Rattle.book_writer.proofs.Columns.{signal-next, no-signal}
+use Rattle.book_writer.proofs.TextLength.{signals-few}
 use borrow.Author.Needs.{needs}
 use Rattle.book_writer.proofs.lengths.signals_length.Statement.{statement}
 use Rattle.book_writer.proofs.lengths.signals_length.Tie as tie
@@ -13,13 +18,13 @@ use Rattle.book_writer.proofs.lengths.signals_length.Lts as lts
 use Rattle.line_writer.proofs.signal_length.Reads as signal-length-reads
 
 abbrev Inv-loop : tie.InvT-loop
-Inv-loop numbers starts sum₀ i₀ sum i = LengthSoFar numbers starts sum i
+Inv-loop numbers starts sum₀ i₀ sum i = LengthSoFar (signalLines numbers starts) sum (map signalLine (rest numbers starts i))
 
 abbrev μ-loop : tie.MeasureT-loop
 μ-loop numbers starts sum₀ i₀ sum i = length numbers - i
 
 loop-holds : tie.Need-loop-holds Inv-loop μ-loop
-loop-holds c = length-start _ _
+loop-holds c = none-summed _
 
 mul-signal-length : tie.Need-mul-signal-length Inv-loop μ-loop
 mul-signal-length c = search needs
@@ -37,7 +42,7 @@ signal-length-requires : tie.Need-signal-length-requires Inv-loop μ-loop
 signal-length-requires c κs = search needs
 
 add-sum : tie.Need-add-sum Inv-loop μ-loop
-add-sum c = let s = length-more _ _ (c .before .before .before .before .before .before .before .pre .0) (c .before .before .before .before .loop .inv) (c .before .before .before .loop-test .taken) (c .signal-length .ensures) in omega (arith, s .whole, c .before .before .before .before .before .before .before .pre .1, signals-few (sideBySide (c .before .before .before .before .before .before .before .args .numbers .now) (c .before .before .before .before .before .before .before .args .starts .now)), side-length (c .before .before .before .before .before .before .before .args .numbers .now) (c .before .before .before .before .before .before .before .args .starts .now) (c .before .before .before .before .before .before .before .pre .0))
+add-sum c = let s = one-summed _ _ (signal-next (LengthSoFar _ _) _ _ _ (c .before .before .before .before .loop .inv) (c .before .before .before .before .before .before .before .pre .0) (c .before .before .before .loop-test .taken)) (c .signal-length .ensures) in omega (arith, s .whole, c .before .before .before .before .before .before .before .pre .1, signals-few (sideBySide (c .before .before .before .before .before .before .before .args .numbers .now) (c .before .before .before .before .before .before .before .args .starts .now)), side-length (c .before .before .before .before .before .before .before .args .numbers .now) (c .before .before .before .before .before .before .before .args .starts .now) (c .before .before .before .before .before .before .before .pre .0))
 
 add-i : tie.Need-add-i Inv-loop μ-loop
 add-i c = search needs
@@ -46,10 +51,10 @@ loop-less : tie.Need-loop-less Inv-loop μ-loop
 loop-less c = omega (arith, c .before .before .before .loop-test .taken)
 
 loop-again : tie.Need-loop-again Inv-loop μ-loop
-loop-again c = length-more _ _ (c .before .before .before .before .before .before .before .pre .0) (c .before .before .before .before .loop .inv) (c .before .before .before .loop-test .taken) (c .signal-length .ensures)
+loop-again c = one-summed _ _ (signal-next (LengthSoFar _ _) _ _ _ (c .before .before .before .before .loop .inv) (c .before .before .before .before .before .before .before .pre .0) (c .before .before .before .loop-test .taken)) (c .signal-length .ensures)
 
 returns : tie.Need-returns Inv-loop μ-loop
-returns c = length-all _ _ (c .before .before .before .before .pre .0) (c .before .loop .inv) (c .loop-test .left)
+returns c = all-summed (no-signal (LengthSoFar _ _) _ _ _ (c .before .loop .inv) (c .loop-test .left))
 
 pub signals-length-spec : {M : Type 1} → statement M
 signals-length-spec =

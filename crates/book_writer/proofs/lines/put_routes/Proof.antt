@@ -7,7 +7,7 @@ use Rattle.books.proofs.Sides.{routesFromOn}
 use Rattle.reading.specs.Written.{routeLine}
 use Rattle.line_writer.proofs.Left.{LinesLeft, all-left, first-fit, lines-put, none-left}
 use Rattle.book_writer.specs.ShownLines.{routeLines}
-use Rattle.book_writer.proofs.Columns.{route-left, no-route-left}
+use Rattle.book_writer.proofs.Columns.{route-next, no-route}
 use borrow.Author.Needs.{needs}
 use Rattle.book_writer.proofs.lines.put_routes.Statement.{statement}
 use Rattle.book_writer.proofs.lines.put_routes.Tie as tie
@@ -37,7 +37,7 @@ shared-slice-read-put-route-2 : tie.Need-shared-slice-read-put-route-2 Inv-loop 
 shared-slice-read-put-route-2 c = omega (arith, c .before .before .before .before .before .before .before .before .pre .0, c .before .before .before .loop-test .taken)
 
 put-route-requires : tie.Need-put-route-requires Inv-loop μ-loop
-put-route-requires c κs = first-fit (_ ∷ []) _ (route-left _ _ _ (c .before .before .before .before .loop .inv) (c .before .before .before .before .before .before .before .before .pre .0) (c .before .before .before .loop-test .taken))
+put-route-requires c κs = first-fit (_ ∷ []) _ (route-next (LinesLeft _ _ _ _ _) _ _ _ (c .before .before .before .before .loop .inv) (c .before .before .before .before .before .before .before .before .pre .0) (c .before .before .before .loop-test .taken))
 
 add-i : tie.Need-add-i Inv-loop μ-loop
 add-i c = search needs
@@ -46,13 +46,13 @@ loop-less : tie.Need-loop-less Inv-loop μ-loop
 loop-less c = omega (arith, c .before .before .before .before .before .before .loop-test .taken)
 
 loop-again : tie.Need-loop-again Inv-loop μ-loop
-loop-again c = lines-put (_ ∷ []) _ (route-left _ _ _ (c .before .before .before .before .before .before .before .loop .inv) (c .before .before .before .before .before .before .before .before .before .before .before .pre .0) (c .before .before .before .before .before .before .loop-test .taken)) (c .before .before .put-route .ensures)
+loop-again c = lines-put (_ ∷ []) _ (route-next (LinesLeft _ _ _ _ _) _ _ _ (c .before .before .before .before .before .before .before .loop .inv) (c .before .before .before .before .before .before .before .before .before .before .before .pre .0) (c .before .before .before .before .before .before .loop-test .taken)) (c .before .before .put-route .ensures)
 
 same-length : tie.Need-same-length Inv-loop μ-loop
 same-length c = c .before .loop .inv .size
 
 returns : tie.Need-returns Inv-loop μ-loop
-returns c = none-left (no-route-left _ _ _ (c .before .loop .inv) (c .loop-test .left))
+returns c = none-left (no-route (LinesLeft _ _ _ _ _) _ _ _ (c .before .loop .inv) (c .loop-test .left))
 
 pub put-routes-spec : {M : Type 1} → statement M
 put-routes-spec =

@@ -9,7 +9,7 @@ use Rattle.books.proofs.Sides.{rest}
 use Rattle.reading.specs.Written.{signalLine}
 use Rattle.line_writer.proofs.Left.{LinesLeft, all-left, first-fit, lines-put, none-left}
 use Rattle.book_writer.specs.ShownLines.{signalLines}
-use Rattle.book_writer.proofs.Columns.{signal-left, no-signal-left}
+use Rattle.book_writer.proofs.Columns.{signal-next, no-signal}
 use Rattle.book_writer.proofs.lines.put_signals.Statement.{statement}
 use Rattle.book_writer.proofs.lines.put_signals.Tie as tie
 use Rattle.book_writer.proofs.lines.put_signals.Reads as reads
@@ -38,7 +38,7 @@ shared-slice-read-put-signal-2 : tie.Need-shared-slice-read-put-signal-2 Inv-loo
 shared-slice-read-put-signal-2 c = omega (arith, c .before .before .before .before .before .before .before .before .pre .0, c .before .before .before .loop-test .taken, c .before .before .before .before .loop .inv .1)
 
 put-signal-requires : tie.Need-put-signal-requires Inv-loop μ-loop
-put-signal-requires c κs = first-fit (_ ∷ []) _ (signal-left (c .before .before .before .before .before .before .before .before .args .numbers .now) (c .before .before .before .before .before .before .before .before .args .starts .now) (c .before .before .before .before .loop .i) (c .before .before .before .before .loop .inv .0) (c .before .before .before .before .before .before .before .before .pre .0) (omega (arith, c .before .before .before .before .loop .inv .1, c .before .before .before .loop-test .taken)))
+put-signal-requires c κs = first-fit (_ ∷ []) _ (signal-next (LinesLeft _ _ _ _ _) (c .before .before .before .before .before .before .before .before .args .numbers .now) (c .before .before .before .before .before .before .before .before .args .starts .now) (c .before .before .before .before .loop .i) (c .before .before .before .before .loop .inv .0) (c .before .before .before .before .before .before .before .before .pre .0) (omega (arith, c .before .before .before .before .loop .inv .1, c .before .before .before .loop-test .taken)))
 
 add-i : tie.Need-add-i Inv-loop μ-loop
 add-i c = omega (arith, c .before .before .before .before .before .before .loop-test .taken, c .before .before .before .before .before .before .before .loop .inv .1)
@@ -50,13 +50,13 @@ loop-less : tie.Need-loop-less Inv-loop μ-loop
 loop-less c = omega (arith, c .before .before .before .before .before .before .loop-test .taken)
 
 loop-again : tie.Need-loop-again Inv-loop μ-loop
-loop-again c = (lines-put (_ ∷ []) _ (signal-left (c .before .before .before .before .before .before .before .before .before .before .before .args .numbers .now) (c .before .before .before .before .before .before .before .before .before .before .before .args .starts .now) (c .before .before .before .before .before .before .before .loop .i) (c .before .before .before .before .before .before .before .loop .inv .0) (c .before .before .before .before .before .before .before .before .before .before .before .pre .0) (omega (arith, c .before .before .before .before .before .before .before .loop .inv .1, c .before .before .before .before .before .before .loop-test .taken))) (c .before .before .put-signal .ensures), omega (arith, c .before .before .before .before .before .before .before .loop .inv .1, c .before .before .before .before .before .before .loop-test .taken))
+loop-again c = (lines-put (_ ∷ []) _ (signal-next (LinesLeft _ _ _ _ _) (c .before .before .before .before .before .before .before .before .before .before .before .args .numbers .now) (c .before .before .before .before .before .before .before .before .before .before .before .args .starts .now) (c .before .before .before .before .before .before .before .loop .i) (c .before .before .before .before .before .before .before .loop .inv .0) (c .before .before .before .before .before .before .before .before .before .before .before .pre .0) (omega (arith, c .before .before .before .before .before .before .before .loop .inv .1, c .before .before .before .before .before .before .loop-test .taken))) (c .before .before .put-signal .ensures), omega (arith, c .before .before .before .before .before .before .before .loop .inv .1, c .before .before .before .before .before .before .loop-test .taken))
 
 same-length : tie.Need-same-length Inv-loop μ-loop
 same-length c = c .before .loop .inv .0 .size
 
 returns : tie.Need-returns Inv-loop μ-loop
-returns c = none-left (no-signal-left (c .before .before .before .before .before .args .numbers .now) (c .before .before .before .before .before .args .starts .now) (c .before .loop .i) (c .before .loop .inv .0) (omega (arith, c .before .loop .inv .1, c .loop-test .left)))
+returns c = none-left (no-signal (LinesLeft _ _ _ _ _) (c .before .before .before .before .before .args .numbers .now) (c .before .before .before .before .before .args .starts .now) (c .before .loop .i) (c .before .loop .inv .0) (omega (arith, c .before .loop .inv .1, c .loop-test .left)))
 
 pub put-signals-spec : {M : Type 1} → statement M
 put-signals-spec =

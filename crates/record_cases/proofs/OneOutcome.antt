@@ -3,7 +3,7 @@ use mathlib.Core.Path.{refl}
 use mathlib.Core.List.{[], _∷_}
 use Rattle.only.specs.Outcomes.{OneResult, result-is}
 use Rattle.numerals.specs.Numeral.{numeralFrom, orZero}
-use Rattle.route_cases.proofs.short_hex as short-hex
+use Rattle.record_cases.proofs.short_hex as short-hex
 
 module _ (M : Type 1) where
   pub one-short-hex : OneResult M short-hex.ended short-hex.clauses

@@ -1,8 +1,8 @@
--- `route_cases::short_hex` meets its contract: the zeros before the two digits add nothing. Assumes nothing.
+-- `record_cases::short_hex` meets its contract: the zeros before the two digits add nothing. Assumes nothing.
 use borrow.Author.Needs.{needs}
 use Rattle.numerals.specs.Numeral.{digitValue, numeralFrom, identifier}
-use Rattle.route_cases.proofs.short_hex.Statement.{statement}
-use Rattle.route_cases.proofs.short_hex.Tie as tie
+use Rattle.record_cases.proofs.short_hex.Statement.{statement}
+use Rattle.record_cases.proofs.short_hex.Tie as tie
 
 slice-aggregate-identifier-or-0 : tie.Need-slice-aggregate-identifier-or-0
 slice-aggregate-identifier-or-0 c = search needs
