@@ -1,4 +1,5 @@
-/* vectors SUBJECT: runs the cases of tools/SUBJECT_vectors.py from standard input and prints what came out, a line a case.
+/* vectors SUBJECT: runs the cases of tools/SUBJECT_vectors.py from standard input and prints what came out, a line a case, and
+   of the writer the text behind it.
    The subjects are catalogue, dash, routes, spread, book, writer, frames, packing, record, faults, power and sleep. For catalogue
    the input is signal numbers and raw counts, one pair a line. */
 #include "dash_line.h"

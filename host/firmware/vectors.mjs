@@ -1,5 +1,5 @@
 // node vectors.mjs MODULE SUBJECT: runs the cases of tools/SUBJECT_vectors.py from standard input by the proved module in WebAssembly and
-// prints what came out, a line a case, as host/vectors.c does by an archive. The subjects are catalogue, dash, routes, spread, book,
+// prints what came out, as host/vectors.c does by an archive. The subjects are catalogue, dash, routes, spread, book,
 // writer, frames, packing, faults, power, sleep and record; for catalogue the input is signal numbers and raw counts, one pair a line.
 import fs from 'node:fs';
 

@@ -1,7 +1,7 @@
 // The book writer: a route book on standard input; on standard output its text, each M line with its S lines, then the R lines, in book
 // order; of a book that is refused the checker's line. Like the book checker it reads no more of its input than tells that a text is too
 // long, and takes no words.
-ghost use Prim.Native.Nat.{_≤_};
+ghost use mathlib.Core.Path.{_≡_};
 ghost use lib.ListN.{length};
 ghost use Rattle.book_writer.specs.Answers.{mostWritten};
 use answers::Answer;
@@ -15,9 +15,10 @@ use record::BOOK_WORDS;
 use record::wide;
 use streams::write_first;
 
-// The text of a book that was taken, by way of a room that has space for any.
+// The text of a book that was taken, by way of a room that has space for any: it asks for just as many bytes as no text has more of,
+// so that the constant can be no other number.
 fn send_text(book: &[u32; BOOK_WORDS], room: &mut [u8])
-    requires { ⌜ mostWritten ≤ length (now room) ⌝ }
+    requires { ⌜ length (now room) ≡ mostWritten ⌝ }
 {
     if let Wrote::Length(count) = book_writer::write(book, &mut *room) {
         write_first(&*room, wide(count));

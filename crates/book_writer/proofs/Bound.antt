@@ -75,7 +75,7 @@ from-short before (m ∷ ms) e =
       from-short (before ++ (m .identifier ∷ [])) ms (b .1),
     )
 
--- the line of a route between places
+-- the lines of routes between places have 24 bytes each
 routes-short : {rs : List Route} → BetweenPlaces rs → routeBytes rs ≡ 24 * length rs
 unfolding textOfLines
 routes-short no-route = refl

@@ -24,7 +24,7 @@ use Rattle.route_tables.proofs.Shown.{few-shown}
 use Rattle.printing.specs.Put.{Put}
 use Rattle.printing.proofs.Puts.{and-then}
 use Rattle.line_writer.specs.Texts.{linesText, FewDigits, AllFewDigits, LinesFit}
-use Rattle.line_writer.proofs.Lengths.{text-append}
+use Rattle.line_writer.proofs.Lengths.{lines-append}
 use Rattle.book_writer.specs.Answers.{bookOf, textOf, TablesTaken, WriteBy, writes}
 use Rattle.book_writer.proofs.TextLength.{signalBytes, routeBytes, signals-few, routes-few, text-long}
 use Rattle.book_writer.proofs.Shown.{stand, limits}
@@ -72,18 +72,18 @@ module _ (w : List ℕ) (t : TablesTaken w) where
 
   two-parts : textOf w ≡ head ++ tail
   unfolding bookText bookLines
-  two-parts = text-append (messageLines (messagesOf w)) (map routeLine (routesOf w))
+  two-parts = lines-append (messageLines (messagesOf w)) (map routeLine (routesOf w))
 
-  both-long : length (textOf w) ≡ length head + length tail
-  both-long = ap length two-parts ∙ length-append head tail
+  whole-long : length (textOf w) ≡ length head + length tail
+  whole-long = ap length two-parts ∙ length-append head tail
 
   module _ (room : List ℕ) (h : length (textOf w) ≤ length room) where
     pub head-fits : LinesFit room 0 (messageLines (messagesOf w))
-    head-fits = record { digits = all-digits (messages-writable (good-built (messagesOf w) (taken-stands w (t .messages) .1))); room = omega (arith, both-long) }
+    head-fits = record { digits = all-digits (messages-writable (good-built (messagesOf w) (taken-stands w (t .messages) .1))); room = omega (arith, whole-long) }
 
     module _ {mid : List ℕ} {next : ℕ} (p : Put room 0 head mid next) (level : length mid ≡ length room) where
       pub tail-fits : LinesFit mid next (map routeLine (routesOf w))
-      tail-fits = record { digits = route-digits (routesOf w); room = omega (arith, both-long, p .now-at, level) }
+      tail-fits = record { digits = route-digits (routesOf w); room = omega (arith, whole-long, p .now-at, level) }
 
       pub wrote : {new : List ℕ} {end : ℕ} → Put mid next tail new end → {n : ℕ} → n ≡ length (textOf w) → WriteBy w room 0 n new
       wrote {new} q {n} e =

@@ -12,7 +12,7 @@ use Rattle.route_tables.specs.Tables.{RoutesTaken}
 use Rattle.book_writer.specs.declared.Wrote.{Wrote}
 use Rattle.book_writer.specs.declared.Wrote.the-variants as wrote
 
--- document 02's number of each answer; 0 is no refusal
+-- the number of each answer, 12 of document 01 and 71 of document 02; 0 is no refusal
 abbrev pub wroteNumber : Wrote → ℕ
 wroteNumber (wrote.Length n) = 0
 wroteNumber wrote.NotABook = 12
@@ -41,7 +41,7 @@ pub record TablesTaken (w : List ℕ) : Type 0 where
   pub messages : messagesTaken w ≡ true
   pub routes : RoutesTaken w
 
--- by tables that are, with the room after the call: as lent where it refuses; else the text at the front, and the rest as lent
+-- by such tables, with the room after the call: as lent where it refuses; else the text at the front, and the rest as lent
 pub data WriteBy (w room : List ℕ) : ℕ → ℕ → List ℕ → Type 0 where
   -- 71: room smaller than the text
   no-room : length room < length (textOf w) → WriteBy w room 71 0 room

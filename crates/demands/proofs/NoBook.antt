@@ -1,5 +1,5 @@
 -- 12, in one sentence for each call: it is answered exactly where no taken text has the tables that the call uses. Assumes nothing.
-use mathlib.Core.Path.{_≡_, refl, sym, _∙_, subst}
+use mathlib.Core.Path.{_≡_, refl, sym, _∙_}
 use mathlib.Core.Bool.{Bool, true, false, cond}
 use mathlib.Core.Logic.{_↔_}
 use mathlib.Core.List.{List, [], _∷_}
@@ -30,10 +30,11 @@ use Rattle.reading.specs.Taken.{MessagesFrom, RoutesFrom}
 use Rattle.reading.proofs.Exact.{from-messages, messages-from}
 use Rattle.route_tables.proofs.FromTexts.{routes-from-text, text-to-routes}
 use Rattle.route_tables.specs.Tables.{OfTakenText}
-use Rattle.route_tables.proofs.OneText.{of-taken-text, text-messages-taken, text-routes-taken}
+use Rattle.route_tables.proofs.OneText.{of-taken-text}
 use Rattle.routes.specs.Answers.{SpreadBy, no-place, no-room, spreads, SpreadAnswer, not-a-book, by-routes}
-use Rattle.book_writer.specs.Answers.{TablesTaken, WriteBy, WriteAnswer}
+use Rattle.book_writer.specs.Answers.{WriteBy, WriteAnswer}
 use Rattle.book_writer.specs.Answers as writer
+use Rattle.demands.proofs.Taken.{left-tables}
 
 -- a number that is 12 exactly where the message and signal tables are those of no taken book
 module _ (w : List ℕ) (other : ℕ) (not-12 : other ≡ 12 → ⊥) where
@@ -129,13 +130,8 @@ module _ (w : List ℕ) (r : IsRecord w) (bus identifier : ℕ) (room-lent : Lis
 
 -- the writer, which uses all tables
 module _ (w : List ℕ) (room-lent : List ℕ) where
-  all-taken : OfTakenText w → TablesTaken w
-  all-taken t =
-      let l = t .left in
-      subst TablesTaken (sym (l .words)) (record { messages = text-messages-taken (t .text) (l .book) (l .taken); routes = text-routes-taken (t .text) (l .book) (l .taken) })
-
   writer-told : {why n : ℕ} {after : List ℕ} → WriteAnswer w room-lent why n after → why ≡ 12 → OfTakenText w → ⊥
-  writer-told (writer.not-a-book x) e t = x (all-taken t)
+  writer-told (writer.not-a-book x) e t = x (left-tables (t .text) w (t .left))
   writer-told (writer.by-tables u b) e t = no-12 b e
     where
       no-12 : {why n : ℕ} {after : List ℕ} → WriteBy w room-lent why n after → why ≡ 12 → ⊥

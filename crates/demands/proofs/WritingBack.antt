@@ -23,7 +23,7 @@ use Rattle.reading.proofs.Counts.{text-routed}
 use Rattle.reading.proofs.Exact.{has-text}
 use Rattle.route_tables.specs.Tables.{LeftOf}
 use Rattle.route_tables.proofs.FromTexts.{routed-shown}
-use Rattle.route_tables.proofs.OneText.{stand-words, text-messages-taken, text-routes-taken}
+use Rattle.route_tables.proofs.OneText.{stand-words}
 use Rattle.book.specs.Answered.{Answered, taken-with}
 use Rattle.book.proofs.Once.{answered-once}
 use Rattle.book_writer.specs.Answers.{bookOf, textOf, mostWritten, TablesTaken, WriteBy, no-room, writes, WriteAnswer, not-a-book, by-tables}
@@ -31,7 +31,7 @@ use Rattle.book_writer.proofs.Bound.{bound}
 use Rattle.rewriting.specs.SameLines.{textLines, RoutesLast}
 use Rattle.rewriting.proofs.Back as back
 use Rattle.demands.specs.WritingBack.{AtFront, SameLines, SameTables}
-use Rattle.demands.proofs.Taken.{left}
+use Rattle.demands.proofs.Taken.{left, left-tables}
 
 -- ---- what an answer that refuses nothing left
 module _ (w room : List ℕ) where
@@ -121,7 +121,7 @@ module _ (text : List ℕ) {m s r : ℕ} {w : List ℕ} (a : Answered text (take
   as-long = ap length same-text ∙ back.same-length text (l .taken .read)
 
   taken-tables : TablesTaken w
-  taken-tables = subst TablesTaken (sym (l .words)) (record { messages = text-messages-taken text (l .book) (l .taken); routes = text-routes-taken text (l .book) (l .taken) })
+  taken-tables = left-tables text w l
 
   module _ (room : List ℕ) {why n : ℕ} {after : List ℕ} (b : WriteAnswer w room why n after) where
     -- 71 exactly where the room is smaller than the text that was read; else it is written

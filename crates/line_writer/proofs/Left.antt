@@ -5,14 +5,14 @@ use Prim.Native.Nat.{ℕ, _+_, _≤_}
 use native.Mathlib.Nat.{add-zero, zero-add}
 use native.Mathlib.Omega.{arith}
 use mathlib.Core.List.{List, [], _∷_, _++_}
-use lib.ListN.{length, length-append}
+use lib.ListN.{length}
 use lib.Seq.{sets}
 use Rattle.parts.specs.Joined.{textOfLines}
 use Rattle.line.specs.declared.Line.{Line}
 use Rattle.printing.specs.Put.{Put}
 use Rattle.printing.proofs.Puts.{sets-append, put-length}
 use Rattle.line_writer.specs.Texts.{linesText, AllFewDigits, nothing, also, LinesFit}
-use Rattle.line_writer.proofs.Lengths.{text-append}
+use Rattle.line_writer.proofs.Lengths.{lines-append, both-long}
 
 pub record LinesLeft (old : List ℕ) (first : ℕ) (all : List Line) (out : List ℕ) (at : ℕ) (left : List Line) : Type 0 where
   pub rest : sets out at (linesText left) ≡ sets old first (linesText all)
@@ -36,20 +36,17 @@ rest-digits (x ∷ xs) left (also w a) = rest-digits xs left a
 
 module _ {old : List ℕ} {first : ℕ} {all : List Line} {out : List ℕ} {at : ℕ} where
   module _ (xs left : List Line) (l : LinesLeft old first all out at (xs ++ left)) where
-    both : length (linesText (xs ++ left)) ≡ length (linesText xs) + length (linesText left)
-    both = ap length (text-append xs left) ∙ length-append (linesText xs) (linesText left)
-
     -- there is room for the first of those that are left
     pub first-fit : LinesFit out at xs
-    first-fit = record { digits = first-digits xs left (l .digits); room = omega (arith, both, l .ends, l .size, l .room) }
+    first-fit = record { digits = first-digits xs left (l .digits); room = omega (arith, both-long xs left, l .ends, l .size, l .room) }
 
     -- which are then no longer left
     pub lines-put : {new : List ℕ} {next : ℕ} → Put out at (linesText xs) new next → LinesLeft old first all new next left
     lines-put {new} {next} p = record {
       rest =
           ap (λ (t : List ℕ). sets t next (linesText left)) (p .now-there) ∙ ap (λ (n : ℕ). sets (sets out at (linesText xs)) n (linesText left)) (p .now-at) ∙
-          sets-append out at (linesText xs) (linesText left) ∙ ap (sets out at) (sym (text-append xs left)) ∙ l .rest;
-      ends = omega (arith, both, l .ends, p .now-at);
+          sets-append out at (linesText xs) (linesText left) ∙ ap (sets out at) (sym (lines-append xs left)) ∙ l .rest;
+      ends = omega (arith, both-long xs left, l .ends, p .now-at);
       size = put-length p ∙ l .size;
       digits = rest-digits xs left (l .digits);
       room = l .room;
@@ -70,7 +67,7 @@ none-summed all = record { whole = zero-add (length (linesText all)) }
 module _ {all : List Line} {sum : ℕ} where
   pub one-summed : (l : Line) (left : List Line) → LengthSoFar all sum (l ∷ left) → {n : ℕ} → n ≡ length (linesText (l ∷ [])) → LengthSoFar all (sum + n) left
   one-summed l left s e =
-      record { whole = omega (arith, s .whole, e, ap length (text-append (l ∷ []) left), length-append (linesText (l ∷ [])) (linesText left)) }
+      record { whole = omega (arith, s .whole, e, both-long (l ∷ []) left) }
 
   pub all-summed : LengthSoFar all sum [] → sum ≡ length (linesText all)
   unfolding textOfLines

@@ -2,14 +2,14 @@
 use mathlib.Core.Path.{_≡_, refl, sym, ap, _∙_}
 use Prim.Native.Nat.{ℕ, _+_, _≤_, _<_, _/_, _%_}
 use native.Mathlib.Omega.{arith}
-use mathlib.Core.List.{List, [], _∷_, _++_, append-assoc}
+use mathlib.Core.List.{List, [], _∷_, _++_, map, append-assoc, map-append}
 use lib.ListN.{length, length-append}
 use borrow.Author.Tests.{lt-ltb}
 use Rattle.numerals.specs.Written.{identifierText, decimalWidth, decimalLimit, decimalText}
 use Rattle.numerals.proofs.Identifiers.{length-identifier}
 use Rattle.numerals.proofs.Decimals.{decimal-long, width-few}
-use Rattle.parts.specs.Parts.{newline}
 use Rattle.parts.specs.Joined.{join, textOfLines}
+use Rattle.parts.proofs.Joins.{text-append}
 use Rattle.line.specs.declared.Line.{Line}
 use Rattle.line.specs.declared.Line.the-variants.{Message}
 use Rattle.line.specs.Written.{lineText, fieldsOf}
@@ -92,8 +92,8 @@ pub signal-numbers : (n s : ℕ) → AllFewDigits (signalLine (placement n s) �
 signal-numbers n s (also w nothing) = w
 
 -- ---- lines after lines
-pub text-append : (ls ms : List Line) → linesText (ls ++ ms) ≡ linesText ls ++ linesText ms
-unfolding textOfLines
-text-append [] ms = refl
-text-append (l ∷ ls) ms =
-    ap (λ (t : List ℕ). lineText l ++ newline ∷ t) (text-append ls ms) ∙ sym (append-assoc (lineText l) (newline ∷ linesText ls) (linesText ms))
+pub lines-append : (ls ms : List Line) → linesText (ls ++ ms) ≡ linesText ls ++ linesText ms
+lines-append ls ms = ap textOfLines (map-append lineText ls ms) ∙ text-append (map lineText ls) (map lineText ms)
+
+pub both-long : (ls ms : List Line) → length (linesText (ls ++ ms)) ≡ length (linesText ls) + length (linesText ms)
+both-long ls ms = ap length (lines-append ls ms) ∙ length-append (linesText ls) (linesText ms)

@@ -11,7 +11,7 @@ use lib.Seq.{drop-append-seam}
 use borrow.Author.Tests.{leb-true, leb-false}
 use Rattle.parts.specs.Parts.{TextLine, ended, newline, split, linesOf, lines}
 use Rattle.parts.specs.Joined.{textOfLines, Lacks, AllLack, no-part, part}
-use Rattle.parts.proofs.Joins.{split-free}
+use Rattle.parts.proofs.Joins.{split-free, text-append}
 use Rattle.listing.specs.Listing.{ListedLines, noLines, lineThen, linesThatFit}
 use Rattle.listing.specs.Together.{wholeLines, unfinished, printouts, wholeListing}
 use Rattle.listing.proofs.WholeLines.{lines-after, whole-after, unfinished-after, none-whole, text-is, lines-free, rest-free, none-ended}
@@ -20,11 +20,6 @@ printouts-append : (print : List ℕ → List ℕ) (a b : List (List ℕ)) → p
 unfolding printouts
 printouts-append print [] b = refl
 printouts-append print (l ∷ a) b = ap (λ (t : List ℕ). print l ++ t) (printouts-append print a b) ∙ sym (append-assoc (print l) (printouts print a) (printouts print b))
-
-text-append : (a b : List (List ℕ)) → textOfLines (a ++ b) ≡ textOfLines a ++ textOfLines b
-unfolding textOfLines
-text-append [] b = refl
-text-append (l ∷ a) b = ap (λ (t : List ℕ). l ++ newline ∷ t) (text-append a b) ∙ sym (append-assoc l (newline ∷ textOfLines a) (textOfLines b))
 
 frees-append : {a b : List (List ℕ)} → AllLack newline a → AllLack newline b → AllLack newline (a ++ b)
 frees-append no-part q = q

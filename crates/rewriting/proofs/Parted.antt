@@ -2,7 +2,7 @@
 -- of R together, and it is those one after the other where the R lines are last. Assumes nothing.
 use mathlib.Core.Path.{_≡_, refl, sym, ap, _∙_}
 use mathlib.Core.Bool.{Bool, true, false, cond}
-use mathlib.Core.List.{List, [], _∷_, _++_, map, append-assoc}
+use mathlib.Core.List.{List, [], _∷_, _++_, map}
 use Prim.Native.Nat.{ℕ, _+_}
 use native.Mathlib.Omega.{arith}
 use lib.ListN.{length, length-append}
@@ -10,7 +10,7 @@ use borrow.Author.Tests.{eqb-true}
 use Rattle.lists.specs.Lists.{those}
 use Rattle.parts.specs.Parts.{TextLine, newline, split, linesOf, lines}
 use Rattle.parts.specs.Joined.{join, textOfLines}
-use Rattle.parts.proofs.Joins.{join-split}
+use Rattle.parts.proofs.Joins.{join-split, text-append}
 use Rattle.line.specs.Meaning.{letterR}
 use Rattle.rewriting.specs.SameLines.{lineBytes, textLines, isMOrSLine, isRLine, MSAndRLines, no-line, m-or-s-line, r-line, AllRLines, no-more, r-next, RoutesLast, r-lines, no-r-line}
 
@@ -43,11 +43,6 @@ unfolding lines textLines
 whole text k = sym (join-split newline text) ∙ joined (split newline text) k
 
 -- ---- how long it is
-texts-append : (ls ms : List (List ℕ)) → textOfLines (ls ++ ms) ≡ textOfLines ls ++ textOfLines ms
-unfolding textOfLines
-texts-append [] ms = refl
-texts-append (l ∷ ls) ms = ap (λ (t : List ℕ). l ++ newline ∷ t) (texts-append ls ms) ∙ sym (append-assoc l (newline ∷ textOfLines ls) (textOfLines ms))
-
 length-line : (l : List ℕ) (ls : List (List ℕ)) → length (textOfLines (l ∷ ls)) ≡ length l + 1 + length (textOfLines ls)
 unfolding textOfLines
 length-line l ls = omega (arith, length-append l (newline ∷ textOfLines ls))
@@ -66,7 +61,7 @@ pub length-parted : {ts : List TextLine} → MSAndRLines ts
 length-parted {ts} k =
     let ms = those isMOrSLine (map lineBytes ts) in
     let rs = those isRLine (map lineBytes ts) in
-    ap length (texts-append ms rs) ∙ length-append (textOfLines ms) (textOfLines rs) ∙ sym (length-sum k)
+    ap length (text-append ms rs) ∙ length-append (textOfLines ms) (textOfLines rs) ∙ sym (length-sum k)
 
 -- ---- lines with the R lines last
 none-of-m : {ls : List (List ℕ)} → AllRLines ls → those isMOrSLine ls ≡ []

@@ -1,6 +1,6 @@
 // Digits of a number into a lent slice at a place, and the two kinds of numbers as a route book writes them: an identifier in 8 digits
-// 0-9 A-F, any other number in decimal digits, none needless. Each function asks for room and writes just those bytes; those of the
-// book's numbers say where the next byte goes.
+// 0-9 A-F, any other number in decimal digits, none needless. Each function that writes asks for room and writes just those bytes;
+// those of the book's numbers say where the next byte goes.
 use numerals::IDENTIFIER_DIGITS;
 ghost use mathlib.Core.Path.{_≡_};
 ghost use Prim.Native.Nat.{_+_, _≤_, _<_};
@@ -57,7 +57,7 @@ pub fn put_identifier(out: &mut [u8], at: usize, n: u32) -> usize
     at + IDENTIFIER_DIGITS
 }
 
-// How many decimal digits a number has, of those that a book can write.
+// How many decimal digits a number has that a book can write; 5 for every larger one.
 pub fn decimal_width(n: u32) -> usize
     ensures { λ r. ⌜ r ≡ decimalWidth n ⌝ }
 {
