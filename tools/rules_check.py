@@ -131,6 +131,9 @@ def written_books():
     for text in (FIRST, contents("examples/truck.book"), b"", b"M\t00000000\nS\t204\t56\n"):
         assert book_text(*tables_of(text)).encode() == text
     assert book_text(*tables_of(b"R\t7\t00000000\t0\t1FFFFFFF\nM\t0000000A\n")) == "M\t0000000A\nR\t7\t00000000\t0\t1FFFFFFF\n"
+    unordered = contents("examples/unordered.book")
+    assert contents("crates/book_write/stdin") == unordered and book_text(*tables_of(unordered)).encode() == FIRST
+    assert re.sub("(?m)^", "    ", unordered.decode().rstrip("\n")) in contents("docs/BOOK.md").decode()
     record = record_of(read_book(FIRST)[1])
     assert write_call(record, len(FIRST)) == ("text", FIRST.decode()) and write_call(record, len(FIRST) - 1) == ("no", 71)
     for letter in "SR":
