@@ -39,6 +39,9 @@ def helps():
     for words in (["nothing"], ["../run"], ["only"]):
         status, empty, said = call("run", *words)
         yield status == 2 and not empty and said.startswith(f"run: there is no program '{words[0]}'") and printed in said, said
+    for program in users:
+        status, empty, said = call("run", program, "examples/first.book")
+        yield status == 2 and not empty and said.startswith(f"run: {program} takes no words") and f"./run {program} < FILE" in said, said
     status, printed, said = call("host/run", "--help")
     yield status == 0 and printed.startswith("usage: host/run") and not said and call("host/run") == (2, "", printed), printed + said
     status, printed, said = call("host/build", "--help")

@@ -1,11 +1,15 @@
 // The book writer: a route book on standard input; on standard output its text, each M line with its S lines, then the R lines, in book
 // order; of a book that is refused the checker's line. Like the book checker it reads no more of its input than tells that a text is too
-// long, and takes no words.
+// long, and takes no words. Where a read fails it prints nothing, since the front of a book may be a book; that, and an output that was not
+// written whole, it says on standard error.
 ghost use mathlib.Core.Path.{_≡_};
+ghost use Prim.Native.Nat.{suc};
 ghost use lib.ListN.{length};
+ghost use Rattle.record.specs.Limits.{textLimit};
 ghost use Rattle.book_writer.specs.Answers.{mostWritten};
 use answers::Answer;
 use book_streams::ENOUGH;
+use book_streams::send;
 use book_streams::send_answer;
 use book_writer::MOST_WRITTEN;
 use book_writer::Wrote;
@@ -13,7 +17,26 @@ use libc::STDERR_FILENO;
 use libc::STDIN_FILENO;
 use record::BOOK_WORDS;
 use record::wide;
-use streams::write_first;
+
+// The input, as far as there is room for it: how many bytes, or -1 where a read fails. It asks for a byte more than a text may have, no
+// more and no less, so that ENOUGH can be no other number.
+fn read_input(text: &mut [u8]) -> isize
+    requires { ⌜ length (now text) ≡ suc textLimit ⌝ }
+{
+    let mut size: usize = 0;
+    while size < text.len() {
+        let got = libc::read(STDIN_FILENO, &mut text[size..]);
+        if got < 0 {
+            return -1;
+        }
+        let more = io::count(got, &text[size..]);
+        if more == 0 {
+            return size as isize;
+        }
+        size += more;
+    }
+    size as isize
+}
 
 // The text of a book that was taken, by way of a room that has space for any: it asks for just as many bytes as no text has more of,
 // so that the constant can be no other number.
@@ -21,8 +44,20 @@ fn send_text(book: &[u32; BOOK_WORDS], room: &mut [u8])
     requires { ⌜ length (now room) ≡ mostWritten ⌝ }
 {
     if let Wrote::Length(count) = book_writer::write(book, &mut *room) {
-        write_first(&*room, wide(count));
+        send(&*room, wide(count));
     }
+}
+
+// What is printed of a text.
+fn rewrite(text: &[u8]) {
+    let mut words = [0u32; BOOK_WORDS];
+    let answer = book::read(text, &mut words);
+    if let Answer::Taken(_, _, _) = answer {
+        let mut room = [0u8; MOST_WRITTEN];
+        send_text(&words, &mut room);
+        return;
+    }
+    send_answer(answer);
 }
 
 fn main() {
@@ -34,13 +69,11 @@ fn main() {
         return;
     }
     let mut text = [0u8; ENOUGH];
-    let size = io::read_full(STDIN_FILENO, &mut text);
-    let mut words = [0u32; BOOK_WORDS];
-    let answer = book::read(&text[..size], &mut words);
-    if let Answer::Taken(_, _, _) = answer {
-        let mut room = [0u8; MOST_WRITTEN];
-        send_text(&words, &mut room);
+    let got = read_input(&mut text);
+    if got < 0 {
+        os::fail(b"book_write: standard input could not be read");
         return;
     }
-    send_answer(answer);
+    let size = io::count(got, &text);
+    rewrite(&text[..size]);
 }

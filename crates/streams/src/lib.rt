@@ -11,9 +11,10 @@ pub fn read_first(buffer: &mut [u8], size: usize) {
     }
 }
 
-// Writes the first `size` bytes.
-pub fn write_first(buffer: &[u8], size: usize) {
-    if size <= buffer.len() {
-        io::write_all(STDOUT_FILENO, part_before(buffer, size));
+// Writes the first `size` bytes, and answers whether all of them were taken.
+pub fn write_first(buffer: &[u8], size: usize) -> bool {
+    if size > buffer.len() {
+        return false;
     }
+    io::write_all(STDOUT_FILENO, part_before(buffer, size))
 }
