@@ -15,13 +15,13 @@ module _ (P : List Line → Type 0) where
     pub signal-next : length ss ≡ length ns → i < length ns → P (signalLine (placementAt ns ss i) ∷ map signalLine (rest ns ss (i + 1)))
     signal-next e h = subst (λ (ps : List Placement). P (map signalLine ps)) (rest-more ns ss i h e) l
 
-    pub no-signal : length ns ≤ i → P []
-    no-signal h = subst (λ (ps : List Placement). P (map signalLine ps)) (rest-none ns ss i h) l
+    pub signals-done : length ns ≤ i → P []
+    signals-done h = subst (λ (ps : List Placement). P (map signalLine ps)) (rest-none ns ss i h) l
 
   -- routes from i on
   module _ (fs ts : List ℕ) (i : ℕ) (l : P (map routeLine (routesFromOn fs ts i))) where
     pub route-next : length ts ≡ length fs → i < length fs → P (routeLine (routeBetween (getD fs i 0) (getD ts i 0)) ∷ map routeLine (routesFromOn fs ts (i + 1)))
     route-next e h = subst (λ (rs : List Route). P (map routeLine rs)) (routes-more fs ts i h e) l
 
-    pub no-route : length fs ≤ i → P []
-    no-route h = subst (λ (rs : List Route). P (map routeLine rs)) (routes-none fs ts i h) l
+    pub routes-done : length fs ≤ i → P []
+    routes-done h = subst (λ (rs : List Route). P (map routeLine rs)) (routes-none fs ts i h) l

@@ -1,6 +1,6 @@
 -- Each call for a book's text has one answer and no other, whatever the words and the room. Assumes nothing.
-use mathlib.Core.Path.{_≡_, refl, ap}
-use mathlib.Core.Bool.{Bool, true, false}
+use mathlib.Core.Path.{_≡_, refl, ap, sym, _∙_}
+use mathlib.Core.Bool.{Bool, true, false, true≢false}
 use Prim.Native.Nat.{ℕ, _≤_}
 use native.Mathlib.Omega.{arith}
 use native.Mathlib.Decide.{decLe}
@@ -12,7 +12,6 @@ use Rattle.route_tables.proofs.Decided as routes
 use Rattle.book_writer.specs.Answers.{wroteNumber, byteCount, textOf, TablesTaken, WriteBy, no-room, writes, WriteAnswer, not-a-book, by-tables}
 use Rattle.book_writer.specs.declared.Wrote.{Wrote}
 use Rattle.book_writer.specs.declared.Wrote.the-variants as wrote
-use Rattle.book_writer.proofs.Whole.{messages-not}
 
 -- an answer is told by its number and its count
 wrote-once : (a b : Wrote) → wroteNumber a ≡ wroteNumber b → byteCount a ≡ byteCount b → a ≡ b
@@ -32,7 +31,7 @@ tables-or-not w = go (messagesTaken w) refl (routes.taken-or-not w)
     go : (m : Bool) → messagesTaken w ≡ m → Dec (RoutesTaken w) → Dec (TablesTaken w)
     go true e (yes r) = yes (record { messages = e; routes = r })
     go true e (no n) = no (λ t. n (t .routes))
-    go false e r = no (λ t. messages-not (t .messages) refl e)
+    go false e r = no (λ t. true≢false (sym (t .messages) ∙ e))
 
 -- the answer's number, its count and the room after it
 abbrev pub WriteLeft : Type 0

@@ -12,8 +12,8 @@ use Rattle.books.specs.Words.{placementStarts, endsAfter, sideBySide}
 use Rattle.books.proofs.Columns.{shown-back}
 use Rattle.books.proofs.Ends.{map-append}
 use Rattle.books.proofs.Sides.{side-back, from}
-use Rattle.reading.specs.Written.{signalLine, messageLines}
-use Rattle.line_writer.specs.Texts.{linesText, LinesFit}
+use Rattle.reading.specs.Written.{signalLine, messageLines, linesText}
+use Rattle.line_writer.specs.Fitting.{LinesFit}
 use Rattle.line_writer.proofs.Left.{LinesLeft, all-left, first-fit, lines-put, none-left}
 use Rattle.printing.specs.Put.{Put}
 use Rattle.book_writer.specs.ShownLines.{signalLines, shownLines, MessagesFit}
@@ -173,8 +173,8 @@ module _ {old is es ns ss out : List ℕ} {next begin i : ℕ} where
         signals-fit = subst (LinesFit mid m) (sym own-lines) (first-fit (map signalLine (x .placed)) (messageLines (x .later)) signals-left)
 
         -- with both written, the messages after it are left
-        pub message-put : {new : List ℕ} {n : ℕ} → Put mid m (linesText Own) new n → MessagesLeft old is es ns ss new n end (i + 1)
-        message-put {new} {n} q = record {
+        pub message-written : {new : List ℕ} {n : ℕ} → Put mid m (linesText Own) new n → MessagesLeft old is es ns ss new n end (i + 1)
+        message-written {new} {n} q = record {
           messages = x .later;
           lines = lines-put (map signalLine (x .placed)) (messageLines (x .later)) signals-left (subst (λ (l : List Line). Put mid m (linesText l) new n) own-lines q);
           ids-left = x .ids-on;

@@ -12,10 +12,10 @@ use Rattle.books.specs.Words.{placementStarts, endsAfter, sideBySide, messagesO
 use Rattle.books.proofs.Columns.{Within, within, taken-stands, take-column, length-ends, ids-stand, ends-stand, numbers-stand, starts-stand}
 use Rattle.books.proofs.RouteColumns.{froms-are, tos-are, from-count, to-count, routes-side}
 use Rattle.books.proofs.Sides.{side-back}
-use Rattle.reading.specs.Written.{messageLines, routeLine}
+use Rattle.reading.specs.Written.{messageLines, routeLine, linesText}
 use Rattle.route_tables.specs.Tables.{RoutesTaken}
 use Rattle.route_tables.proofs.Shown.{few-shown, few-counted}
-use Rattle.line_writer.specs.Texts.{linesText, LinesFit}
+use Rattle.line_writer.specs.Fitting.{LinesFit}
 use Rattle.printing.specs.Put.{Put}
 use Rattle.printing.proofs.Puts.{put-as}
 use Rattle.book_writer.specs.ShownLines.{shownLines, routeLines, MessagesFit}
@@ -36,11 +36,11 @@ module _ (w : List ℕ) (t : messagesTaken w ≡ true) where
   pub limits : Within ms
   limits = within ms (taken-stands w t .1)
 
-  pub few-messages : messageCountOf w ≤ messageLimit
-  few-messages = omega (arith, stand .messages, limits .few)
+  pub messages-counted : messageCountOf w ≤ messageLimit
+  messages-counted = omega (arith, stand .messages, limits .few)
 
-  pub few-signals : signalCountOf w ≤ signalLimit
-  few-signals = omega (arith, stand .signals, limits .room)
+  pub signals-counted : signalCountOf w ≤ signalLimit
+  signals-counted = omega (arith, stand .signals, limits .room)
 
   pub ids-shown : take (messageCountOf w) (idsOf w) ≡ identifiers ms
   ids-shown =
@@ -89,8 +89,8 @@ module _ (w : List ℕ) (t : messagesTaken w ≡ true) where
 
 -- ---- routes
 module _ (w : List ℕ) (t : RoutesTaken w) where
-  pub few-routes : routeCountOf w ≤ routeLimit
-  few-routes = few-counted w (t .stand)
+  pub routes-counted : routeCountOf w ≤ routeLimit
+  routes-counted = few-counted w (t .stand)
 
   -- two columns as a caller has them
   module _ {m : ℕ} (c : m ≡ routeCountOf w) {fs ts : List ℕ} (f : fs ≡ fromsOf w) (e : ts ≡ tosOf w) {fs′ ts′ : List ℕ} (f′ : fs′ ≡ take m fs) (e′ : ts′ ≡ take m ts) where

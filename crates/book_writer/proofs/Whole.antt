@@ -2,13 +2,12 @@
 -- are it. Assumes nothing.
 use mathlib.Core.Path.{_≡_, sym, ap, _∙_, subst}
 use mathlib.Core.Bool.{Bool, true, false}
-use Prim.Native.Nat.{ℕ, _+_, _*_, _≤_}
+use Prim.Native.Nat.{ℕ, _+_, _≤_}
 use native.Mathlib.Nat.{zero-add}
 use native.Mathlib.Omega.{arith}
 use mathlib.Core.List.{List, [], _∷_, _++_, map}
 use lib.ListN.{length, drop, length-append}
 use lib.Seq.{sets, sets-eq}
-use Rattle.record.specs.Columns.{messageCountOf}
 use Rattle.line.specs.declared.Line.{Line}
 use Rattle.line.specs.declared.Line.the-variants as line
 use Rattle.line.specs.Written.{Writable}
@@ -16,22 +15,18 @@ use Rattle.books.specs.Book.{Placement, Route, allPlacements}
 use Rattle.books.specs.Words.{messagesOf, routesOf, messagesTaken}
 use Rattle.books.proofs.Building.{good-built}
 use Rattle.books.proofs.Columns.{taken-stands}
-use Rattle.reading.specs.Written.{routeLine, messageLines, bookLines, bookText}
+use Rattle.reading.specs.Written.{routeLine, messageLines, bookLines, bookText, linesText}
 use Rattle.reading.proofs.Texts.{AllWritable, nothing, also, messages-writable}
 use Rattle.chains.specs.Tells.{Tells}
 use Rattle.route_tables.specs.Tables.{RoutesTaken}
 use Rattle.route_tables.proofs.Shown.{few-shown}
 use Rattle.printing.specs.Put.{Put}
 use Rattle.printing.proofs.Puts.{and-then}
-use Rattle.line_writer.specs.Texts.{linesText, FewDigits, AllFewDigits, LinesFit}
-use Rattle.line_writer.proofs.Lengths.{lines-append}
-use Rattle.book_writer.specs.Answers.{bookOf, textOf, TablesTaken, WriteBy, writes}
-use Rattle.book_writer.proofs.TextLength.{signalBytes, routeBytes, signals-few, routes-few, text-long}
-use Rattle.book_writer.proofs.Shown.{stand, limits}
-
--- one answer of a test can't be both
-pub messages-not : {a r : Bool} → a ≡ true → r ≡ a → r ≡ false → ⊥
-messages-not e f g = let z : true ≡ false = sym (f ∙ e) ∙ g in absurd (let x : _≡_ {A = ℕ} 0 1 = cc in omega arith)
+use Rattle.line_writer.specs.Fitting.{FewDigits, AllFewDigits, LinesFit}
+use Rattle.reading.proofs.LineLengths.{lines-text-append}
+use Rattle.book_writer.specs.Answers.{textOf, TablesTaken, WriteBy, writes}
+use Rattle.reading.proofs.TextLengths.{signals-few, routes-few, messages-long}
+use Rattle.book_writer.proofs.Shown.{limits}
 
 -- where the messages are taken, the test of the routes tells of all tables
 pub all-told : (w : List ℕ) → messagesTaken w ≡ true → (r : Bool) → Tells (RoutesTaken w) r → Tells (TablesTaken w) r
@@ -57,24 +52,23 @@ module _ (w : List ℕ) (t : TablesTaken w) where
   abbrev ps : List Placement
   ps = allPlacements (messagesOf w)
 
-  -- no sum of lengths is too large
-  pub few-bytes : (signalBytes ps ≤ 3584) × (routeBytes (routesOf w) ≤ 2048)
-  few-bytes = (omega (arith, signals-few ps, limits w (t .messages) .room), omega (arith, routes-few (routesOf w), few-shown w))
-
-  pub length-is : 11 * messageCountOf w + signalBytes ps + routeBytes (routesOf w) ≡ length (textOf w)
-  length-is = omega (arith, text-long (bookOf w), stand w (t .messages) .messages)
-
-  abbrev head : List ℕ
+  abbrev pub head : List ℕ
   head = linesText (messageLines (messagesOf w))
 
-  abbrev tail : List ℕ
+  abbrev pub tail : List ℕ
   tail = linesText (map routeLine (routesOf w))
+
+  -- no sum of lengths is too large
+  pub few-bytes : (length head ≤ 4288) × (length tail ≤ 2048)
+  few-bytes =
+      let k = limits w (t .messages) in
+      (omega (arith, messages-long (messagesOf w), signals-few ps, k .few, k .room), omega (arith, routes-few (routesOf w), few-shown w))
 
   two-parts : textOf w ≡ head ++ tail
   unfolding bookText bookLines
-  two-parts = lines-append (messageLines (messagesOf w)) (map routeLine (routesOf w))
+  two-parts = lines-text-append (messageLines (messagesOf w)) (map routeLine (routesOf w))
 
-  whole-long : length (textOf w) ≡ length head + length tail
+  pub whole-long : length (textOf w) ≡ length head + length tail
   whole-long = ap length two-parts ∙ length-append head tail
 
   module _ (room : List ℕ) (h : length (textOf w) ≤ length room) where
@@ -82,8 +76,12 @@ module _ (w : List ℕ) (t : TablesTaken w) where
     head-fits = record { digits = all-digits (messages-writable (good-built (messagesOf w) (taken-stands w (t .messages) .1))); room = omega (arith, whole-long) }
 
     module _ {mid : List ℕ} {next : ℕ} (p : Put room 0 head mid next) (level : length mid ≡ length room) where
-      pub tail-fits : LinesFit mid next (map routeLine (routesOf w))
-      tail-fits = record { digits = route-digits (routesOf w); room = omega (arith, whole-long, p .now-at, level) }
+      -- wherever they end no later than the text
+      pub tail-fits : {at : ℕ} → at + length tail ≤ length (textOf w) → LinesFit mid at (map routeLine (routesOf w))
+      tail-fits k = record { digits = route-digits (routesOf w); room = omega (arith, k, h, level) }
+
+      pub ends-there : next + length tail ≡ length (textOf w)
+      ends-there = omega (arith, whole-long, p .now-at)
 
       pub wrote : {new : List ℕ} {end : ℕ} → Put mid next tail new end → {n : ℕ} → n ≡ length (textOf w) → WriteBy w room 0 n new
       wrote {new} q {n} e =

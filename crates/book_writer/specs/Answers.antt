@@ -5,8 +5,7 @@ use mathlib.Core.Bool.{true}
 use Prim.Native.Nat.{ℕ, _<_, _≤_}
 use mathlib.Core.List.{List, _++_}
 use lib.ListN.{length, drop}
-use Rattle.books.specs.Book.{Book}
-use Rattle.books.specs.Words.{messagesOf, messagesTaken, routesOf}
+use Rattle.books.specs.Words.{messagesTaken, bookOf}
 use Rattle.reading.specs.Written.{bookText}
 use Rattle.route_tables.specs.Tables.{RoutesTaken}
 use Rattle.book_writer.specs.declared.Wrote.{Wrote}
@@ -24,17 +23,9 @@ byteCount (wrote.Length n) = n
 byteCount wrote.NotABook = 0
 byteCount wrote.NoRoom = 0
 
--- the book that words show
-abbrev pub bookOf : List ℕ → Book
-bookOf w = record { messages = messagesOf w; routes = routesOf w }
-
--- and its text: each M line with its S lines, in book order, then the R lines in book order
+-- the text of the book that words show: each M line with its S lines, in book order, then the R lines in book order
 abbrev pub textOf : List ℕ → List ℕ
 textOf w = bookText (bookOf w)
-
--- no text of a book has more bytes: 64 M lines of 11, 256 S lines of 10 and 64 R lines of 24
-abbrev pub mostWritten : ℕ
-mostWritten = 4800
 
 -- all tables are those of a taken book: messages and signals, and routes
 pub record TablesTaken (w : List ℕ) : Type 0 where

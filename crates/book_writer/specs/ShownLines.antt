@@ -7,7 +7,7 @@ use Rattle.line.specs.declared.Line.{Line}
 use Rattle.books.specs.Book.{Message, identifiers, numbers, allPlacements}
 use Rattle.books.specs.Words.{placementStarts, endsAfter, sideBySide, shown, routesSideBySide}
 use Rattle.reading.specs.Written.{signalLine, routeLine, messageLines}
-use Rattle.line_writer.specs.Texts.{LinesFit}
+use Rattle.line_writer.specs.Fitting.{LinesFit}
 
 -- the S lines of signals whose numbers and starts stand side by side
 abbrev pub signalLines : List ℕ → List ℕ → List Line

@@ -6,5 +6,6 @@ pub mod Meeting
 pub mod Sides
 pub mod Columns
 pub mod RouteColumns
+pub mod RouteLines
 pub mod Parts
 pub mod Known

@@ -115,6 +115,10 @@ routesSideBySide (f ∷ fs) (t ∷ ts) = routeBetween f t ∷ routesSideBySide f
 unfoldable pub routesOf : List ℕ → List Route
 routesOf w = routesSideBySide (take (routeCountOf w) (fromsOf w)) (take (routeCountOf w) (tosOf w))
 
+-- the book that words show
+abbrev pub bookOf : List ℕ → Book
+bookOf w = record { messages = messagesOf w; routes = routesOf w }
+
 -- refusal 12 for the message and signal tables, exactly: they are those of messages that lines build
 pub record OfBuilt (w : List ℕ) : Type 0 where
   pub shown-messages : List Message

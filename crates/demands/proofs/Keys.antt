@@ -1,23 +1,19 @@
 -- A place's number tells its bus and its identifier: for R lines that pass, equal numbers are equal buses and identifiers, so chains of
 -- routes between numbers are chains of R lines between buses and identifiers. Assumes nothing.
 use mathlib.Core.Path.{_≡_, refl, sym, ap, _∙_, subst}
-use mathlib.Core.Bool.{_||_}
 use Prim.Native.Nat.{ℕ, zero, suc, _<_}
 use native.Mathlib.Omega.{arith}
 use native.Mathlib.Nat.{le-of-suc-le-suc}
 use mathlib.Core.List.{List, [], _∷_, map}
-use lib.Dec.{leb}
 use lib.ListN.{length, getD, length-map, List·getD-map}
-use borrow.Author.Tests.{leb-false}
-use Rattle.record.specs.Limits.{busLimit, identifierLimit}
+use Rattle.record.specs.Limits.{identifierLimit}
 use Rattle.record.specs.Place.{placeKey, says-both}
 use Rattle.chains.specs.Chain.{Walk, Chain}
 use Rattle.chains.proofs.Walks.{walk-last}
 use Rattle.line.specs.declared.Line.{Line}
 use Rattle.line.specs.declared.Line.the-variants as line
 use Rattle.books.specs.Book.{Book, Route, noBook}
-use Rattle.books.specs.Lines.{routeRefusal}
-use Rattle.books.proofs.Tests.{not-refused, both-false}
+use Rattle.books.proofs.RouteLines.{route-allowed}
 use Rattle.reading.specs.Reading.{passed, refusalOf, withLine, numberedWith, readFrom, meanings, linesRead}
 use Rattle.reading.specs.Taken.{froms, tos}
 use Rattle.reading.proofs.Passing.{went}
@@ -31,7 +27,7 @@ in-limits-at (more l a) (suc k) h = in-limits-at a k (le-of-suc-le-suc h)
 
 -- lines that pass are within the limits
 lines-in-limits : (n : ℕ) (b : Book) (at : List ℕ) (ls : List Line) {c : Book} {to : List ℕ} → readFrom n b at ls ≡ passed c to → AllInLimits (rLinesIn ls)
-unfolding readFrom rLinesIn refusalOf routeRefusal
+unfolding readFrom rLinesIn refusalOf
 lines-in-limits n b at [] e = none
 lines-in-limits n b at (l ∷ ls) e =
     let w = went (refusalOf b l) n (readFrom (suc n) (withLine b l) (numberedWith at n l) ls) e in
@@ -41,11 +37,8 @@ lines-in-limits n b at (l ∷ ls) e =
     by (line.Message i) e h = h
     by (line.Signal m s) e h = h
     by (line.Route x i y j) e h =
-        let a = not-refused ((leb busLimit x || leb identifierLimit i) || (leb busLimit y || leb identifierLimit j)) 2 _ e in
-        let c = both-false (leb busLimit x || leb identifierLimit i) (leb busLimit y || leb identifierLimit j) (a .0) in
-        let d = both-false (leb busLimit x) (leb identifierLimit i) (c .0) in
-        let f = both-false (leb busLimit y) (leb identifierLimit j) (c .1) in
-        more (record { from = record { on-bus = leb-false _ _ (d .0); identified = leb-false _ _ (d .1) }; to = record { on-bus = leb-false _ _ (f .0); identified = leb-false _ _ (f .1) } }) h
+        let a = route-allowed (b .routes) x i y j e in
+        more (record { from = record { on-bus = a .from-bus; identified = a .from-identifier }; to = record { on-bus = a .to-bus; identified = a .to-identifier } }) h
     by line.IllFormed e h = h
 
 pub text-in-limits : (text : List ℕ) {b : Book} {at : List ℕ} → linesRead text ≡ passed b at → AllInLimits (textRLines text)

@@ -11,12 +11,11 @@ use lib.Seq.{take-append-seam, drop-append-seam}
 use Rattle.record.specs.Columns.{messageCountOf, signalCountOf, routeCountOf, IsRecord}
 use Rattle.answers.specs.Numbers.{Said, taken}
 use Rattle.books.specs.Book.{Book}
-use Rattle.books.specs.Words.{wordsOf, messagesOf, routesOf}
+use Rattle.books.specs.Words.{wordsOf, messagesOf, routesOf, bookOf}
 use Rattle.books.proofs.Building.{good-built, built-good}
 use Rattle.books.proofs.Columns.{within, taken-stands, words-stand, shows}
 use Rattle.books.proofs.RouteColumns.{words-routes, shows-routes}
-use Rattle.reading.specs.Reading.{passed, linesRead}
-use Rattle.reading.specs.Written.{bookText}
+use Rattle.reading.specs.Written.{bookText, mostWritten}
 use Rattle.reading.specs.Taken.{TakenWith}
 use Rattle.reading.proofs.Passing.{read-built}
 use Rattle.reading.proofs.Counts.{text-routed}
@@ -26,30 +25,17 @@ use Rattle.route_tables.proofs.FromTexts.{routed-shown}
 use Rattle.route_tables.proofs.OneText.{stand-words}
 use Rattle.book.specs.Answered.{Answered, taken-with}
 use Rattle.book.proofs.Once.{answered-once}
-use Rattle.book_writer.specs.Answers.{bookOf, textOf, mostWritten, TablesTaken, WriteBy, no-room, writes, WriteAnswer, not-a-book, by-tables}
-use Rattle.book_writer.proofs.Bound.{bound}
-use Rattle.rewriting.specs.SameLines.{textLines, RoutesLast}
+use Rattle.book_writer.specs.Answers.{textOf, TablesTaken, WriteBy, no-room, writes, WriteAnswer, not-a-book, by-tables}
+use Rattle.reading.proofs.Bound.{bound}
+use Rattle.rewriting.specs.LineKinds.{textLines, RoutesLast}
 use Rattle.rewriting.proofs.Back as back
 use Rattle.demands.specs.WritingBack.{AtFront, SameLines, SameTables}
 use Rattle.demands.proofs.Taken.{left, left-tables}
 
--- ---- what an answer that refuses nothing left
+-- ---- what an answer left
 module _ (w room : List ℕ) where
-  by-front : {why n : ℕ} {after : List ℕ} → WriteBy w room why n after → why ≡ 0 → AtFront room n after (textOf w)
-  by-front (no-room l) e = absurd (omega arith)
-  by-front (writes l) e = record {
-    count = refl;
-    front = take-append-seam (textOf w) (drop (length (textOf w)) room);
-    rest = drop-append-seam (textOf w) (drop (length (textOf w)) room);
-  }
-
-  pub written : {why n : ℕ} {after : List ℕ} → WriteAnswer w room why n after → why ≡ 0 → AtFront room n after (textOf w)
-  written (not-a-book x) e = absurd (omega arith)
-  written (by-tables t b) e = by-front b e
-
-  tables-taken : {why n : ℕ} {after : List ℕ} → WriteAnswer w room why n after → why ≡ 0 → TablesTaken w
-  tables-taken (not-a-book x) e = absurd (omega arith)
-  tables-taken (by-tables t b) e = t
+  tables-taken : {n : ℕ} {after : List ℕ} → WriteAnswer w room 0 n after → TablesTaken w
+  tables-taken (by-tables t b) = t
 
   -- tables that are taken are refused for the room alone
   by-room : {why n : ℕ} {after : List ℕ} → WriteBy w room why n after → (why ≡ 71) ↔ (length room < length (textOf w))
@@ -60,13 +46,26 @@ module _ (w room : List ℕ) where
   told-room t (not-a-book x) = absurd (x t)
   told-room t (by-tables u b) = by-room b
 
-  by-number : {why n : ℕ} {after : List ℕ} → WriteBy w room why n after → length (textOf w) ≤ length room → why ≡ 0
-  by-number (no-room l) h = absurd (omega arith)
-  by-number (writes l) h = refl
+  -- and where there is room the text is there
+  by-front : {why n : ℕ} {after : List ℕ} → WriteBy w room why n after → length (textOf w) ≤ length room → AtFront room why n after (textOf w)
+  by-front (no-room l) h = absurd (omega arith)
+  by-front (writes l) h = record {
+    not-refused = refl;
+    count = refl;
+    front = take-append-seam (textOf w) (drop (length (textOf w)) room);
+    rest = drop-append-seam (textOf w) (drop (length (textOf w)) room);
+  }
 
-  told-number : {why n : ℕ} {after : List ℕ} → TablesTaken w → WriteAnswer w room why n after → length (textOf w) ≤ length room → why ≡ 0
-  told-number t (not-a-book x) h = absurd (x t)
-  told-number t (by-tables u b) h = by-number b h
+  written : {why n : ℕ} {after : List ℕ} → TablesTaken w → WriteAnswer w room why n after → length (textOf w) ≤ length room → AtFront room why n after (textOf w)
+  written t (not-a-book x) h = absurd (x t)
+  written t (by-tables u b) h = by-front b h
+
+  -- what is not refused had room
+  had-room : {n : ℕ} {after : List ℕ} → WriteAnswer w room 0 n after → length (textOf w) ≤ length room
+  had-room (by-tables t (writes l)) = l
+
+  as-written : {n : ℕ} {after : List ℕ} → WriteAnswer w room 0 n after → AtFront room 0 n after (textOf w)
+  as-written a = written (tables-taken a) a (had-room a)
 
 -- ---- of any record
 module _ (w : List ℕ) (r : IsRecord w) where
@@ -81,13 +80,17 @@ module _ (w : List ℕ) (r : IsRecord w) where
     -- "Reading what was written gives the same tables."
     pub read-of-written : {said : Said} {v : List ℕ} → Answered (take n after) said v → SameTables w said v
     read-of-written {said} {v} b =
-        let e = answered-once (subst (λ (t : List ℕ). Answered t said v) (written w room a refl .front) b) (own-answer (tables-taken w room a refl)) in
+        let e = answered-once (subst (λ (t : List ℕ). Answered t said v) (as-written w room a .front) b) (own-answer (tables-taken w room a)) in
         record { counts = ap (λ (x : Said × List ℕ). x .0) e; words = ap (λ (x : Said × List ℕ). x .1) e }
 
-    -- and what was written is written again the same
-    pub written-again : {said : Said} {v : List ℕ} → Answered (take n after) said v → (other : List ℕ) {m : ℕ} {later : List ℕ} → WriteAnswer v other 0 m later → take m later ≡ take n after
-    written-again {said} {v} b other c =
-        written v other c refl .front ∙ ap textOf (read-of-written b .words) ∙ sym (written w room a refl .front)
+    -- and what was written is written again the same, wherever there is room for as many bytes
+    pub written-again : {said : Said} {v : List ℕ} → Answered (take n after) said v → (other : List ℕ) → n ≤ length other
+        → {why m : ℕ} {later : List ℕ} → WriteAnswer v other why m later → AtFront other why m later (take n after)
+    written-again {said} {v} b other h {why} {m} {later} c =
+        let f = as-written w room a in
+        let same = read-of-written b .words in
+        let d = subst (λ (x : List ℕ). WriteAnswer x other why m later) same c in
+        subst (AtFront other why m later) (sym (f .front)) (written w other (tables-taken w room a) d (omega (arith, f .count)))
 
   -- a room of 4,800 bytes is enough
   pub most-enough : (room : List ℕ) {why n : ℕ} {after : List ℕ} → mostWritten ≤ length room → WriteAnswer w room why n after → why ≡ 71 → ⊥
@@ -105,10 +108,6 @@ module _ (b : Book) (text : List ℕ) (t : TakenWith text b) where
       let m = shows (wordsOf b) (b .messages) (l .few) (l .room) (words-stand b (l .few) (l .room)) in
       let s = shows-routes (wordsOf b) (b .routes) (r .few) (words-routes b (l .few) (l .room) (r .few)) in
       ap (λ ms. record { messages = ms; routes = routesOf (wordsOf b) }) m ∙ ap (λ rs. record { messages = b .messages; routes = rs }) s
-
--- no text whose lines pass, whatever its length, is longer than 4,800 bytes
-pub passed-short : (text : List ℕ) {b : Book} {at : List ℕ} → linesRead text ≡ passed b at → length text ≤ mostWritten
-passed-short text {b} e = omega (arith, back.same-length text e, bound b (read-built text e) (text-routed text e))
 
 module _ (text : List ℕ) {m s r : ℕ} {w : List ℕ} (a : Answered text (taken m s r) w) where
   abbrev l : LeftOf text w
@@ -128,14 +127,14 @@ module _ (text : List ℕ) {m s r : ℕ} {w : List ℕ} (a : Answered text (take
     pub refused-71 : (why ≡ 71) ↔ (length room < length text)
     refused-71 = let k = told-room w room taken-tables b in (λ e. omega (arith, k .0 e, as-long), λ h. k .1 (omega (arith, as-long)))
 
-    pub write-of-taken : length text ≤ length room → AtFront room n after (textOf w) × SameLines text (take n after)
+    pub write-of-taken : length text ≤ length room → AtFront room why n after (textOf w) × SameLines text (take n after)
     write-of-taken h =
-        let z = told-number w room taken-tables b (omega (arith, as-long)) in
-        let f = written w room b z in
+        let f = written w room taken-tables b (omega (arith, as-long)) in
         let e = f .front ∙ same-text in
         let q = l .taken .read in
         (f, subst (SameLines text) (sym e) (record { of-messages = back.same-lines text q .0; of-routes = back.same-lines text q .1; in-order = back.in-order text q; long = back.same-length text q }))
 
     -- "A book with its R lines last comes back byte for byte."
-    pub comes-back : length text ≤ length room → RoutesLast (textLines text) → take n after ≡ text
-    comes-back h last = write-of-taken h .0 .front ∙ same-text ∙ back.comes-back text (l .taken .read) last
+    pub comes-back : length text ≤ length room → RoutesLast (textLines text) → AtFront room why n after text
+    comes-back h last =
+        subst (AtFront room why n after) (same-text ∙ back.comes-back text (l .taken .read) last) (write-of-taken h .0)

@@ -7,10 +7,11 @@ use lib.ListN.{length, take, drop}
 use Rattle.record.specs.Columns.{messageCountOf, signalCountOf, routeCountOf}
 use Rattle.parts.specs.Joined.{textOfLines}
 use Rattle.answers.specs.Numbers.{Said, taken}
-use Rattle.rewriting.specs.SameLines.{messageLinesOf, routeLinesOf}
+use Rattle.rewriting.specs.LineKinds.{messageLinesOf, routeLinesOf}
 
--- a text was written to the front of the room: so many bytes of it, and the rest of the room as lent
-pub record AtFront (room : List ℕ) (n : ℕ) (after text : List ℕ) : Type 0 where
+-- the call refuses nothing, and a text was written to the front of the room: so many bytes of it, and the rest of the room as lent
+pub record AtFront (room : List ℕ) (why n : ℕ) (after text : List ℕ) : Type 0 where
+  pub not-refused : why ≡ 0
   pub count : n ≡ length text
   pub front : take n after ≡ text
   pub rest : drop n after ≡ drop n room

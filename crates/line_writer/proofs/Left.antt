@@ -1,7 +1,7 @@
 -- Lines written one after another into a lent list: writing those that are left gives the final list; and their lengths summed up, likewise.
 -- Assumes nothing.
 use mathlib.Core.Path.{_≡_, refl, sym, ap, _∙_}
-use Prim.Native.Nat.{ℕ, _+_, _≤_}
+use Prim.Native.Nat.{ℕ, _+_, _≤_, _<_}
 use native.Mathlib.Nat.{add-zero, zero-add}
 use native.Mathlib.Omega.{arith}
 use mathlib.Core.List.{List, [], _∷_, _++_}
@@ -11,8 +11,11 @@ use Rattle.parts.specs.Joined.{textOfLines}
 use Rattle.line.specs.declared.Line.{Line}
 use Rattle.printing.specs.Put.{Put}
 use Rattle.printing.proofs.Puts.{sets-append, put-length}
-use Rattle.line_writer.specs.Texts.{linesText, AllFewDigits, nothing, also, LinesFit}
-use Rattle.line_writer.proofs.Lengths.{lines-append, both-long}
+use Rattle.reading.specs.Written.{signalLine, linesText}
+use Rattle.numerals.specs.Written.{decimalLimit}
+use Rattle.books.specs.Book.{placement}
+use Rattle.line_writer.specs.Fitting.{AllFewDigits, nothing, also, LinesFit}
+use Rattle.reading.proofs.LineLengths.{lines-text-append, both-long}
 
 pub record LinesLeft (old : List ℕ) (first : ℕ) (all : List Line) (out : List ℕ) (at : ℕ) (left : List Line) : Type 0 where
   pub rest : sets out at (linesText left) ≡ sets old first (linesText all)
@@ -24,6 +27,10 @@ pub record LinesLeft (old : List ℕ) (first : ℕ) (all : List Line) (out : Lis
 -- at first all are left
 pub all-left : {old : List ℕ} {first : ℕ} {all : List Line} → LinesFit old first all → LinesLeft old first all old first all
 all-left f = record { rest = refl; ends = refl; size = refl; digits = f .digits; room = f .room }
+
+-- the numbers of an S line
+pub signal-numbers : (n s : ℕ) → AllFewDigits (signalLine (placement n s) ∷ []) → (n < decimalLimit) × (s < decimalLimit)
+signal-numbers n s (also w nothing) = w
 
 -- parts of such lines
 first-digits : (xs left : List Line) → AllFewDigits (xs ++ left) → AllFewDigits xs
@@ -45,7 +52,7 @@ module _ {old : List ℕ} {first : ℕ} {all : List Line} {out : List ℕ} {at :
     lines-put {new} {next} p = record {
       rest =
           ap (λ (t : List ℕ). sets t next (linesText left)) (p .now-there) ∙ ap (λ (n : ℕ). sets (sets out at (linesText xs)) n (linesText left)) (p .now-at) ∙
-          sets-append out at (linesText xs) (linesText left) ∙ ap (sets out at) (sym (lines-append xs left)) ∙ l .rest;
+          sets-append out at (linesText xs) (linesText left) ∙ ap (sets out at) (sym (lines-text-append xs left)) ∙ l .rest;
       ends = omega (arith, both-long xs left, l .ends, p .now-at);
       size = put-length p ∙ l .size;
       digits = rest-digits xs left (l .digits);

@@ -6,11 +6,10 @@ use Rattle.numerals.specs.Written.{identifierText, decimalText}
 use Rattle.line.specs.declared.Line.the-variants.{Message}
 use Rattle.record.specs.Limits.{identifierLimit}
 use Rattle.books.specs.Book.{placement, routeBetween}
-use Rattle.reading.specs.Written.{signalLine, routeLine}
+use Rattle.reading.specs.Written.{signalLine, routeLine, linesText, placeText}
 use Rattle.printing.specs.Put.{Put}
 use Rattle.printing.proofs.Puts.{and-then, put-as}
-use Rattle.line_writer.specs.Texts.{linesText, placeText}
-use Rattle.line_writer.proofs.Lengths.{message-text, signal-text, route-text}
+use Rattle.reading.proofs.LineLengths.{message-text, signal-text, route-text}
 
 module _ {old a new : List ℕ} {at first next : ℕ} where
   pub message-put : (i : ℕ) {b : List ℕ} {end : ℕ} → Put old at (77 ∷ 9 ∷ []) a first → Put a first (identifierText i) b end → Put b end (10 ∷ []) new next

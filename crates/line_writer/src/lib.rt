@@ -15,12 +15,16 @@ ghost use lib.ListN.{length};
 ghost use Rattle.parts.specs.Parts.{tab};
 ghost use Rattle.line.specs.declared.Line.the-variants.{Message};
 ghost use Rattle.books.specs.Book.{placement, routeBetween};
-ghost use Rattle.reading.specs.Written.{signalLine, routeLine};
+ghost use Rattle.reading.specs.Written.{signalLine, routeLine, linesText, placeText};
 ghost use Rattle.printing.specs.Put.{Put};
-ghost use Rattle.line_writer.specs.Texts.{linesText, placeText, placeRoom, LinesFit};
+ghost use Rattle.line_writer.specs.Fitting.{EveryMessageHas, placeRoom, LinesFit};
 
-// How many bytes an M line has.
-pub const MESSAGE_LENGTH: u32 = 11;
+// How many bytes an M line has, whatever its identifier.
+pub fn message_length() -> u32
+    ensures { λ r. ⌜ EveryMessageHas r ⌝ }
+{
+    11
+}
 
 // How many bytes an S line has.
 pub fn signal_length(number: u32, start: u32) -> u32

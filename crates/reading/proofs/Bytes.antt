@@ -98,12 +98,15 @@ pub ill-passes : {A : Type 0} (b : Book) → refusalOf b line.IllFormed ≡ 0 �
 unfolding refusalOf
 ill-passes b e = let z : _≡_ {A = ℕ} 2 0 = e in absurd (omega arith)
 
-well-formed : (b : Book) (l : List ℕ) → refusalOf b (lineMeaning l) ≡ 0 → OfBytes l
-well-formed b l e = by (canonical l)
+pub says-itself : (b : Book) (l : List ℕ) → refusalOf b (lineMeaning l) ≡ 0 → Canonical l (lineMeaning l)
+says-itself b l e = by (canonical l)
   where
-    by : (lineMeaning l ≡ line.IllFormed) ⊎ Canonical l (lineMeaning l) → OfBytes l
+    by : (lineMeaning l ≡ line.IllFormed) ⊎ Canonical l (lineMeaning l) → Canonical l (lineMeaning l)
     by (inl ill) = ill-passes b (subst (λ (m : Line). refusalOf b m ≡ 0) ill e)
-    by (inr c) = subst OfBytes (sym (c .text)) (line-bytes (lineMeaning l) (c .writable))
+    by (inr c) = c
+
+well-formed : (b : Book) (l : List ℕ) → refusalOf b (lineMeaning l) ≡ 0 → OfBytes l
+well-formed b l e = let c = says-itself b l e in subst OfBytes (sym (c .text)) (line-bytes (lineMeaning l) (c .writable))
 
 -- parts between newlines, all of them lines that pass
 parts-bytes : (n : ℕ) (b : Book) (at : List ℕ) (ps : List (List ℕ)) {c : Book} {to : List ℕ} → readFrom n b at (map meaningOf (linesOf ps)) ≡ passed c to → AllBytes ps

@@ -3,18 +3,14 @@ use mathlib.Core.Path.{_≡_, ap, _∙_}
 use Prim.Native.Nat.{ℕ, suc, _+_, _<_}
 use native.Mathlib.Omega.{arith}
 use native.Mathlib.Nat.{add-suc, pos-of-ne-zero}
-use mathlib.Core.Bool.{_||_}
 use mathlib.Core.List.{List, [], _∷_, _++_, append-assoc, append-nil}
 use lib.ListN.{length}
-use lib.Dec.{leb}
-use borrow.Author.Tests.{leb-false}
 use Rattle.line.specs.declared.Line.{Line}
 use Rattle.line.specs.declared.Line.the-variants as line
-use Rattle.record.specs.Limits.{identifierLimit}
 use Rattle.record.specs.Place.{placeKey, placeLimit, key-fits}
 use Rattle.books.specs.Book.{Book, Message, Placement, Route, noBook, fresh, allPlacements, routeBetween}
-use Rattle.books.specs.Lines.{routeRefusal, busLimit, routeLimit}
-use Rattle.books.proofs.Tests.{not-refused, both-false}
+use Rattle.books.specs.Lines.{routeRefusal}
+use Rattle.books.proofs.RouteLines.{route-allowed}
 use Rattle.books.proofs.Ends.{count-last, length-more, one-more}
 use Rattle.books.proofs.Building.{signal-taken}
 use Rattle.reading.specs.Reading.{passed, refusalOf, withLine, numberedWith, readFrom, meanings, linesRead}
@@ -68,18 +64,12 @@ places-more r no-route f t = route f t no-route
 places-more r (route g u p) f t = route g u (places-more r p f t)
 
 routed-route : (rs : List Route) (x i y j : ℕ) → Routed rs → routeRefusal rs x i y j ≡ 0 → Routed (rs ++ (routeBetween (placeKey x i) (placeKey y j) ∷ []))
-unfolding routeRefusal
 routed-route rs x i y j h e =
-    let a = not-refused ((leb busLimit x || leb identifierLimit i) || (leb busLimit y || leb identifierLimit j)) 2 _ e in
-    let b = not-refused (leb routeLimit (length rs)) 8 0 (a .1) in
-    let c = both-false (leb busLimit x || leb identifierLimit i) (leb busLimit y || leb identifierLimit j) (a .0) in
-    let d = both-false (leb busLimit x) (leb identifierLimit i) (c .0) in
-    let f = both-false (leb busLimit y) (leb identifierLimit j) (c .1) in
+    let a = route-allowed rs x i y j e in
     record {
-      few = omega (arith, length-more rs (routeBetween (placeKey x i) (placeKey y j)), leb-false routeLimit (length rs) (b .0));
+      few = omega (arith, length-more rs (routeBetween (placeKey x i) (placeKey y j)), a .few);
       places = places-more (routeBetween (placeKey x i) (placeKey y j)) (h .places)
-          (key-fits x i (leb-false busLimit x (d .0)) (leb-false identifierLimit i (d .1)))
-          (key-fits y j (leb-false busLimit y (f .0)) (leb-false identifierLimit j (f .1)));
+          (key-fits x i (a .from-bus) (a .from-identifier)) (key-fits y j (a .to-bus) (a .to-identifier));
     }
 
 routed-with : (b : Book) (l : Line) → Routed (b .routes) → refusalOf b l ≡ 0 → Routed (withLine b l .routes)

@@ -13,13 +13,14 @@ use Rattle.books.proofs.Columns.{taken-stands, stands-taken}
 use Rattle.reading.specs.Written.{bookText, no-route, Routed}
 use Rattle.reading.specs.Taken.{SoundRoutes, TakenWith, MessagesFrom, RoutesFrom, RoutesIn}
 use Rattle.reading.proofs.Passing.{read-built}
-use Rattle.reading.proofs.Texts.{text-read, text-short}
+use Rattle.reading.proofs.Texts.{text-read}
+use Rattle.reading.proofs.Bound.{bound}
 use Rattle.reading.proofs.Counts.{text-routed}
 
 -- a book that lines build, with sound routes, is that of a taken text: its own
 pub has-text : (b : Book) → Built (b .messages) → Routed (b .routes) → SoundRoutes (b .routes) → TakenWith (bookText b) b
 has-text b h r s = record {
-  short = text-short b h (r .places) (r .few);
+  short = omega (arith, bound b h r);
   at = _;
   read = text-read b h (r .places) (r .few);
   sound = s;

@@ -1,6 +1,9 @@
 pub mod Passing
 pub mod Refused
 pub mod Writes
+pub mod LineLengths
+pub mod TextLengths
+pub mod Bound
 pub mod Texts
 pub mod Counts
 pub mod Exact

@@ -1,32 +1,27 @@
 -- Texts of books: a book that lines build has a text, and reading that text gives the book. Assumes nothing.
 use mathlib.Core.Path.{_≡_, refl, sym, ap, _∙_, subst}
-use Prim.Native.Nat.{ℕ, suc, _+_, _*_, _≤_}
+use Prim.Native.Nat.{ℕ, _+_, _≤_}
 use native.Mathlib.Omega.{arith}
 use mathlib.Core.List.{List, [], _∷_, _++_, map}
-use lib.ListN.{length, length-append, length-map}
+use lib.ListN.{length}
 use lib.Dec.{leb, eqb}
 use borrow.Author.Tests.{leb-false, eqb-false}
-use Rattle.numerals.specs.Written.{identifierText, decimalText}
-use Rattle.numerals.proofs.Identifiers.{length-identifier}
-use Rattle.numerals.proofs.Decimals.{length-decimal}
-use Rattle.parts.specs.Parts.{ended, tab, newline}
-use Rattle.parts.specs.Joined.{join, textOfLines, AllLack, no-part, part}
+use Rattle.parts.specs.Parts.{ended, newline}
+use Rattle.parts.specs.Joined.{textOfLines, AllLack, no-part, part}
 use Rattle.parts.proofs.LineEnds.{lines-written}
 use Rattle.line.specs.Meaning.{meaningOf}
-use Rattle.line.specs.Written.{lineText, fieldsOf, Writable}
+use Rattle.line.specs.Written.{lineText, Writable}
 use Rattle.line.proofs.ReadBack.{text-free, read-back}
 use Rattle.line.specs.declared.Line.{Line}
 use Rattle.line.specs.declared.Line.the-variants as line
-use Rattle.record.specs.Limits.{identifierLimit, textLimit}
+use Rattle.record.specs.Limits.{identifierLimit}
 use Rattle.record.specs.Place.{key-place}
 use Rattle.catalogue.specs.Find.{bitsOf}
 use Rattle.books.proofs.Known.{known-small}
-use Rattle.books.specs.Book.{Book, Message, Placement, Route, noBook, allPlacements}
+use Rattle.books.specs.Book.{Book, Message, Placement, Route, noBook}
 use Rattle.books.specs.Lines.{messageRefusal, signalRefusal, unknownOrOver, routeLimit, startLimit}
 use Rattle.books.specs.Built.{Built, none, message, signal}
 use Rattle.books.proofs.Tests.{not-refused, both-false}
-use Rattle.books.proofs.Building.{built-good}
-use Rattle.books.proofs.Columns.{within}
 use Rattle.reading.specs.Reading.{passed, readFrom, meanings, linesRead}
 use Rattle.reading.specs.Written.{signalLine, routeLine, messageLines, bookLines, bookText, BetweenPlaces, no-route, route, countUp}
 use Rattle.reading.proofs.Writes.{lines-message, lines-signal, book-read}
@@ -82,53 +77,6 @@ routes-writable (route {r} f t p) =
 lines-writable : (b : Book) → Built (b .messages) → BetweenPlaces (b .routes) → AllWritable (bookLines b)
 unfolding bookLines
 lines-writable b h p = all-append (messages-writable h) (routes-writable p)
-
--- how long the text of a line is
-length-join : (s : ℕ) (p q : List ℕ) (ps : List (List ℕ)) → length (join s (p ∷ q ∷ ps)) ≡ length p + suc (length (join s (q ∷ ps)))
-unfolding join
-length-join s p q ps = length-append p (s ∷ join s (q ∷ ps))
-
-length-one : (s : ℕ) (p : List ℕ) → length (join s (p ∷ [])) ≡ length p
-unfolding join
-length-one s p = refl
-
-line-long : (l : Line) → Writable l → length (lineText l) ≤ 40
-unfolding lineText fieldsOf
-line-long (line.Message i) w =
-    let one = length-join tab (77 ∷ []) (identifierText i) [] in
-    omega (arith, one, length-one tab (identifierText i), length-identifier i)
-line-long (line.Signal n s) (wn, ws) =
-    let one = length-join tab (83 ∷ []) (decimalText n) (decimalText s ∷ []) in
-    let two = length-join tab (decimalText n) (decimalText s) [] in
-    omega (arith, one, two, length-one tab (decimalText s), length-decimal n wn, length-decimal s ws)
-line-long (line.Route a i b j) ((wa, wi), (wb, wj)) =
-    let one = length-join tab (82 ∷ []) (decimalText a) (identifierText i ∷ decimalText b ∷ identifierText j ∷ []) in
-    let two = length-join tab (decimalText a) (identifierText i) (decimalText b ∷ identifierText j ∷ []) in
-    let three = length-join tab (identifierText i) (decimalText b) (identifierText j ∷ []) in
-    let four = length-join tab (decimalText b) (identifierText j) [] in
-    omega (arith, one, two, three, four, length-one tab (identifierText j), length-decimal a wa, length-decimal b wb, length-identifier i, length-identifier j)
-line-long line.IllFormed w = absurd w
-
-lines-long : {ls : List Line} → AllWritable ls → length (textOfLines (map lineText ls)) ≤ 41 * length ls
-unfolding textOfLines
-lines-long nothing = omega arith
-lines-long (also {l} {ls} w a) =
-    let h = lines-long a in
-    let k = line-long l w in
-    omega (arith, length-append (lineText l) (newline ∷ textOfLines (map lineText ls)))
-
--- how many lines messages have
-count-messages : (ms : List Message) → length (messageLines ms) ≡ length ms + length (allPlacements ms)
-unfolding messageLines allPlacements
-count-messages [] = refl
-count-messages (m ∷ ms) =
-    omega (arith, length-append (map signalLine (m .placements)) (messageLines ms), length-map (m .placements) signalLine, length-append (m .placements) (allPlacements ms), count-messages ms)
-
-pub text-short : (b : Book) → Built (b .messages) → BetweenPlaces (b .routes) → length (b .routes) ≤ routeLimit → length (bookText b) ≤ textLimit
-unfolding bookText bookLines
-text-short b h p l =
-    let k = within (b .messages) (built-good h) in
-    omega (arith, lines-long (all-append (messages-writable h) (routes-writable p)), length-append (messageLines (b .messages)) (map routeLine (b .routes)), length-map (b .routes) routeLine, count-messages (b .messages), k .few, k .room)
 
 -- reading the text of a book gives that book
 pub text-read : (b : Book) → Built (b .messages) → BetweenPlaces (b .routes) → length (b .routes) ≤ routeLimit

@@ -54,7 +54,7 @@ lines-signal (m ∷ ms) p e = go (last m ms)
     go : Last (m ∷ ms) → messageLines (inLast (m ∷ ms) p) ≡ messageLines (m ∷ ms) ++ (signalLine p ∷ [])
     go r = subst (λ (l : List Message). messageLines (inLast l p) ≡ messageLines l ++ (signalLine p ∷ [])) (sym (r .whole)) (lines-last (r .before) (r .last) p)
 
-abbrev onlyMessages : List Message → Book
+abbrev pub onlyMessages : List Message → Book
 onlyMessages ms = record { messages = ms; routes = [] }
 
 -- the lines of messages that lines build

@@ -1,15 +1,17 @@
 -- The text of a book: each M line with its S lines, in book order, then the R lines in book order. Assumes nothing: these are definitions.
-use Prim.Native.Nat.{ℕ, zero, suc, _<_, _/_, _%_, _≤_}
+use Prim.Native.Nat.{ℕ, zero, suc, _+_, _*_, _<_, _/_, _%_, _≤_}
 use mathlib.Core.List.{List, [], _∷_, _++_, map}
 use Rattle.record.specs.Limits.{identifierLimit}
 use Rattle.record.specs.Place.{placeLimit}
+use Rattle.numerals.specs.Written.{identifierText, decimalText}
+use Rattle.parts.specs.Parts.{tab}
 use Rattle.parts.specs.Joined.{textOfLines}
 use Rattle.line.specs.Written.{lineText}
 use Rattle.line.specs.declared.Line.{Line}
 use Rattle.line.specs.declared.Line.the-variants as line
 use Rattle.books.specs.Book.{Book, Message, Placement, Route}
 use lib.ListN.{length}
-use Rattle.books.specs.Lines.{routeLimit}
+use Rattle.books.specs.Lines.{messageLimit, signalLimit, routeLimit}
 
 abbrev pub signalLine : Placement → Line
 signalLine p = line.Signal (p .number) (p .start)
@@ -19,6 +21,10 @@ abbrev pub routeLine : Route → Line
 routeLine r =
     line.Route (r .from / identifierLimit) (r .from % identifierLimit) (r .to / identifierLimit) (r .to % identifierLimit)
 
+-- the two values of a place in an R line, bus and identifier
+abbrev pub placeText : ℕ → List ℕ
+placeText place = decimalText (place / identifierLimit) ++ tab ∷ identifierText (place % identifierLimit)
+
 unfoldable pub messageLines : List Message → List Line
 messageLines [] = []
 messageLines (m ∷ ms) = line.Message (m .identifier) ∷ (map signalLine (m .placements) ++ messageLines ms)
@@ -26,8 +32,16 @@ messageLines (m ∷ ms) = line.Message (m .identifier) ∷ (map signalLine (m .p
 unfoldable pub bookLines : Book → List Line
 bookLines b = messageLines (b .messages) ++ map routeLine (b .routes)
 
+-- the text of lines: each ended by a newline
+abbrev pub linesText : List Line → List ℕ
+linesText ls = textOfLines (map lineText ls)
+
 unfoldable pub bookText : Book → List ℕ
 bookText b = textOfLines (map lineText (bookLines b))
+
+-- no text of a book has more bytes: 64 M lines of 11, 256 S lines of 10 and 64 R lines of 24
+abbrev pub mostWritten : ℕ
+mostWritten = messageLimit * 11 + signalLimit * 10 + routeLimit * 24
 
 -- the places of routes are places: each has a bus and an identifier within their limits
 pub data BetweenPlaces : List Route → Type 0 where

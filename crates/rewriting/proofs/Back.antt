@@ -1,7 +1,8 @@
 -- WRITING THE BOOK BACK: a text whose lines pass, and what is written of the book that they give. Assumes nothing.
 use mathlib.Core.Path.{_≡_, refl, sym, ap, _∙_, subst}
 use mathlib.Core.List.{List, [], _∷_, _++_, map, map-append}
-use Prim.Native.Nat.{ℕ, _+_}
+use Prim.Native.Nat.{ℕ, _+_, _≤_}
+use native.Mathlib.Omega.{arith}
 use lib.ListN.{length}
 use Rattle.parts.specs.Parts.{ended}
 use Rattle.parts.specs.Joined.{textOfLines}
@@ -9,13 +10,14 @@ use Rattle.parts.proofs.LineEnds.{lines-written}
 use Rattle.line.specs.Written.{lineText}
 use Rattle.books.specs.Book.{Book}
 use Rattle.reading.specs.Reading.{passed, linesRead}
-use Rattle.reading.specs.Written.{routeLine, messageLines, bookLines, bookText, countUp}
+use Rattle.reading.specs.Written.{routeLine, messageLines, bookLines, bookText, mostWritten, countUp}
 use Rattle.reading.specs.Taken.{TakenWith}
 use Rattle.reading.proofs.Passing.{same-book, read-built}
 use Rattle.reading.proofs.Counts.{text-routed}
 use Rattle.reading.proofs.Texts.{text-read, texts-free}
+use Rattle.reading.proofs.Bound.{bound}
 use Rattle.reading.proofs.Exact.{has-text}
-use Rattle.rewriting.specs.SameLines.{lineBytes, textLines, messageLinesOf, routeLinesOf, RoutesLast}
+use Rattle.rewriting.specs.LineKinds.{lineBytes, textLines, messageLinesOf, routeLinesOf, RoutesLast}
 use Rattle.rewriting.proofs.Growing.{messageTexts, routeTexts, every-line, message-lines, route-lines}
 use Rattle.rewriting.proofs.Orders.{only-order}
 use Rattle.rewriting.proofs.Parted.{whole, length-parted, last-parted, all-those, parted-last}
@@ -57,6 +59,10 @@ module _ (text : List ℕ) {b : Book} {at : List ℕ} (e : linesRead text ≡ pa
   pub same-length : length (bookText b) ≡ length text
   unfolding messageLinesOf routeLinesOf textLines
   same-length = ap length in-order ∙ length-parted (every-line text e) ∙ ap length (sym all-ended)
+
+  -- and no text whose lines pass, whatever its length, is longer than 4,800 bytes
+  pub passed-short : length text ≤ mostWritten
+  passed-short = omega (arith, same-length, bound b (read-built text e) (text-routed text e))
 
   -- with its R lines last it COMES BACK byte for byte
   pub comes-back : RoutesLast (textLines text) → bookText b ≡ text

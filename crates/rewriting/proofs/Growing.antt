@@ -1,12 +1,9 @@
 -- WHAT A BOOK HAS OF LINES THAT PASS: each is an M or S line or an R line, ended by a newline; those of M and S are, byte for byte, the
 -- lines of the book's messages, those of R the lines of its routes. Assumes nothing.
 use mathlib.Core.Path.{_≡_, refl, sym, ap, _∙_, subst}
-use mathlib.Core.Bool.{Bool, _||_}
+use mathlib.Core.Bool.{Bool}
 use mathlib.Core.List.{List, [], _∷_, _++_, map, map-append, append-assoc, append-nil}
-use mathlib.Core.Logic.{_⊎_, inl, inr}
 use Prim.Native.Nat.{ℕ, suc, _/_, _%_, _<_}
-use lib.Dec.{leb}
-use borrow.Author.Tests.{leb-false}
 use Rattle.lists.specs.Lists.{those}
 use Rattle.lists.proofs.Lists.{those-append}
 use Rattle.record.specs.Limits.{identifierLimit}
@@ -16,17 +13,16 @@ use Rattle.parts.specs.Joined.{join}
 use Rattle.line.specs.declared.Line.{Line}
 use Rattle.line.specs.declared.Line.the-variants as line
 use Rattle.line.specs.Meaning.{lineMeaning, meaningOf}
-use Rattle.line.specs.Written.{fieldsOf, lineText, Canonical}
-use Rattle.line.proofs.Canonical.{canonical}
+use Rattle.line.specs.Written.{fieldsOf, lineText}
 use Rattle.books.specs.Book.{Book, Route, noBook, placement, route}
 use Rattle.books.specs.Lines.{routeRefusal, busLimit}
-use Rattle.books.proofs.Tests.{not-refused, both-false}
+use Rattle.books.proofs.RouteLines.{route-allowed}
 use Rattle.reading.specs.Reading.{passed, refusalOf, withLine, numberedWith, readFrom, meanings, linesRead}
 use Rattle.reading.specs.Written.{routeLine, messageLines}
 use Rattle.reading.proofs.Passing.{went, same-book}
-use Rattle.reading.proofs.Bytes.{ill-passes}
+use Rattle.reading.proofs.Bytes.{ill-passes, says-itself}
 use Rattle.reading.proofs.Writes.{lines-message, lines-signal}
-use Rattle.rewriting.specs.SameLines.{lineBytes, textLines, isMOrSLine, isRLine, messageLinesOf, routeLinesOf, MSAndRLines, no-line, m-or-s-line, r-line}
+use Rattle.rewriting.specs.LineKinds.{lineBytes, textLines, isMOrSLine, isRLine, messageLinesOf, routeLinesOf, MSAndRLines, no-line, m-or-s-line, r-line}
 
 -- the lines of a book's messages, and those of its routes, as bytes
 abbrev pub messageTexts : Book → List (List ℕ)
@@ -60,14 +56,10 @@ place-numbers x i h l =
     says-both (placeKey x i / identifierLimit) (placeKey x i % identifierLimit) x i (k .1) l (k .2)
 
 same-route-line : (rs : List Route) (x i y j : ℕ) → routeRefusal rs x i y j ≡ 0 → routeLine (route x i y j) ≡ line.Route x i y j
-unfolding routeRefusal
 same-route-line rs x i y j e =
-    let a = not-refused ((leb busLimit x || leb identifierLimit i) || (leb busLimit y || leb identifierLimit j)) 2 _ e in
-    let c = both-false (leb busLimit x || leb identifierLimit i) (leb busLimit y || leb identifierLimit j) (a .0) in
-    let d = both-false (leb busLimit x) (leb identifierLimit i) (c .0) in
-    let f = both-false (leb busLimit y) (leb identifierLimit j) (c .1) in
-    let p = place-numbers x i (leb-false busLimit x (d .0)) (leb-false identifierLimit i (d .1)) in
-    let q = place-numbers y j (leb-false busLimit y (f .0)) (leb-false identifierLimit j (f .1)) in
+    let a = route-allowed rs x i y j e in
+    let p = place-numbers x i (a .from-bus) (a .from-identifier) in
+    let q = place-numbers y j (a .to-bus) (a .to-identifier) in
     rw (p .0, p .1, q .0, q .1)
 
 texts-more : (ls : List Line) (l : Line) → map lineText (ls ++ (l ∷ [])) ≡ map lineText ls ++ (lineText l ∷ [])
@@ -105,11 +97,9 @@ record Read (b c : Book) (ts : List TextLine) : Type 0 where
 
 read-on : (b : Book) (l : List ℕ) (ts : List TextLine) {c : Book} → refusalOf b (lineMeaning l) ≡ 0
     → Read (withLine b (lineMeaning l)) c ts → Read b c (ended l ∷ ts)
-read-on b l ts {c} e r = by (canonical l)
-  where
-    by : (lineMeaning l ≡ line.IllFormed) ⊎ Canonical l (lineMeaning l) → Read b c (ended l ∷ ts)
-    by (inl ill) = ill-passes b (subst (λ (m : Line). refusalOf b m ≡ 0) ill e)
-    by (inr w) = record {
+read-on b l ts {c} e r =
+    let w = says-itself b l e in
+    record {
       kinds = subst (λ (x : List ℕ). MSAndRLines (ended x ∷ ts)) (sym (w .text)) (kind-with b (lineMeaning l) e (r .kinds));
       grown = grown-on l (map lineBytes ts)
           (subst (λ (x : List ℕ). Grown b (withLine b (lineMeaning l)) (x ∷ [])) (sym (w .text)) (grown-with b (lineMeaning l) e)) (r .grown);

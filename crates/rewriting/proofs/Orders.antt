@@ -1,9 +1,8 @@
 -- THE TEXTS OF ONE BOOK: they have the same M and S lines and the same R lines, each in the same order, and every text that has them, in
 -- whatever order the M and S lines and the R lines stand to each other, is read as that book. Assumes nothing.
 use mathlib.Core.Path.{_≡_, refl, sym, ap, _∙_, subst}
-use mathlib.Core.Bool.{true}
+use mathlib.Core.Bool.{true, true≢false}
 use mathlib.Core.List.{List, [], _∷_, map}
-use mathlib.Core.Logic.{_⊎_, inl, inr}
 use Prim.Native.Nat.{ℕ, suc}
 use Rattle.lists.specs.Lists.{those}
 use Rattle.parts.specs.Parts.{TextLine, ended, lines}
@@ -11,15 +10,15 @@ use Rattle.parts.specs.Joined.{join}
 use Rattle.line.specs.declared.Line.{Line}
 use Rattle.line.specs.declared.Line.the-variants as line
 use Rattle.line.specs.Meaning.{lineMeaning, meaningOf}
-use Rattle.line.specs.Written.{fieldsOf, lineText, Canonical}
-use Rattle.line.proofs.Canonical.{canonical}
+use Rattle.line.specs.Written.{fieldsOf, lineText}
 use Rattle.books.specs.Book.{Book, Message, Route, noBook}
 use Rattle.reading.specs.Reading.{passed, refusalOf, withLine, numberedWith, readFrom, meanings, linesRead}
 use Rattle.reading.proofs.Passing.{went, goes-on, same-book}
-use Rattle.reading.proofs.Bytes.{ill-passes}
-use Rattle.rewriting.specs.SameLines.{lineBytes, textLines, isMOrSLine, isRLine, messageLinesOf, routeLinesOf, MSAndRLines, no-line, m-or-s-line, r-line}
+use Rattle.reading.proofs.Bytes.{says-itself}
+use Rattle.reading.proofs.Writes.{onlyMessages}
+use Rattle.rewriting.specs.LineKinds.{lineBytes, textLines, isMOrSLine, isRLine, messageLinesOf, routeLinesOf, MSAndRLines, no-line, m-or-s-line, r-line}
 use Rattle.rewriting.proofs.Growing.{every-line, message-lines, route-lines}
-use Rattle.rewriting.proofs.Parted.{not-both, m-or-s-only, r-only}
+use Rattle.rewriting.proofs.Parted.{m-or-s-only, r-only}
 
 -- ---- what a line says, by its kind
 data OfMessage : Line → Type 0 where
@@ -29,44 +28,33 @@ data OfMessage : Line → Type 0 where
 data OfRoute : Line → Type 0 where
   an-r : {x i y j : ℕ} → OfRoute (line.Route x i y j)
 
--- a line that is not refused is the text of what it says
-as-written : (P : Line → Type 0) (b : Book) (l : List ℕ) → refusalOf b (lineMeaning l) ≡ 0 → (l ≡ lineText (lineMeaning l) → P (lineMeaning l)) → P (lineMeaning l)
-as-written P b l e p = by (canonical l)
-  where
-    by : (lineMeaning l ≡ line.IllFormed) ⊎ Canonical l (lineMeaning l) → P (lineMeaning l)
-    by (inl ill) = ill-passes b (subst (λ (m : Line). refusalOf b m ≡ 0) ill e)
-    by (inr w) = p (w .text)
-
-message-text : (m : Line) → isMOrSLine (lineText m) ≡ true → OfMessage m
+of-message : (m : Line) → isMOrSLine (lineText m) ≡ true → OfMessage m
 unfolding lineText fieldsOf join isMOrSLine
-message-text (line.Message i) k = an-m
-message-text (line.Signal n s) k = an-s
-message-text (line.Route x i y j) k = not-both _ k refl
-message-text line.IllFormed k = not-both _ k refl
+of-message (line.Message i) k = an-m
+of-message (line.Signal n s) k = an-s
+of-message (line.Route x i y j) k = absurd (true≢false (sym k))
+of-message line.IllFormed k = absurd (true≢false (sym k))
 
-route-text : (m : Line) → isRLine (lineText m) ≡ true → OfRoute m
+of-route : (m : Line) → isRLine (lineText m) ≡ true → OfRoute m
 unfolding lineText fieldsOf join isRLine
-route-text (line.Message i) k = not-both _ k refl
-route-text (line.Signal n s) k = not-both _ k refl
-route-text (line.Route x i y j) k = an-r
-route-text line.IllFormed k = not-both _ k refl
+of-route (line.Message i) k = absurd (true≢false (sym k))
+of-route (line.Signal n s) k = absurd (true≢false (sym k))
+of-route (line.Route x i y j) k = an-r
+of-route line.IllFormed k = absurd (true≢false (sym k))
 
 says-message : (b : Book) (l : List ℕ) → refusalOf b (lineMeaning l) ≡ 0 → isMOrSLine l ≡ true → OfMessage (lineMeaning l)
-says-message b l e k = as-written OfMessage b l e (λ t. message-text (lineMeaning l) (ap isMOrSLine (sym t) ∙ k))
+says-message b l e k = of-message (lineMeaning l) (ap isMOrSLine (sym (says-itself b l e .text)) ∙ k)
 
 says-route : (b : Book) (l : List ℕ) → refusalOf b (lineMeaning l) ≡ 0 → isRLine l ≡ true → OfRoute (lineMeaning l)
-says-route b l e k = as-written OfRoute b l e (λ t. route-text (lineMeaning l) (ap isRLine (sym t) ∙ k))
+says-route b l e k = of-route (lineMeaning l) (ap isRLine (sym (says-itself b l e .text)) ∙ k)
 
 -- ---- M and S lines ask the messages alone, R lines the routes alone
-abbrev messagesAlone : List Message → Book
-messagesAlone ms = record { messages = ms; routes = [] }
-
-abbrev routesAlone : List Route → Book
-routesAlone rs = record { messages = []; routes = rs }
+abbrev onlyRoutes : List Route → Book
+onlyRoutes rs = record { messages = []; routes = rs }
 
 record ByMessages (b : Book) (m : Line) : Type 0 where
-  pub refusal : refusalOf b m ≡ refusalOf (messagesAlone (b .messages)) m
-  pub messages : withLine b m .messages ≡ withLine (messagesAlone (b .messages)) m .messages
+  pub refusal : refusalOf b m ≡ refusalOf (onlyMessages (b .messages)) m
+  pub messages : withLine b m .messages ≡ withLine (onlyMessages (b .messages)) m .messages
   pub routes : withLine b m .routes ≡ b .routes
 
 by-messages : (b : Book) {m : Line} → OfMessage m → ByMessages b m
@@ -75,9 +63,9 @@ by-messages b an-m = record { refusal = refl; messages = refl; routes = refl }
 by-messages b an-s = record { refusal = refl; messages = refl; routes = refl }
 
 record ByRoutes (b : Book) (m : Line) : Type 0 where
-  pub refusal : refusalOf b m ≡ refusalOf (routesAlone (b .routes)) m
+  pub refusal : refusalOf b m ≡ refusalOf (onlyRoutes (b .routes)) m
   pub messages : withLine b m .messages ≡ b .messages
-  pub routes : withLine b m .routes ≡ withLine (routesAlone (b .routes)) m .routes
+  pub routes : withLine b m .routes ≡ withLine (onlyRoutes (b .routes)) m .routes
 
 by-routes : (b : Book) {m : Line} → OfRoute m → ByRoutes b m
 unfolding refusalOf withLine
@@ -87,12 +75,12 @@ by-routes b an-r = record { refusal = refl; messages = refl; routes = refl }
 abbrev MessagesPass : List Message → List (List ℕ) → List Message → Type 0
 MessagesPass ms [] to = ms ≡ to
 MessagesPass ms (l ∷ ls) to =
-    (refusalOf (messagesAlone ms) (lineMeaning l) ≡ 0) × MessagesPass (withLine (messagesAlone ms) (lineMeaning l) .messages) ls to
+    (refusalOf (onlyMessages ms) (lineMeaning l) ≡ 0) × MessagesPass (withLine (onlyMessages ms) (lineMeaning l) .messages) ls to
 
 abbrev RoutesPass : List Route → List (List ℕ) → List Route → Type 0
 RoutesPass rs [] to = rs ≡ to
 RoutesPass rs (l ∷ ls) to =
-    (refusalOf (routesAlone rs) (lineMeaning l) ≡ 0) × RoutesPass (withLine (routesAlone rs) (lineMeaning l) .routes) ls to
+    (refusalOf (onlyRoutes rs) (lineMeaning l) ≡ 0) × RoutesPass (withLine (onlyRoutes rs) (lineMeaning l) .routes) ls to
 
 messages-after : (ls : List (List ℕ)) (to : List Message) {x y : List Message} → x ≡ y → MessagesPass x ls to → MessagesPass y ls to
 messages-after ls to e p = subst (λ (ms : List Message). MessagesPass ms ls to) e p
@@ -147,7 +135,7 @@ together n b at no-line h = (at, ap (λ (x : Book). passed x at) (same-parts (h 
 together n b at {c = c} (m-or-s-line {l} {ls} k ks) h =
     let p : MessagesPass (b .messages) (l ∷ those isMOrSLine (map lineBytes ls)) (c .messages) = rw k at (h .messages) in
     let q : RoutesPass (b .routes) (those isRLine (map lineBytes ls)) (c .routes) = rw (m-or-s-only l k) at (h .routes) in
-    let f = by-messages b (says-message (messagesAlone (b .messages)) l (p .0) k) in
+    let f = by-messages b (says-message (onlyMessages (b .messages)) l (p .0) k) in
     line-before n b at l ls c (f .refusal ∙ p .0) (together (suc n) _ _ ks (record {
       messages = messages-after (those isMOrSLine (map lineBytes ls)) (c .messages) (sym (f .messages)) (p .1);
       routes = routes-after (those isRLine (map lineBytes ls)) (c .routes) (sym (f .routes)) q;
@@ -155,7 +143,7 @@ together n b at {c = c} (m-or-s-line {l} {ls} k ks) h =
 together n b at {c = c} (r-line {l} {ls} k ks) h =
     let p : MessagesPass (b .messages) (those isMOrSLine (map lineBytes ls)) (c .messages) = rw (r-only l k) at (h .messages) in
     let q : RoutesPass (b .routes) (l ∷ those isRLine (map lineBytes ls)) (c .routes) = rw k at (h .routes) in
-    let f = by-routes b (says-route (routesAlone (b .routes)) l (q .0) k) in
+    let f = by-routes b (says-route (onlyRoutes (b .routes)) l (q .0) k) in
     line-before n b at l ls c (f .refusal ∙ q .0) (together (suc n) _ _ ks (record {
       messages = messages-after (those isMOrSLine (map lineBytes ls)) (c .messages) (sym (f .messages)) p;
       routes = routes-after (those isRLine (map lineBytes ls)) (c .routes) (sym (f .routes)) (q .1);

@@ -1,7 +1,7 @@
 -- Lines that are each ended by a newline and of one kind, M or S, or R: the text is those lines, it is as long as those of M and S and those
 -- of R together, and it is those one after the other where the R lines are last. Assumes nothing.
 use mathlib.Core.Path.{_≡_, refl, sym, ap, _∙_}
-use mathlib.Core.Bool.{Bool, true, false, cond}
+use mathlib.Core.Bool.{Bool, true, false, cond, true≢false}
 use mathlib.Core.List.{List, [], _∷_, _++_, map}
 use Prim.Native.Nat.{ℕ, _+_}
 use native.Mathlib.Omega.{arith}
@@ -12,12 +12,9 @@ use Rattle.parts.specs.Parts.{TextLine, newline, split, linesOf, lines}
 use Rattle.parts.specs.Joined.{join, textOfLines}
 use Rattle.parts.proofs.Joins.{join-split, text-append}
 use Rattle.line.specs.Meaning.{letterR}
-use Rattle.rewriting.specs.SameLines.{lineBytes, textLines, isMOrSLine, isRLine, MSAndRLines, no-line, m-or-s-line, r-line, AllRLines, no-more, r-next, RoutesLast, r-lines, no-r-line}
+use Rattle.rewriting.specs.LineKinds.{lineBytes, textLines, isMOrSLine, isRLine, MSAndRLines, no-line, m-or-s-line, r-line, AllRLines, no-more, r-next, RoutesLast, r-lines, no-r-line}
 
 -- ---- no line is of both kinds
-pub not-both : {A : Type 0} (q : Bool) → q ≡ true → q ≡ false → A
-not-both q e f = let z : _≡_ {A = ℕ} 0 1 = cc in absurd (omega arith)
-
 pub r-only : (l : List ℕ) → isRLine l ≡ true → isMOrSLine l ≡ false
 unfolding isRLine isMOrSLine
 r-only [] e = refl
@@ -27,7 +24,7 @@ pub m-or-s-only : (l : List ℕ) → isMOrSLine l ≡ true → isRLine l ≡ fal
 m-or-s-only l e = go (isRLine l) refl
   where
     go : (q : Bool) → isRLine l ≡ q → q ≡ false
-    go true f = not-both (isMOrSLine l) e (r-only l f)
+    go true f = absurd (true≢false (sym e ∙ r-only l f))
     go false f = refl
 
 -- ---- the text is its lines, each with its newline
@@ -79,9 +76,9 @@ pub last-parted : {ts : List TextLine} → MSAndRLines ts → RoutesLast (map li
     → those isMOrSLine (map lineBytes ts) ++ those isRLine (map lineBytes ts) ≡ map lineBytes ts
 last-parted no-line r = refl
 last-parted (m-or-s-line e k) (r-lines a) = all-r a
-last-parted (m-or-s-line {l} e k) (no-r-line f r) = rw (e, f) (ap (_∷_ l) (last-parted k r))
+last-parted (m-or-s-line {l} e k) (no-r-line f r) = rw (e, m-or-s-only l e) (ap (_∷_ l) (last-parted k r))
 last-parted (r-line e k) (r-lines a) = all-r a
-last-parted (r-line {l} e k) (no-r-line f r) = not-both (isRLine l) e f
+last-parted (r-line {l} e k) (no-r-line f r) = absurd (true≢false (sym e ∙ f))
 
 -- those of M and S, then those of R, have the R lines last
 pub all-those : (ls : List (List ℕ)) → AllRLines (those isRLine ls)

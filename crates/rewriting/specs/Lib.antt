@@ -1,1 +1,1 @@
-pub mod SameLines
+pub mod LineKinds

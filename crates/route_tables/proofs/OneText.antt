@@ -8,7 +8,7 @@ use lib.ListN.{length, getD, drop, length-drop, take-append-drop}
 use lib.Seq.{drop-drop, take-all}
 use Rattle.record.specs.Columns.{idsAt, fromsAt, messageWords, routeWords, messageCountOf, signalCountOf, routeCountOf, messageColumnsOf, routeColumnsOf, IsRecord}
 use Rattle.books.specs.Book.{Book, allPlacements}
-use Rattle.books.specs.Words.{messageColumns, wordsOf, messagesOf, messagesTaken, routesOf, Stands, RoutesStand}
+use Rattle.books.specs.Words.{messageColumns, wordsOf, messagesOf, messagesTaken, bookOf, Stands, RoutesStand}
 use Rattle.books.proofs.Building.{good-built, built-good}
 use Rattle.books.proofs.Columns.{within, taken-stands, stands-taken, words-stand}
 use Rattle.books.proofs.RouteColumns.{words-routes}
@@ -50,7 +50,7 @@ stand-words w b r m s =
 pub of-taken-text : (w : List ℕ) → IsRecord w → messagesTaken w ≡ true → RoutesTaken w → OfTakenText w
 of-taken-text w r m t =
     let s = taken-stands w m in
-    let b : Book = record { messages = messagesOf w; routes = routesOf w } in
+    let b = bookOf w in
     record {
       text = bookText b;
       left = record {

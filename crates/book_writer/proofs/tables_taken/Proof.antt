@@ -1,7 +1,8 @@
 -- `book_writer::tables_taken` meets its contract: both tests tell. Assumes nothing.
 use mathlib.Core.Path.{sym, _∙_}
+use mathlib.Core.Bool.{true≢false}
 use borrow.Author.Tests.{not-true, not-false}
-use Rattle.book_writer.proofs.Whole.{messages-not, all-told}
+use Rattle.book_writer.proofs.Whole.{all-told}
 use borrow.Author.Needs.{needs}
 use Rattle.book_writer.proofs.tables_taken.Statement.{statement}
 use Rattle.book_writer.proofs.tables_taken.Tie as tie
@@ -14,7 +15,7 @@ messages-taken-requires : tie.Need-messages-taken-requires
 messages-taken-requires c κs = search needs
 
 returns : tie.Need-returns
-returns c = λ t. messages-not (t .messages) (c .before .messages-taken .ensures) (not-true (c .before .messages-taken .result) (c .if1 .taken))
+returns c = λ t. true≢false (sym (c .before .messages-taken .ensures ∙ t .messages) ∙ not-true (c .before .messages-taken .result) (c .if1 .taken))
 
 routes-taken-requires : tie.Need-routes-taken-requires
 routes-taken-requires c κs = search needs

@@ -2,7 +2,7 @@
 use native.Mathlib.Omega.{arith}
 use Rattle.printing.proofs.Puts.{put-length}
 use Rattle.book_writer.specs.Answers.{no-room}
-use Rattle.book_writer.proofs.Whole.{head-fits, tail-fits, wrote}
+use Rattle.book_writer.proofs.Whole.{whole-long, head-fits, tail-fits, ends-there, wrote}
 use borrow.Author.Needs.{needs}
 use Rattle.book_writer.proofs.write_tested.Statement.{statement}
 use Rattle.book_writer.proofs.write_tested.Tie as tie
@@ -26,7 +26,7 @@ put-message-lines-requires : tie.Need-put-message-lines-requires
 put-message-lines-requires c κs = (c .before .before .before .before .before .pre .messages, head-fits _ (c .before .before .before .before .before .pre) _ (omega (arith, c .before .if1 .left, c .before .before .wide .ensures, c .before .before .before .text-length .ensures)))
 
 put-route-lines-requires : tie.Need-put-route-lines-requires
-put-route-lines-requires c κs = (c .before .before .before .before .before .before .before .before .before .pre .routes, tail-fits _ (c .before .before .before .before .before .before .before .before .before .pre) _ (omega (arith, c .before .before .before .before .before .if1 .left, c .before .before .before .before .before .before .wide .ensures, c .before .before .before .before .before .before .before .text-length .ensures)) (c .before .before .before .put-message-lines .ensures) (put-length (c .before .before .before .put-message-lines .ensures)))
+put-route-lines-requires c κs = (c .before .before .before .before .before .before .before .before .before .pre .routes, tail-fits _ (c .before .before .before .before .before .before .before .before .before .pre) _ (omega (arith, c .before .before .before .before .before .if1 .left, c .before .before .before .before .before .before .wide .ensures, c .before .before .before .before .before .before .before .text-length .ensures)) (c .before .before .before .put-message-lines .ensures) (put-length (c .before .before .before .put-message-lines .ensures)) (omega (arith, whole-long _ (c .before .before .before .before .before .before .before .before .before .pre), ends-there _ (c .before .before .before .before .before .before .before .before .before .pre) _ (omega (arith, c .before .before .before .before .before .if1 .left, c .before .before .before .before .before .before .wide .ensures, c .before .before .before .before .before .before .before .text-length .ensures)) (c .before .before .before .put-message-lines .ensures) (put-length (c .before .before .before .put-message-lines .ensures)))))
 
 same-length : tie.Need-same-length
 same-length c = search needs

@@ -1,7 +1,7 @@
 -- `line_writer::put_message` meets its contract. Assumes nothing.
 use native.Mathlib.Omega.{arith}
 use Rattle.printing.proofs.Puts.{put-identifier}
-use Rattle.line_writer.proofs.Lengths.{message-long}
+use Rattle.reading.proofs.LineLengths.{message-long}
 use Rattle.line_writer.proofs.Pieces.{message-put}
 use borrow.Author.Needs.{needs}
 use Rattle.line_writer.proofs.put_message.Statement.{statement}

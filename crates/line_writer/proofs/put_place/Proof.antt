@@ -1,7 +1,7 @@
 -- `line_writer::put_place` meets its contract: a number of 32 bits is a place, whose bus has one digit. Assumes nothing.
 use native.Mathlib.Omega.{arith}
 use Rattle.printing.proofs.Puts.{put-identifier, put-decimal}
-use Rattle.line_writer.proofs.Lengths.{bus-digit}
+use Rattle.reading.proofs.LineLengths.{bus-digit}
 use Rattle.line_writer.proofs.Pieces.{place-put}
 use borrow.Author.Needs.{needs}
 use Rattle.line_writer.proofs.put_place.Statement.{statement}

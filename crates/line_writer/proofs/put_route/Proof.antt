@@ -1,6 +1,6 @@
 -- `line_writer::put_route` meets its contract. Assumes nothing.
 use native.Mathlib.Omega.{arith}
-use Rattle.line_writer.proofs.Lengths.{place-long, route-long}
+use Rattle.reading.proofs.LineLengths.{place-long, route-long}
 use Rattle.line_writer.proofs.Pieces.{route-put}
 use borrow.Author.Needs.{needs}
 use Rattle.line_writer.proofs.put_route.Statement.{statement}
@@ -18,10 +18,10 @@ put-place-requires : tie.Need-put-place-requires
 put-place-requires c κs = omega (arith, c .before .before .before .before .before .before .pre .room, route-long (c .before .before .before .before .before .before .args .from) (c .before .before .before .before .before .before .args .to) (c .before .before .before .before .before .before .fits .from .fits) (c .before .before .before .before .before .before .fits .to .fits), c .before .before .before .put-kind .ensures .now-at)
 
 put-byte-requires : tie.Need-put-byte-requires
-put-byte-requires c κs = omega (arith, c .before .before .before .before .before .before .before .before .before .before .pre .room, route-long (c .before .before .before .before .before .before .before .before .before .before .args .from) (c .before .before .before .before .before .before .before .before .before .before .args .to) (c .before .before .before .before .before .before .before .before .before .before .fits .from .fits) (c .before .before .before .before .before .before .before .before .before .before .fits .to .fits), c .before .before .before .before .before .before .before .put-kind .ensures .now-at, c .before .before .before .put-place .ensures .now-at, place-long (c .before .before .before .before .before .before .before .before .before .before .args .from) (c .before .before .before .before .before .before .before .before .before .before .fits .from .fits))
+put-byte-requires c κs = omega (arith, c .before .before .before .before .before .before .before .before .before .before .pre .room, route-long (c .before .before .before .before .before .before .before .before .before .before .args .from) (c .before .before .before .before .before .before .before .before .before .before .args .to) (c .before .before .before .before .before .before .before .before .before .before .fits .from .fits) (c .before .before .before .before .before .before .before .before .before .before .fits .to .fits), c .before .before .before .before .before .before .before .put-kind .ensures .now-at, c .before .before .before .put-place .ensures .now-at, place-long (c .before .before .before .before .before .before .before .before .before .before .args .from) (c .before .before .before .before .before .before .before .before .before .before .fits .from .fits), place-long (c .before .before .before .before .before .before .before .before .before .before .args .to) (c .before .before .before .before .before .before .before .before .before .before .fits .to .fits))
 
 put-place-requires-2 : tie.Need-put-place-requires-2
-put-place-requires-2 c κs = omega (arith, c .before .before .before .before .before .before .before .before .before .before .before .before .before .before .pre .room, route-long (c .before .before .before .before .before .before .before .before .before .before .before .before .before .before .args .from) (c .before .before .before .before .before .before .before .before .before .before .before .before .before .before .args .to) (c .before .before .before .before .before .before .before .before .before .before .before .before .before .before .fits .from .fits) (c .before .before .before .before .before .before .before .before .before .before .before .before .before .before .fits .to .fits), c .before .before .before .before .before .before .before .before .before .before .before .put-kind .ensures .now-at, c .before .before .before .before .before .before .before .put-place .ensures .now-at, place-long (c .before .before .before .before .before .before .before .before .before .before .before .before .before .before .args .from) (c .before .before .before .before .before .before .before .before .before .before .before .before .before .before .fits .from .fits), c .before .before .before .put-byte .ensures .now-at)
+put-place-requires-2 c κs = omega (arith, c .before .before .before .before .before .before .before .before .before .before .before .before .before .before .pre .room, route-long (c .before .before .before .before .before .before .before .before .before .before .before .before .before .before .args .from) (c .before .before .before .before .before .before .before .before .before .before .before .before .before .before .args .to) (c .before .before .before .before .before .before .before .before .before .before .before .before .before .before .fits .from .fits) (c .before .before .before .before .before .before .before .before .before .before .before .before .before .before .fits .to .fits), c .before .before .before .before .before .before .before .before .before .before .before .put-kind .ensures .now-at, c .before .before .before .before .before .before .before .put-place .ensures .now-at, place-long (c .before .before .before .before .before .before .before .before .before .before .before .before .before .before .args .from) (c .before .before .before .before .before .before .before .before .before .before .before .before .before .before .fits .from .fits), place-long (c .before .before .before .before .before .before .before .before .before .before .before .before .before .before .args .to) (c .before .before .before .before .before .before .before .before .before .before .before .before .before .before .fits .to .fits), c .before .before .before .put-byte .ensures .now-at)
 
 put-byte-requires-2 : tie.Need-put-byte-requires-2
 put-byte-requires-2 c κs = omega (arith, c .before .before .before .before .before .before .before .before .before .before .before .before .before .before .before .before .before .before .pre .room, route-long (c .before .before .before .before .before .before .before .before .before .before .before .before .before .before .before .before .before .before .args .from) (c .before .before .before .before .before .before .before .before .before .before .before .before .before .before .before .before .before .before .args .to) (c .before .before .before .before .before .before .before .before .before .before .before .before .before .before .before .before .before .before .fits .from .fits) (c .before .before .before .before .before .before .before .before .before .before .before .before .before .before .before .before .before .before .fits .to .fits), c .before .before .before .before .before .before .before .before .before .before .before .before .before .before .before .put-kind .ensures .now-at, c .before .before .before .before .before .before .before .before .before .before .before .put-place .ensures .now-at, place-long (c .before .before .before .before .before .before .before .before .before .before .before .before .before .before .before .before .before .before .args .from) (c .before .before .before .before .before .before .before .before .before .before .before .before .before .before .before .before .before .before .fits .from .fits), c .before .before .before .before .before .before .before .put-byte .ensures .now-at, c .before .before .before .put-place2 .ensures .now-at, place-long (c .before .before .before .before .before .before .before .before .before .before .before .before .before .before .before .before .before .before .args .to) (c .before .before .before .before .before .before .before .before .before .before .before .before .before .before .before .before .before .before .fits .to .fits))

@@ -1,7 +1,8 @@
 -- `line_writer::put_signal` meets its contract. Assumes nothing.
 use native.Mathlib.Omega.{arith}
 use Rattle.printing.proofs.Puts.{put-decimal}
-use Rattle.line_writer.proofs.Lengths.{signal-long, signal-numbers}
+use Rattle.reading.proofs.LineLengths.{signal-long}
+use Rattle.line_writer.proofs.Left.{signal-numbers}
 use Rattle.line_writer.proofs.Pieces.{signal-put}
 use borrow.Author.Needs.{needs}
 use Rattle.line_writer.proofs.put_signal.Statement.{statement}
@@ -16,7 +17,7 @@ put-kind-requires : tie.Need-put-kind-requires
 put-kind-requires c κs = omega (arith, c .before .before .pre .room, signal-long (c .before .before .args .number) (c .before .before .args .start))
 
 put-decimal-requires : tie.Need-put-decimal-requires
-put-decimal-requires c κs = (signal-numbers _ _ (c .before .before .before .before .before .before .pre .digits) .0, omega (arith, c .before .before .before .before .before .before .pre .room, signal-long (c .before .before .before .before .before .before .args .number) (c .before .before .before .before .before .before .args .start), c .before .before .before .put-kind .ensures .now-at))
+put-decimal-requires c κs = (let d = signal-numbers _ _ (c .before .before .before .before .before .before .pre .digits) in omega (arith, d .0, d .1), omega (arith, c .before .before .before .before .before .before .pre .room, signal-long (c .before .before .before .before .before .before .args .number) (c .before .before .before .before .before .before .args .start), c .before .before .before .put-kind .ensures .now-at))
 
 put-byte-requires : tie.Need-put-byte-requires
 put-byte-requires c κs = omega (arith, c .before .before .before .before .before .before .before .before .before .before .pre .room, signal-long (c .before .before .before .before .before .before .before .before .before .before .args .number) (c .before .before .before .before .before .before .before .before .before .before .args .start), c .before .before .before .before .before .before .before .put-kind .ensures .now-at, c .before .before .before .put-decimal .ensures .0)

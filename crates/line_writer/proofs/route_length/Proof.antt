@@ -1,6 +1,6 @@
 -- `line_writer::route_length` meets its contract: a number of 32 bits is a place, whose bus has one digit. Assumes nothing.
 use native.Mathlib.Omega.{arith}
-use Rattle.line_writer.proofs.Lengths.{bus-digit, route-long}
+use Rattle.reading.proofs.LineLengths.{bus-digit, route-long}
 use borrow.Author.Needs.{needs}
 use Rattle.line_writer.proofs.route_length.Statement.{statement}
 use Rattle.line_writer.proofs.route_length.Tie as tie

@@ -1,7 +1,7 @@
 -- `line_writer::signal_length` meets its contract: letter, two tabs, newline, and the digits of both numbers. Assumes nothing.
 use native.Mathlib.Omega.{arith}
 use Rattle.numerals.proofs.Decimals.{width-few}
-use Rattle.line_writer.proofs.Lengths.{signal-long}
+use Rattle.reading.proofs.LineLengths.{signal-long}
 use borrow.Author.Needs.{needs}
 use Rattle.line_writer.proofs.signal_length.Statement.{statement}
 use Rattle.line_writer.proofs.signal_length.Tie as tie

@@ -11,8 +11,8 @@ use Rattle.books.proofs.RouteColumns.{side-froms}
 use Rattle.reading.specs.Written.{routeLine}
 use Rattle.line_writer.proofs.Left.{LengthSoFar, none-summed, one-summed, all-summed}
 use Rattle.book_writer.specs.ShownLines.{routeLines}
-use Rattle.book_writer.proofs.Columns.{route-next, no-route}
-use Rattle.book_writer.proofs.TextLength.{routes-few}
+use Rattle.book_writer.proofs.Columns.{route-next, routes-done}
+use Rattle.reading.proofs.TextLengths.{routes-few}
 use borrow.Author.Needs.{needs}
 use Rattle.book_writer.proofs.lengths.routes_length.Statement.{statement}
 use Rattle.book_writer.proofs.lengths.routes_length.Tie as tie
@@ -57,7 +57,7 @@ loop-again : tie.Need-loop-again Inv-loop μ-loop
 loop-again c = one-summed _ _ (route-next (LengthSoFar _ _) _ _ _ (c .before .before .before .before .loop .inv) (c .before .before .before .before .before .before .before .pre .0) (c .before .before .before .loop-test .taken)) (c .route-length .ensures)
 
 returns : tie.Need-returns Inv-loop μ-loop
-returns c = all-summed (no-route (LengthSoFar _ _) _ _ _ (c .before .loop .inv) (c .loop-test .left))
+returns c = all-summed (routes-done (LengthSoFar _ _) _ _ _ (c .before .loop .inv) (c .loop-test .left))
 
 pub routes-length-spec : {M : Type 1} → statement M
 routes-length-spec =

@@ -8,8 +8,8 @@ use Rattle.books.proofs.Sides.{rest, side-length}
 use Rattle.reading.specs.Written.{signalLine}
 use Rattle.line_writer.proofs.Left.{LengthSoFar, none-summed, one-summed, all-summed}
 use Rattle.book_writer.specs.ShownLines.{signalLines}
-use Rattle.book_writer.proofs.Columns.{signal-next, no-signal}
-use Rattle.book_writer.proofs.TextLength.{signals-few}
+use Rattle.book_writer.proofs.Columns.{signal-next, signals-done}
+use Rattle.reading.proofs.TextLengths.{signals-few}
 use borrow.Author.Needs.{needs}
 use Rattle.book_writer.proofs.lengths.signals_length.Statement.{statement}
 use Rattle.book_writer.proofs.lengths.signals_length.Tie as tie
@@ -54,7 +54,7 @@ loop-again : tie.Need-loop-again Inv-loop μ-loop
 loop-again c = one-summed _ _ (signal-next (LengthSoFar _ _) _ _ _ (c .before .before .before .before .loop .inv) (c .before .before .before .before .before .before .before .pre .0) (c .before .before .before .loop-test .taken)) (c .signal-length .ensures)
 
 returns : tie.Need-returns Inv-loop μ-loop
-returns c = all-summed (no-signal (LengthSoFar _ _) _ _ _ (c .before .loop .inv) (c .loop-test .left))
+returns c = all-summed (signals-done (LengthSoFar _ _) _ _ _ (c .before .loop .inv) (c .loop-test .left))
 
 pub signals-length-spec : {M : Type 1} → statement M
 signals-length-spec =

@@ -1,10 +1,9 @@
-use mathlib.Core.Path.{refl}
-use Rattle.book_writer.proofs.Messages.{MessagesLeft, messages-left, next-message, all-messages, message-fit, in-step, signals-fit, message-put}
 -- `book_writer::lines::put_messages` meets its contract: each turn writes the next message, and the others are left. Assumes nothing.
+use mathlib.Core.Path.{refl}
 use Prim.Native.Nat.{_-_}
 use native.Mathlib.Omega.{arith}
 use lib.ListN.{length}
-use Rattle.book_writer.proofs.Messages.{MessagesLeft, messages-left, next-message, all-messages, message-fit, signals-fit, message-put}
+use Rattle.book_writer.proofs.Messages.{MessagesLeft, messages-left, next-message, all-messages, message-fit, in-step, signals-fit, message-written}
 use borrow.Author.Needs.{needs}
 use Rattle.book_writer.proofs.lines.put_messages.Statement.{statement}
 use Rattle.book_writer.proofs.lines.put_messages.Tie as tie
@@ -27,7 +26,7 @@ mul-wide : tie.Need-mul-wide Inv-loop μ-loop
 mul-wide c = search needs
 
 shared-slice-read-wide : tie.Need-shared-slice-read-wide Inv-loop μ-loop
-shared-slice-read-wide c = next-message (c .before .before .loop .inv) (c .before .loop-test .taken) .ended
+shared-slice-read-wide c = next-message (c .before .before .loop .inv) (omega (arith, c .before .loop-test .taken)) .ended
 
 wide-requires : tie.Need-wide-requires Inv-loop μ-loop
 wide-requires c κs = search needs
@@ -39,34 +38,34 @@ shared-slice-read-put-message : tie.Need-shared-slice-read-put-message Inv-loop 
 shared-slice-read-put-message c = search needs
 
 put-message-requires : tie.Need-put-message-requires Inv-loop μ-loop
-put-message-requires c κs = message-fit (next-message (c .before .before .before .before .before .loop .inv) (c .before .before .before .before .loop-test .taken))
+put-message-requires c κs = message-fit (next-message (c .before .before .before .before .before .loop .inv) (omega (arith, c .before .before .before .before .loop-test .taken)))
 
 mul-put-signals : tie.Need-mul-put-signals Inv-loop μ-loop
 mul-put-signals c = search needs
 
 sub-put-signals : tie.Need-sub-put-signals Inv-loop μ-loop
-sub-put-signals c = let x = next-message (c .before .before .before .before .before .before .before .before .before .loop .inv) (c .before .before .before .before .before .before .before .before .loop-test .taken) in omega (arith, x .end-is, c .before .before .before .before .before .before .wide .ensures)
+sub-put-signals c = let x = next-message (c .before .before .before .before .before .before .before .before .before .loop .inv) (omega (arith, c .before .before .before .before .before .before .before .before .loop-test .taken)) in omega (arith, x .end-is, c .before .before .before .before .before .before .wide .ensures)
 
 part-put-signals-start : tie.Need-part-put-signals-start Inv-loop μ-loop
-part-put-signals-start c = let x = next-message (c .before .before .before .before .before .before .before .before .before .loop .inv) (c .before .before .before .before .before .before .before .before .loop-test .taken) in omega (arith, x .end-is, x .fits, c .before .before .before .before .before .before .wide .ensures)
+part-put-signals-start c = let x = next-message (c .before .before .before .before .before .before .before .before .before .loop .inv) (omega (arith, c .before .before .before .before .before .before .before .before .loop-test .taken)) in omega (arith, x .end-is, x .fits, c .before .before .before .before .before .before .wide .ensures)
 
 part-put-signals-end : tie.Need-part-put-signals-end Inv-loop μ-loop
-part-put-signals-end c = let x = next-message (c .before .before .before .before .before .before .before .before .before .loop .inv) (c .before .before .before .before .before .before .before .before .loop-test .taken) in omega (arith, x .end-is, x .fits, c .before .before .before .before .before .before .wide .ensures)
+part-put-signals-end c = let x = next-message (c .before .before .before .before .before .before .before .before .before .loop .inv) (omega (arith, c .before .before .before .before .before .before .before .before .loop-test .taken)) in omega (arith, x .end-is, x .fits, c .before .before .before .before .before .before .wide .ensures)
 
 mul-put-signals-2 : tie.Need-mul-put-signals-2 Inv-loop μ-loop
 mul-put-signals-2 c = search needs
 
 sub-put-signals-2 : tie.Need-sub-put-signals-2 Inv-loop μ-loop
-sub-put-signals-2 c = let x = next-message (c .before .before .before .before .before .before .before .before .before .before .loop .inv) (c .before .before .before .before .before .before .before .before .before .loop-test .taken) in omega (arith, x .end-is, c .before .before .before .before .before .before .before .wide .ensures)
+sub-put-signals-2 c = let x = next-message (c .before .before .before .before .before .before .before .before .before .before .loop .inv) (omega (arith, c .before .before .before .before .before .before .before .before .before .loop-test .taken)) in omega (arith, x .end-is, c .before .before .before .before .before .before .before .wide .ensures)
 
 part-put-signals-start-2 : tie.Need-part-put-signals-start-2 Inv-loop μ-loop
-part-put-signals-start-2 c = let x = next-message (c .before .before .before .before .before .before .before .before .before .before .loop .inv) (c .before .before .before .before .before .before .before .before .before .loop-test .taken) in omega (arith, x .end-is, x .fits, x .level, c .before .before .before .before .before .before .before .wide .ensures)
+part-put-signals-start-2 c = let x = next-message (c .before .before .before .before .before .before .before .before .before .before .loop .inv) (omega (arith, c .before .before .before .before .before .before .before .before .before .loop-test .taken)) in omega (arith, x .end-is, x .fits, x .level, c .before .before .before .before .before .before .before .wide .ensures)
 
 part-put-signals-end-2 : tie.Need-part-put-signals-end-2 Inv-loop μ-loop
-part-put-signals-end-2 c = let x = next-message (c .before .before .before .before .before .before .before .before .before .before .loop .inv) (c .before .before .before .before .before .before .before .before .before .loop-test .taken) in omega (arith, x .end-is, x .fits, x .level, c .before .before .before .before .before .before .before .wide .ensures)
+part-put-signals-end-2 c = let x = next-message (c .before .before .before .before .before .before .before .before .before .before .loop .inv) (omega (arith, c .before .before .before .before .before .before .before .before .before .loop-test .taken)) in omega (arith, x .end-is, x .fits, x .level, c .before .before .before .before .before .before .before .wide .ensures)
 
 put-signals-requires : tie.Need-put-signals-requires Inv-loop μ-loop
-put-signals-requires c κs = let x = next-message (c .before .before .before .before .before .before .before .before .before .before .before .loop .inv) (c .before .before .before .before .before .before .before .before .before .before .loop-test .taken) in (in-step x _ _ (c .before .before .before .before .before .before .before .before .wide .ensures) refl, signals-fit x _ _ (c .before .before .before .before .before .before .before .before .wide .ensures) refl (c .before .before .before .before .before .put-message .ensures))
+put-signals-requires c κs = let x = next-message (c .before .before .before .before .before .before .before .before .before .before .before .loop .inv) (omega (arith, c .before .before .before .before .before .before .before .before .before .before .loop-test .taken)) in (in-step x _ _ (c .before .before .before .before .before .before .before .before .wide .ensures) refl, signals-fit x _ _ (c .before .before .before .before .before .before .before .before .wide .ensures) refl (c .before .before .before .before .before .put-message .ensures))
 
 add-i : tie.Need-add-i Inv-loop μ-loop
 add-i c = search needs
@@ -75,7 +74,7 @@ loop-less : tie.Need-loop-less Inv-loop μ-loop
 loop-less c = omega (arith, c .before .before .before .before .before .before .before .before .before .before .before .before .before .loop-test .taken)
 
 loop-again : tie.Need-loop-again Inv-loop μ-loop
-loop-again c = message-put (next-message (c .before .before .before .before .before .before .before .before .before .before .before .before .before .before .loop .inv) (c .before .before .before .before .before .before .before .before .before .before .before .before .before .loop-test .taken)) _ _ (c .before .before .before .before .before .before .before .before .before .before .before .wide .ensures) refl (c .before .before .before .before .before .before .before .before .put-message .ensures) (c .before .before .put-signals .ensures)
+loop-again c = message-written (next-message (c .before .before .before .before .before .before .before .before .before .before .before .before .before .before .loop .inv) (omega (arith, c .before .before .before .before .before .before .before .before .before .before .before .before .before .loop-test .taken))) _ _ (c .before .before .before .before .before .before .before .before .before .before .before .wide .ensures) refl (c .before .before .before .before .before .before .before .before .put-message .ensures) (c .before .before .put-signals .ensures)
 
 same-length : tie.Need-same-length Inv-loop μ-loop
 same-length c = c .before .loop .inv .lines .size

@@ -1,7 +1,7 @@
 -- `book_writer::lines::put_route_lines` meets its contract: the columns are those of the routes that the words show. Assumes nothing.
 use mathlib.Core.Path.{_∙_}
 use native.Mathlib.Omega.{arith}
-use Rattle.book_writer.proofs.Shown.{few-routes, routes-level, routes-fit, routes-put}
+use Rattle.book_writer.proofs.Shown.{routes-counted, routes-level, routes-fit, routes-put}
 use borrow.Author.Needs.{needs}
 use Rattle.book_writer.proofs.lines.put_route_lines.Statement.{statement}
 use Rattle.book_writer.proofs.lines.put_route_lines.Tie as tie
@@ -24,13 +24,13 @@ froms-requires : tie.Need-froms-requires
 froms-requires c κs = search needs
 
 first-requires : tie.Need-first-requires
-first-requires c κs = omega (arith, few-routes _ (c .before .before .before .before .before .pre .0), c .froms .ensures .1, c .before .before .wide .ensures, c .before .before .before .route-count .ensures)
+first-requires c κs = omega (arith, routes-counted _ (c .before .before .before .before .before .pre .0), c .froms .ensures .1, c .before .before .wide .ensures, c .before .before .before .route-count .ensures)
 
 tos-requires : tie.Need-tos-requires
 tos-requires c κs = search needs
 
 first-requires-2 : tie.Need-first-requires-2
-first-requires-2 c κs = omega (arith, few-routes _ (c .before .before .before .before .before .before .before .pre .0), c .tos .ensures .1, c .before .before .before .before .wide .ensures, c .before .before .before .before .before .route-count .ensures)
+first-requires-2 c κs = omega (arith, routes-counted _ (c .before .before .before .before .before .before .before .pre .0), c .tos .ensures .1, c .before .before .before .before .wide .ensures, c .before .before .before .before .before .route-count .ensures)
 
 put-routes-requires : tie.Need-put-routes-requires
 put-routes-requires c κs = (routes-level _ (c .before .before .before .before .before .before .before .before .pre .0) (c .before .before .before .before .before .wide .ensures ∙ c .before .before .before .before .before .before .route-count .ensures) (c .before .before .before .froms .ensures .0) (c .before .tos .ensures .0) (c .before .before .first .ensures .0) (c .first2 .ensures .0), routes-fit _ (c .before .before .before .before .before .before .before .before .pre .0) (c .before .before .before .before .before .wide .ensures ∙ c .before .before .before .before .before .before .route-count .ensures) (c .before .before .before .froms .ensures .0) (c .before .tos .ensures .0) (c .before .before .first .ensures .0) (c .first2 .ensures .0) (c .before .before .before .before .before .before .before .before .pre .1))

@@ -7,7 +7,7 @@ use Rattle.books.proofs.Sides.{routesFromOn}
 use Rattle.reading.specs.Written.{routeLine}
 use Rattle.line_writer.proofs.Left.{LinesLeft, all-left, first-fit, lines-put, none-left}
 use Rattle.book_writer.specs.ShownLines.{routeLines}
-use Rattle.book_writer.proofs.Columns.{route-next, no-route}
+use Rattle.book_writer.proofs.Columns.{route-next, routes-done}
 use borrow.Author.Needs.{needs}
 use Rattle.book_writer.proofs.lines.put_routes.Statement.{statement}
 use Rattle.book_writer.proofs.lines.put_routes.Tie as tie
@@ -52,7 +52,7 @@ same-length : tie.Need-same-length Inv-loop μ-loop
 same-length c = c .before .loop .inv .size
 
 returns : tie.Need-returns Inv-loop μ-loop
-returns c = none-left (no-route (LinesLeft _ _ _ _ _) _ _ _ (c .before .loop .inv) (c .loop-test .left))
+returns c = none-left (routes-done (LinesLeft _ _ _ _ _) _ _ _ (c .before .loop .inv) (c .loop-test .left))
 
 pub put-routes-spec : {M : Type 1} → statement M
 put-routes-spec =

@@ -9,7 +9,7 @@ use Rattle.books.proofs.Sides.{rest}
 use Rattle.reading.specs.Written.{signalLine}
 use Rattle.line_writer.proofs.Left.{LinesLeft, all-left, first-fit, lines-put, none-left}
 use Rattle.book_writer.specs.ShownLines.{signalLines}
-use Rattle.book_writer.proofs.Columns.{signal-next, no-signal}
+use Rattle.book_writer.proofs.Columns.{signal-next, signals-done}
 use Rattle.book_writer.proofs.lines.put_signals.Statement.{statement}
 use Rattle.book_writer.proofs.lines.put_signals.Tie as tie
 use Rattle.book_writer.proofs.lines.put_signals.Reads as reads
@@ -56,7 +56,7 @@ same-length : tie.Need-same-length Inv-loop μ-loop
 same-length c = c .before .loop .inv .0 .size
 
 returns : tie.Need-returns Inv-loop μ-loop
-returns c = none-left (no-signal (LinesLeft _ _ _ _ _) (c .before .before .before .before .before .args .numbers .now) (c .before .before .before .before .before .args .starts .now) (c .before .loop .i) (c .before .loop .inv .0) (omega (arith, c .before .loop .inv .1, c .loop-test .left)))
+returns c = none-left (signals-done (LinesLeft _ _ _ _ _) (c .before .before .before .before .before .args .numbers .now) (c .before .before .before .before .before .args .starts .now) (c .before .loop .i) (c .before .loop .inv .0) (omega (arith, c .before .loop .inv .1, c .loop-test .left)))
 
 pub put-signals-spec : {M : Type 1} → statement M
 put-signals-spec =

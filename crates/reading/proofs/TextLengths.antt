@@ -9,9 +9,8 @@ use Rattle.parts.specs.Joined.{textOfLines}
 use Rattle.line.specs.declared.Line.{Line}
 use Rattle.line.specs.declared.Line.the-variants as line
 use Rattle.books.specs.Book.{Book, Message, Placement, Route, allPlacements}
-use Rattle.reading.specs.Written.{signalLine, routeLine, messageLines, bookLines, bookText}
-use Rattle.line_writer.specs.Texts.{linesText}
-use Rattle.line_writer.proofs.Lengths.{message-long, signal-long, route-few, both-long}
+use Rattle.reading.specs.Written.{signalLine, routeLine, messageLines, bookLines, linesText, bookText}
+use Rattle.reading.proofs.LineLengths.{message-long, signal-long, route-few, both-long}
 
 -- of the S lines of placements
 abbrev pub signalBytes : List Placement → ℕ
@@ -30,7 +29,7 @@ pub signals-append : (ps qs : List Placement) → signalBytes (ps ++ qs) ≡ sig
 signals-append ps qs = ap (λ (l : List Line). length (linesText l)) (map-append signalLine ps qs) ∙ both-long (map signalLine ps) (map signalLine qs)
 
 -- of M lines with their S lines
-messages-long : (ms : List Message) → length (linesText (messageLines ms)) ≡ 11 * length ms + signalBytes (allPlacements ms)
+pub messages-long : (ms : List Message) → length (linesText (messageLines ms)) ≡ 11 * length ms + signalBytes (allPlacements ms)
 unfolding messageLines allPlacements textOfLines
 messages-long [] = refl
 messages-long (m ∷ ms) =

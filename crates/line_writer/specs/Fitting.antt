@@ -1,18 +1,13 @@
--- Lines one after the other, each ended by a newline, and what writing them asks for. Assumes nothing: these are definitions.
-use Prim.Native.Nat.{ℕ, _+_, _≤_, _<_, _/_, _%_}
-use mathlib.Core.List.{List, [], _∷_, _++_, map}
+-- What writing lines asks for, and how long M lines are. The working side: these say what the inner functions ask and keep. Assumes
+-- nothing: these are definitions.
+use Prim.Native.Nat.{ℕ, _+_, _≤_, _<_}
+use mathlib.Core.Path.{_≡_}
+use mathlib.Core.List.{List, [], _∷_}
 use lib.ListN.{length}
-use Rattle.record.specs.Limits.{identifierLimit}
-use Rattle.numerals.specs.Written.{identifierText, decimalLimit, decimalText}
-use Rattle.parts.specs.Parts.{tab}
-use Rattle.parts.specs.Joined.{textOfLines}
+use Rattle.numerals.specs.Written.{decimalLimit}
 use Rattle.line.specs.declared.Line.{Line}
 use Rattle.line.specs.declared.Line.the-variants.{Message, Signal, Route, IllFormed}
-use Rattle.line.specs.Written.{lineText}
-
--- the text of lines: a book's is that of its lines (`reading: Written bookText`)
-abbrev pub linesText : List Line → List ℕ
-linesText ls = textOfLines (map lineText ls)
+use Rattle.reading.specs.Written.{linesText}
 
 -- the numbers of an S line have at most five digits; those of the other lines can be written whatever they are, as words of 32 bits
 abbrev pub FewDigits : Line → Type 0
@@ -30,9 +25,10 @@ pub record LinesFit (out : List ℕ) (at : ℕ) (ls : List Line) : Type 0 where
   pub digits : AllFewDigits ls
   pub room : at + length (linesText ls) ≤ length out
 
--- the two values of a place in an R line, bus and identifier; a bus has one digit
-abbrev pub placeText : ℕ → List ℕ
-placeText place = decimalText (place / identifierLimit) ++ tab ∷ identifierText (place % identifierLimit)
+-- every M line has so many bytes, whatever its identifier
+abbrev pub EveryMessageHas : ℕ → Type 0
+EveryMessageHas n = (i : ℕ) → n ≡ length (linesText (Message i ∷ []))
 
+-- room for the two values of a place: a bus has one digit
 abbrev pub placeRoom : ℕ
 placeRoom = 10

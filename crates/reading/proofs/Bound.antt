@@ -16,12 +16,11 @@ use Rattle.books.specs.Built.{Built}
 use Rattle.books.proofs.Building.{built-good}
 use Rattle.books.proofs.Columns.{within}
 use Rattle.books.proofs.Known.{known-small}
-use Rattle.books.proofs.Tests.{both-false}
+use Rattle.books.proofs.Tests.{both-false, neither}
 use Rattle.catalogue.specs.Find.{bitsOf}
-use Rattle.reading.specs.Written.{bookText, BetweenPlaces, no-route, route, Routed}
-use Rattle.line_writer.proofs.Lengths.{signal-long, route-long}
-use Rattle.book_writer.specs.Answers.{mostWritten}
-use Rattle.book_writer.proofs.TextLength.{signalBytes, routeBytes, one-signal, one-route, signals-append, text-long}
+use Rattle.reading.specs.Written.{bookText, mostWritten, BetweenPlaces, no-route, route, Routed}
+use Rattle.reading.proofs.LineLengths.{signal-long, route-long}
+use Rattle.reading.proofs.TextLengths.{signalBytes, routeBytes, one-signal, one-route, signals-append, text-long}
 
 -- a number below 2000 has at most four digits, one below 64 at most two
 four-digits : (n : ℕ) → n < 2000 → decimalWidth n ≤ 4
@@ -43,14 +42,10 @@ two-digits n h = go (ltb n 10)
     go false = rw (lt-ltb n 100 (omega arith)) (omega arith)
 
 -- a signal that is not refused for itself has a short line
-not-true : (b c : Bool) → not (b || c) ≡ true → b ≡ false
-not-true true c e = let z : false ≡ true = e in absurd (let y : _≡_ {A = ℕ} 0 1 = cc in omega arith)
-not-true false c e = refl
-
 fits-short : (before : List Placement) (p : Placement) → fitsAfter before p ≡ true → decimalWidth (p .number) + decimalWidth (p .start) ≤ 6
 unfolding unknownOrOver
 fits-short before p e =
-    let a = both-false (eqb (bitsOf (p .number)) 0) (leb startLimit (p .start)) (not-true (unknownOrOver p) (isIn (p .number) (numbers before) || (misplaced p || meetsEarlier before p)) e) in
+    let a = both-false (eqb (bitsOf (p .number)) 0) (leb startLimit (p .start)) (neither (unknownOrOver p) (isIn (p .number) (numbers before) || (misplaced p || meetsEarlier before p)) e .0) in
     let b = leb-false startLimit (p .start) (a .1) in
     omega (arith, four-digits (p .number) (known-small (p .number) (eqb-false (bitsOf (p .number)) 0 (a .0))), two-digits (p .start) b)
 

@@ -1,11 +1,11 @@
--- How long the lines of a book are. Assumes nothing.
+-- The lines of a book, piece by piece, and how long they are. Assumes nothing.
 use mathlib.Core.Path.{_≡_, refl, sym, ap, _∙_}
 use Prim.Native.Nat.{ℕ, _+_, _≤_, _<_, _/_, _%_}
 use native.Mathlib.Omega.{arith}
 use mathlib.Core.List.{List, [], _∷_, _++_, map, append-assoc, map-append}
 use lib.ListN.{length, length-append}
 use borrow.Author.Tests.{lt-ltb}
-use Rattle.numerals.specs.Written.{identifierText, decimalWidth, decimalLimit, decimalText}
+use Rattle.numerals.specs.Written.{identifierText, decimalWidth, decimalText}
 use Rattle.numerals.proofs.Identifiers.{length-identifier}
 use Rattle.numerals.proofs.Decimals.{decimal-long, width-few}
 use Rattle.parts.specs.Joined.{join, textOfLines}
@@ -16,8 +16,7 @@ use Rattle.line.specs.Written.{lineText, fieldsOf}
 use Rattle.record.specs.Limits.{identifierLimit}
 use Rattle.record.specs.Place.{placeLimit, key-place}
 use Rattle.books.specs.Book.{placement, routeBetween}
-use Rattle.reading.specs.Written.{signalLine, routeLine}
-use Rattle.line_writer.specs.Texts.{linesText, placeText, placeRoom, AllFewDigits, nothing, also}
+use Rattle.reading.specs.Written.{signalLine, routeLine, linesText, placeText}
 
 -- ---- the lines' texts, piece by piece
 pub message-text : (i : ℕ) → linesText (Message i ∷ []) ≡ 77 ∷ 9 ∷ (identifierText i ++ 10 ∷ [])
@@ -55,12 +54,12 @@ one-digit n h = simp (lt-ltb n 10 h)
 pub bus-digit : (p : ℕ) → p < placeLimit → decimalWidth (p / identifierLimit) ≡ 1
 bus-digit p h = one-digit (p / identifierLimit) (omega (arith, key-place p h .0))
 
-whole-long : (p : ℕ) → length (placeText p) ≡ decimalWidth (p / identifierLimit) + 9
-whole-long p =
+place-bytes : (p : ℕ) → length (placeText p) ≡ decimalWidth (p / identifierLimit) + 9
+place-bytes p =
     omega (arith, length-append (decimalText (p / identifierLimit)) (9 ∷ identifierText (p % identifierLimit)), decimal-long (p / identifierLimit), length-identifier (p % identifierLimit))
 
-pub place-long : (p : ℕ) → p < placeLimit → length (placeText p) ≡ placeRoom
-place-long p h = omega (arith, whole-long p, bus-digit p h)
+pub place-long : (p : ℕ) → p < placeLimit → length (placeText p) ≡ 10
+place-long p h = omega (arith, place-bytes p, bus-digit p h)
 
 -- whatever numbers the places are
 pub route-few : (p q : ℕ) → length (linesText (routeLine (routeBetween p q) ∷ [])) ≤ 32
@@ -70,8 +69,8 @@ route-few p q =
       ap length (route-text p q),
       length-append (placeText p ++ 9 ∷ placeText q) (10 ∷ []),
       length-append (placeText p) (9 ∷ placeText q),
-      whole-long p,
-      whole-long q,
+      place-bytes p,
+      place-bytes q,
       width-few (p / identifierLimit),
       width-few (q / identifierLimit),
     )
@@ -87,13 +86,9 @@ route-long p q h k =
       place-long q k,
     )
 
--- the numbers of an S line
-pub signal-numbers : (n s : ℕ) → AllFewDigits (signalLine (placement n s) ∷ []) → (n < decimalLimit) × (s < decimalLimit)
-signal-numbers n s (also w nothing) = w
-
 -- ---- lines after lines
-pub lines-append : (ls ms : List Line) → linesText (ls ++ ms) ≡ linesText ls ++ linesText ms
-lines-append ls ms = ap textOfLines (map-append lineText ls ms) ∙ text-append (map lineText ls) (map lineText ms)
+pub lines-text-append : (ls ms : List Line) → linesText (ls ++ ms) ≡ linesText ls ++ linesText ms
+lines-text-append ls ms = ap textOfLines (map-append lineText ls ms) ∙ text-append (map lineText ls) (map lineText ms)
 
 pub both-long : (ls ms : List Line) → length (linesText (ls ++ ms)) ≡ length (linesText ls) + length (linesText ms)
-both-long ls ms = ap length (lines-append ls ms) ∙ length-append (linesText ls) (linesText ms)
+both-long ls ms = ap length (lines-text-append ls ms) ∙ length-append (linesText ls) (linesText ms)
