@@ -6,7 +6,7 @@ ghost use mathlib.Core.Path.{_≡_};
 ghost use Prim.Native.Nat.{suc};
 ghost use lib.ListN.{length};
 ghost use Rattle.record.specs.Limits.{textLimit};
-ghost use Rattle.book_writer.specs.Answers.{mostWritten};
+ghost use Rattle.reading.specs.Written.{mostWritten};
 use answers::Answer;
 use book_streams::ENOUGH;
 use book_streams::send;
