@@ -9,7 +9,6 @@ ghost use Rattle.record.specs.Limits.{textLimit};
 ghost use Rattle.reading.specs.Written.{mostWritten};
 use answers::Answer;
 use book_streams::ENOUGH;
-use book_streams::send;
 use book_streams::send_answer;
 use book_writer::MOST_WRITTEN;
 use book_writer::Wrote;
@@ -17,6 +16,7 @@ use libc::STDERR_FILENO;
 use libc::STDIN_FILENO;
 use record::BOOK_WORDS;
 use record::wide;
+use streams::write_first;
 
 // The input, as far as there is room for it: how many bytes, or -1 where a read fails. It asks for a byte more than a text may have, no
 // more and no less, so that ENOUGH can be no other number.
@@ -39,25 +39,25 @@ fn read_input(text: &mut [u8]) -> isize
 }
 
 // The text of a book that was taken, by way of a room that has space for any: it asks for just as many bytes as no text has more of,
-// so that the constant can be no other number.
-fn send_text(book: &[u32; BOOK_WORDS], room: &mut [u8])
+// so that the constant can be no other number. Answers whether all of the text was written.
+fn send_text(book: &[u32; BOOK_WORDS], room: &mut [u8]) -> bool
     requires { ⌜ length (now room) ≡ mostWritten ⌝ }
 {
     if let Wrote::Length(count) = book_writer::write(book, &mut *room) {
-        send(&*room, wide(count));
+        return write_first(&*room, wide(count));
     }
+    false
 }
 
-// What is printed of a text.
-fn rewrite(text: &[u8]) {
+// What is printed of a text. Answers whether all of it was written.
+fn rewrite(text: &[u8]) -> bool {
     let mut words = [0u32; BOOK_WORDS];
     let answer = book::read(text, &mut words);
     if let Answer::Taken(_, _, _) = answer {
         let mut room = [0u8; MOST_WRITTEN];
-        send_text(&words, &mut room);
-        return;
+        return send_text(&words, &mut room);
     }
-    send_answer(answer);
+    send_answer(answer)
 }
 
 fn main() {
@@ -75,5 +75,7 @@ fn main() {
         return;
     }
     let size = io::count(got, &text);
-    rewrite(&text[..size]);
+    if !rewrite(&text[..size]) {
+        os::fail(b"book_write: not all of the output was written");
+    }
 }
