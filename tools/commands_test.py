@@ -1,6 +1,6 @@
 #!/usr/bin/env python3
 """Tries what ./run, host/build, host/install and tools/prove say: their help, the programs for users apart from those for tests, every
-processor, what is wrong with a word that they don't know; when tools/fresh wants a new proof; that no archive of other sources is left; and
+processor, what is wrong with a word that they don't know; what book_write says where a read or a write fails; when tools/fresh wants a new proof; that no archive of other sources is left; and
 on a copy of the tree, crate by crate, what is proved, and what is not.
 
     python3 tools/commands_test.py
@@ -158,9 +158,38 @@ def progress():
         yield status == 1 and f"rt: {SMALL} NOT PROVED" in said and f"rt: {BELOW}" not in said, said
 
 
+def lost_bytes():
+    """What book_write prints and says where a read fails at once or after a whole book, and where a write does."""
+    first = (ROOT / "examples/first.book").read_bytes()
+    unread, unwritten = "book_write: standard input could not be read: ", "book_write: not all of the output was written: "
+
+    def write_book(taken, given=subprocess.PIPE):
+        done = subprocess.run([ROOT / "run", "book_write"], stdin=taken, stdout=given, stderr=subprocess.PIPE)
+        return done.stdout, done.stderr.decode()
+
+    write_book(subprocess.DEVNULL)  # which builds it where it is not built yet
+    reading, writing = os.pipe()
+    os.set_blocking(reading, False)
+    os.write(writing, first)
+    printed, said = write_book(reading)  # the pipe has not ended when the book has, so that the next read fails
+    yield not printed and said.startswith(unread), f"a read after a whole book: {printed}, {said}"
+    os.close(writing)
+    os.close(reading)
+    folder = os.open(ROOT, os.O_RDONLY)
+    printed, said = write_book(folder)
+    yield not printed and said.startswith(unread), f"a folder: {printed}, {said}"
+    os.close(folder)
+    with open(ROOT / "examples/first.book") as book, open("/dev/full", "wb") as full:
+        yield write_book(book, full)[1].startswith(unwritten), "a full disk, nothing said"
+    with open(ROOT / "examples/loop.book") as book, open("/dev/full", "wb") as full:
+        yield write_book(book, full)[1].startswith(unwritten), "a full disk for the checker's line, nothing said"
+    with open(ROOT / "examples/first.book") as book:
+        yield write_book(book) == (first, ""), "something said of nothing"
+
+
 def main():
     failed = False
-    for part in (helps, freshness, leftovers, progress):
+    for part in (helps, lost_bytes, freshness, leftovers, progress):
         answers = list(part())
         faults = [said for right, said in answers if not right]
         print(f"commands, {part.__name__}: {len(answers)} cases, {len(faults)} wrong")

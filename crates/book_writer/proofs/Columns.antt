@@ -6,7 +6,7 @@ use mathlib.Core.List.{List, [], _∷_, map}
 use lib.ListN.{length, getD}
 use Rattle.line.specs.declared.Line.{Line}
 use Rattle.books.specs.Book.{Placement, Route, routeBetween}
-use Rattle.books.proofs.Sides.{placementAt, rest, rest-more, rest-none, routesFromOn, routes-more, routes-none}
+use Rattle.books.proofs.Sides.{placementAt, rest, rest-more, rest-none, routesFromOn, routes-more, no-routes-left}
 use Rattle.reading.specs.Written.{signalLine, routeLine}
 
 module _ (P : List Line → Type 0) where
@@ -24,4 +24,4 @@ module _ (P : List Line → Type 0) where
     route-next e h = subst (λ (rs : List Route). P (map routeLine rs)) (routes-more fs ts i h e) l
 
     pub routes-done : length fs ≤ i → P []
-    routes-done h = subst (λ (rs : List Route). P (map routeLine rs)) (routes-none fs ts i h) l
+    routes-done h = subst (λ (rs : List Route). P (map routeLine rs)) (no-routes-left fs ts i h) l

@@ -21,7 +21,7 @@ shownLines is es ns ss = messageLines (shown 0 is es (sideBySide ns ss))
 abbrev pub routeLines : List ℕ → List ℕ → List Line
 routeLines fs ts = map routeLine (routesSideBySide fs ts)
 
--- the columns are those of messages whose lines have texts, and room for them from the front on
+-- the columns are those of messages whose lines can be written, and there is room for them from the front on
 pub record MessagesFit (out is es ns ss : List ℕ) : Type 0 where
   pub messages : List Message
   pub ids-are : is ≡ identifiers messages

@@ -62,6 +62,6 @@ unfolding routesSideBySide
 routes-more fs ts i h e =
     ap (λ (l : List ℕ). routesSideBySide l (drop i ts)) (from fs i h) ∙ ap (λ (l : List ℕ). routesSideBySide (getD fs i 0 ∷ drop (i + 1) fs) l) (from ts i (omega arith))
 
-pub routes-none : (fs ts : List ℕ) (i : ℕ) → length fs ≤ i → routesFromOn fs ts i ≡ []
+pub no-routes-left : (fs ts : List ℕ) (i : ℕ) → length fs ≤ i → routesFromOn fs ts i ≡ []
 unfolding routesSideBySide
-routes-none fs ts i h = ap (λ (l : List ℕ). routesSideBySide l (drop i ts)) (drop-of-length-le fs h)
+no-routes-left fs ts i h = ap (λ (l : List ℕ). routesSideBySide l (drop i ts)) (drop-of-length-le fs h)

@@ -1,5 +1,5 @@
--- Each public function's contract allows one outcome and no other: the place after the line, and what stands in the lent slice at exit.
--- Assumes nothing.
+-- Each public function's contract allows one outcome and no other: a length; or the place after the line, and what stands in the lent
+-- slice at exit. Assumes nothing.
 use mathlib.Core.Path.{refl, sym, _∙_}
 use mathlib.Core.List.{List, [], _∷_}
 use Prim.Native.Nat.{ℕ}

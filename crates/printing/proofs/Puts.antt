@@ -1,4 +1,4 @@
--- Texts written one after another, and a text written byte by byte. Assumes nothing.
+-- Texts written one after another, a text written byte by byte, and the two kinds of numbers of a book. Assumes nothing.
 use mathlib.Core.Path.{_≡_, refl, sym, ap, _∙_, subst}
 use mathlib.Core.List.{List, [], _∷_, _++_}
 use Prim.Native.Nat.{ℕ, suc, _+_, _≤_, _<_}

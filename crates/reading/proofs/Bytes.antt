@@ -1,5 +1,5 @@
--- A taken text is of bytes, whatever numbers a list may hold: a well formed line is letters, digits and tabs. So every text that a taken
--- book comes from can be written in a file. Assumes nothing.
+-- A line that is not refused is the text of what it says. So a taken text is of bytes, whatever numbers a list may hold: letters, digits,
+-- tabs and newlines, and can be written in a file. Assumes nothing.
 use mathlib.Core.Path.{_≡_, refl, subst, sym}
 use mathlib.Core.Bool.{Bool, true, false, cond}
 use mathlib.Core.List.{List, [], _∷_, _++_, map}
@@ -93,11 +93,12 @@ line-bytes : (l : Line) → Writable l → OfBytes (lineText l)
 unfolding lineText
 line-bytes l w = join-bytes tab (omega arith) (fields-bytes l w)
 
--- a line that is not refused is well formed
+-- a line that is ill formed is refused
 pub ill-passes : {A : Type 0} (b : Book) → refusalOf b line.IllFormed ≡ 0 → A
 unfolding refusalOf
 ill-passes b e = let z : _≡_ {A = ℕ} 2 0 = e in absurd (omega arith)
 
+-- so one that is not refused is the text of what it says
 pub says-itself : (b : Book) (l : List ℕ) → refusalOf b (lineMeaning l) ≡ 0 → Canonical l (lineMeaning l)
 says-itself b l e = by (canonical l)
   where

@@ -62,8 +62,8 @@ pub place-long : (p : ℕ) → p < placeLimit → length (placeText p) ≡ 10
 place-long p h = omega (arith, place-bytes p, bus-digit p h)
 
 -- whatever numbers the places are
-pub route-few : (p q : ℕ) → length (linesText (routeLine (routeBetween p q) ∷ [])) ≤ 32
-route-few p q =
+pub route-short : (p q : ℕ) → length (linesText (routeLine (routeBetween p q) ∷ [])) ≤ 32
+route-short p q =
     omega (
       arith,
       ap length (route-text p q),

@@ -10,7 +10,7 @@ use Rattle.line.specs.declared.Line.{Line}
 use Rattle.line.specs.declared.Line.the-variants as line
 use Rattle.books.specs.Book.{Book, Message, Placement, Route, allPlacements}
 use Rattle.reading.specs.Written.{signalLine, routeLine, messageLines, bookLines, linesText, bookText}
-use Rattle.reading.proofs.LineLengths.{message-long, signal-long, route-few, both-long}
+use Rattle.reading.proofs.LineLengths.{message-long, signal-long, route-short, both-long}
 
 -- of the S lines of placements
 abbrev pub signalBytes : List Placement → ℕ
@@ -52,7 +52,7 @@ one-route r rs = both-long (routeLine r ∷ []) (map routeLine rs)
 pub routes-few : (rs : List Route) → routeBytes rs ≤ 32 * length rs
 unfolding textOfLines
 routes-few [] = omega arith
-routes-few (r ∷ rs) = omega (arith, one-route r rs, route-few (r .from) (r .to), routes-few rs)
+routes-few (r ∷ rs) = omega (arith, one-route r rs, route-short (r .from) (r .to), routes-few rs)
 
 pub text-long : (b : Book) → length (bookText b) ≡ 11 * length (b .messages) + signalBytes (allPlacements (b .messages)) + routeBytes (b .routes)
 unfolding bookText bookLines

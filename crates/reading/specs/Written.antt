@@ -37,7 +37,7 @@ abbrev pub linesText : List Line → List ℕ
 linesText ls = textOfLines (map lineText ls)
 
 unfoldable pub bookText : Book → List ℕ
-bookText b = textOfLines (map lineText (bookLines b))
+bookText b = linesText (bookLines b)
 
 -- no text of a book has more bytes: 64 M lines of 11, 256 S lines of 10 and 64 R lines of 24
 abbrev pub mostWritten : ℕ
