@@ -1,7 +1,7 @@
 #!/usr/bin/env python3
 """Tries what ./run, host/build, host/install and tools/prove say: their help, the programs for users apart from those for tests, every
-processor, what is wrong with a word that they don't know; what book_write says where a read or a write fails; when tools/fresh wants a new proof; that no archive of other sources is left; and
-on a copy of the tree, crate by crate, what is proved, and what is not.
+processor, what is wrong with a word that they don't know; what book_write says where a read or a write fails; when tools/fresh wants a
+new proof; that no archive of other sources is left; and on a copy of the tree, crate by crate, what is proved, and what is not.
 
     python3 tools/commands_test.py
 """
