@@ -5,7 +5,7 @@
                                          arm of each shape, and two lines for it in the proof
 
 Only these lines are written; the rest of each file is as it is in the tree. A mistake here can't make an answer wrong: the contracts of
-`shape_of` and `class_of` hold the code against the definitions.
+`shape_of` and `cut_of` hold the code against the definitions.
 """
 
 import re
@@ -20,11 +20,11 @@ FILES = {
     FOLDER + "specs/Signals.antt": ("signals =\n", "    ∷ []\n"),
     FOLDER + "src/shapes.rt": ("    match number {\n", "    }\n"),
     FOLDER + "src/by_shape.rt": ("    match shape {\n", "        _ =>"),
-    FOLDER + "proofs/by_shape/class_shaped/Proof.antt": ("    (tie.spec\n", "    (λ c. ap "),
+    FOLDER + "proofs/by_shape/cut_shaped/Proof.antt": ("    (tie.spec\n", "    (λ c. ap "),
 }
 PAIRS_IN_A_LINE = 10
 WIDEST_CALL = 60  # rt fmt writes longer arguments one in a line
-ARM_CALLS = ["no_mark", "one_mark", "two_marks", "class_in"]  # by how many marks there are
+ARM_CALLS = ["no_mark", "one_mark", "two_marks", "three_marks"]  # by how many marks there are
 
 
 # --- which shape each signal has --------------------------------------------------------------------------------------
@@ -71,7 +71,7 @@ def arm(shape):
     """The arm of a shape, laid out as rt fmt does."""
     numbers = [shape.bits, shape.resolution, shape.offset, shape.lowest, shape.highest]
     marks = [part for kind, first, last in shape.marks for part in (kind.upper(), first, last)]
-    words = [str(word) for word in [*numbers, *marks, "raw"]]
+    words = [str(word) for word in [*numbers, *marks, "from"]]
     call = f"        {shape.number} => {ARM_CALLS[len(shape.marks)]}("
     if len(", ".join(words)) <= WIDEST_CALL:
         return call + ", ".join(words) + "),\n"

@@ -19,7 +19,17 @@ shifted-out x b k =
     ∙ ap (λ (m : ℕ). x % 2 ^ m % 2 ^ b) (add-comm b k)
     ∙ mod-mod-pow x k b
 
-pub taken-out : (w s b n : ℕ) → b ≤ 32 → n ≡ w / 2 ^ s % 2 ^ 32 → n * 2 ^ (32 - b) % 2 ^ 32 / 2 ^ (32 - b) ≡ fieldOf w s b
+-- a field as what a shift and a cut leave
+pub field-is : (w s n : ℕ) → n ≡ w / 2 ^ s % 2 ^ 32 → n ≡ fieldOf w s 32
+unfolding fieldOf
+field-is w s n e = e
+
+-- the lowest bits of a field are the field of so many
+pub lowest-field : (w s b : ℕ) → b ≤ 32 → fieldOf w s 32 % 2 ^ b ≡ fieldOf w s b
+unfolding fieldOf
+lowest-field w s b h = let whole : 32 ≡ (32 - b) + b = omega (arith, h) in ap (λ (m : ℕ). w / 2 ^ s % 2 ^ m % 2 ^ b) whole ∙ mod-mod-pow (w / 2 ^ s) (32 - b) b
+
+pub taken-out : (w s b n : ℕ) → b ≤ 32 → n ≡ fieldOf w s 32 → n * 2 ^ (32 - b) % 2 ^ 32 / 2 ^ (32 - b) ≡ fieldOf w s b
 unfolding fieldOf
 taken-out w s b n h e =
     let whole : 32 ≡ b + (32 - b) = omega (arith, h) in

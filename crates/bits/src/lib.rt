@@ -7,7 +7,7 @@
 ghost use mathlib.Core.Path.{_≡_};
 ghost use Prim.Native.Nat.{_+_, _%_, _^_, _<_};
 ghost use lib.ListN.{length};
-ghost use Rattle.bits.specs.Frame.{frameBytes};
+ghost use Rattle.bits.specs.Frame.{frameBytes, frameBits};
 ghost use Rattle.bits.specs.Word.{Fits, wordOf, bytesOf, fieldOf, placed};
 ghost use Rattle.bits.specs.Checksum.{checksumOf, bytesAdded, identifierAdded, folded};
 
@@ -50,13 +50,21 @@ fn low_half(word: u64) -> u32
     (word % 4294967296) as u32
 }
 
+// The 32 bits from `start` on, of which those past the frame are 0.
+pub fn onward(word: u64, start: u32) -> u32
+    requires { ⌜ start < frameBits ⌝ }
+    ensures { λ r. ⌜ r ≡ fieldOf word start 32 ⌝ }
+{
+    low_half(word >> start)
+}
+
 // The count of `bits` bits at `start`: of the 32 bits from there on, those past the count are shifted out.
 pub fn take(word: u64, start: u32, bits: u32) -> u32
     requires { ⌜ Fits start bits ⌝ }
     ensures { λ r. ⌜ r ≡ fieldOf word start bits ⌝ }
 {
     let past = 32 - bits;
-    (low_half(word >> start) << past) >> past
+    (onward(word, start) << past) >> past
 }
 
 fn wide_count(count: u32) -> u64

@@ -4,3 +4,4 @@ pub mod Signals
 pub mod Shapes
 pub mod Class
 pub mod Belongs
+pub mod Cut

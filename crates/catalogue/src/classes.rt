@@ -1,6 +1,7 @@
-// The class of one raw count in a row: a mark wins over the range; then it is a value if it lies within the raw limits; else it is
-// outside. For `by_shape`, which has the constants of each shape; `is_too_wide` also for `messages`.
+// A signal's count in a row, cut from the bits that begin with it, and its class: a mark wins over the range; then it is a value if it
+// lies within the raw limits; else it is outside. For `by_shape`, which has the constants of each shape.
 use crate::Class;
+use crate::Cut;
 use crate::Raw;
 use crate::Thousandths;
 use rows::ABSENT;
@@ -10,12 +11,12 @@ use rows::RESERVED;
 use rows::UNMARKED;
 ghost use mathlib.Core.Path.{_≡_};
 ghost use mathlib.Core.Option.{some};
-ghost use Prim.Native.Nat.{_*_, _^_, _≤_};
-ghost use lib.Dec.{leb};
+ghost use Prim.Native.Nat.{_*_, _%_, _^_, _≤_};
 ghost use lib.IntN.{pos, _+ℤ_};
 ghost use Rattle.rows.specs.Rows.{row, mark, unmarked};
 ghost use Rattle.rows.specs.Rule.{mostBits, IsKind, Kinded};
-ghost use Rattle.catalogue.specs.Class.{between, markClass, classFor};
+ghost use Rattle.catalogue.specs.Class.{between, markClass, classIn};
+ghost use Rattle.catalogue.specs.Cut.{cutFor};
 
 fn is_between(first: u32, last: u32, count: u32) -> bool
     ensures { λ r. ⌜ r ≡ between first last count ⌝ }
@@ -23,12 +24,12 @@ fn is_between(first: u32, last: u32, count: u32) -> bool
     first <= count && count <= last
 }
 
-// Whether a count has more than `bits` bits.
-pub fn is_too_wide(bits: u32, count: u32) -> bool
+// The lowest `bits` bits of a number.
+fn lowest_bits(from: u32, bits: u32) -> u32
     requires { ⌜ bits ≤ mostBits ⌝ }
-    ensures { λ r. ⌜ r ≡ leb (2 ^ bits) count ⌝ }
+    ensures { λ r. ⌜ r ≡ from % 2 ^ bits ⌝ }
 {
-    1 << bits <= count as u64
+    (from as u64 % (1 << bits)) as u32
 }
 
 // The class that a mark gives, by its kind.
@@ -55,9 +56,8 @@ fn reading(raw: Raw, resolution: u16, offset: i32) -> Thousandths
     Thousandths(((raw.0 as u64) * (resolution as u64)) as i64 + offset as i64)
 }
 
-// The class of a count in a row with these numbers and three marks; below, with two, one and none.
-pub fn class_in(
-    bits: u32,
+// The class of a count in a row with these numbers and marks.
+fn class_in(
     resolution: u16,
     offset: i32,
     lowest: u32,
@@ -73,13 +73,10 @@ pub fn class_in(
     last3: u32,
     raw: Raw,
 ) -> Class
-    requires { ⌜ (bits ≤ mostBits) × Kinded (mark kind1 first1 last1) × Kinded (mark kind2 first2 last2) × Kinded (mark kind3 first3 last3) ⌝ }
-    ensures { λ r. ⌜ r ≡ classFor (some (row 0 bits resolution offset lowest highest (mark kind1 first1 last1) (mark kind2 first2 last2) (mark kind3 first3 last3))) raw ⌝ }
+    requires { ⌜ Kinded (mark kind1 first1 last1) × Kinded (mark kind2 first2 last2) × Kinded (mark kind3 first3 last3) ⌝ }
+    ensures { λ r. ⌜ r ≡ classIn (row 0 0 resolution offset lowest highest (mark kind1 first1 last1) (mark kind2 first2 last2) (mark kind3 first3 last3)) raw ⌝ }
 {
     let count = raw.0;
-    if is_too_wide(bits, count) {
-        return Class::TooWide;
-    }
     if is_between(first1, last1, count) {
         return marked(kind1, raw);
     }
@@ -95,6 +92,48 @@ pub fn class_in(
     Class::Outside(raw)
 }
 
+// The count of so many bits that begins with these, and its class, in a row with these numbers and three marks; below, with two, one
+// and none.
+pub fn three_marks(
+    bits: u32,
+    resolution: u16,
+    offset: i32,
+    lowest: u32,
+    highest: u32,
+    kind1: u8,
+    first1: u32,
+    last1: u32,
+    kind2: u8,
+    first2: u32,
+    last2: u32,
+    kind3: u8,
+    first3: u32,
+    last3: u32,
+    from: u32,
+) -> Cut
+    requires { ⌜ (bits ≤ mostBits) × Kinded (mark kind1 first1 last1) × Kinded (mark kind2 first2 last2) × Kinded (mark kind3 first3 last3) ⌝ }
+    ensures { λ r. ⌜ r ≡ cutFor (some (row 0 bits resolution offset lowest highest (mark kind1 first1 last1) (mark kind2 first2 last2) (mark kind3 first3 last3))) from ⌝ }
+{
+    let raw = Raw(lowest_bits(from, bits));
+    let class = class_in(
+        resolution,
+        offset,
+        lowest,
+        highest,
+        kind1,
+        first1,
+        last1,
+        kind2,
+        first2,
+        last2,
+        kind3,
+        first3,
+        last3,
+        raw,
+    );
+    Cut { bits, raw, class }
+}
+
 pub fn two_marks(
     bits: u32,
     resolution: u16,
@@ -107,12 +146,12 @@ pub fn two_marks(
     kind2: u8,
     first2: u32,
     last2: u32,
-    raw: Raw,
-) -> Class
+    from: u32,
+) -> Cut
     requires { ⌜ (bits ≤ mostBits) × Kinded (mark kind1 first1 last1) × Kinded (mark kind2 first2 last2) ⌝ }
-    ensures { λ r. ⌜ r ≡ classFor (some (row 0 bits resolution offset lowest highest (mark kind1 first1 last1) (mark kind2 first2 last2) unmarked)) raw ⌝ }
+    ensures { λ r. ⌜ r ≡ cutFor (some (row 0 bits resolution offset lowest highest (mark kind1 first1 last1) (mark kind2 first2 last2) unmarked)) from ⌝ }
 {
-    class_in(
+    three_marks(
         bits,
         resolution,
         offset,
@@ -127,7 +166,7 @@ pub fn two_marks(
         UNMARKED,
         1,
         0,
-        raw,
+        from,
     )
 }
 
@@ -140,10 +179,10 @@ pub fn one_mark(
     kind: u8,
     first: u32,
     last: u32,
-    raw: Raw,
-) -> Class
+    from: u32,
+) -> Cut
     requires { ⌜ (bits ≤ mostBits) × Kinded (mark kind first last) ⌝ }
-    ensures { λ r. ⌜ r ≡ classFor (some (row 0 bits resolution offset lowest highest (mark kind first last) unmarked unmarked)) raw ⌝ }
+    ensures { λ r. ⌜ r ≡ cutFor (some (row 0 bits resolution offset lowest highest (mark kind first last) unmarked unmarked)) from ⌝ }
 {
     two_marks(
         bits,
@@ -157,20 +196,13 @@ pub fn one_mark(
         UNMARKED,
         1,
         0,
-        raw,
+        from,
     )
 }
 
-pub fn no_mark(
-    bits: u32,
-    resolution: u16,
-    offset: i32,
-    lowest: u32,
-    highest: u32,
-    raw: Raw,
-) -> Class
+pub fn no_mark(bits: u32, resolution: u16, offset: i32, lowest: u32, highest: u32, from: u32) -> Cut
     requires { ⌜ bits ≤ mostBits ⌝ }
-    ensures { λ r. ⌜ r ≡ classFor (some (row 0 bits resolution offset lowest highest unmarked unmarked unmarked)) raw ⌝ }
+    ensures { λ r. ⌜ r ≡ cutFor (some (row 0 bits resolution offset lowest highest unmarked unmarked unmarked)) from ⌝ }
 {
     one_mark(
         bits,
@@ -181,6 +213,6 @@ pub fn no_mark(
         UNMARKED,
         1,
         0,
-        raw,
+        from,
     )
 }

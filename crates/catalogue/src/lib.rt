@@ -1,8 +1,8 @@
 // The signal catalogue of the 199 signals of QC/T 1201.5-2023: by a signal's number, how many bits it has and what a raw
 // count of it stands for. A number that no signal has is answered too. The bits come from the constant table's column, by the signal's
 // place in it: who asks for those of many signals, as every call on a book or a frame does, binds the column once and lends it. The
-// class goes by the signal's shape. Of the public functions only `is_too_wide`, which is for `messages`, and `place_of`, `bits_at` and
-// `known_bits`, which are lent columns, have a `requires`.
+// class goes by the signal's shape, and so does a signal's count where the bits that begin with it are at hand, as in a frame. Of the
+// public functions only `place_of` and `bits_at`, which are lent columns, have a `requires`.
 mod by_shape;
 mod classes;
 mod places;
@@ -10,7 +10,7 @@ mod shapes;
 mod widths;
 
 pub use by_shape::class_of;
-pub use classes::is_too_wide;
+pub use by_shape::cut_of;
 pub use places::HUNDREDS;
 pub use places::PLACES;
 pub use places::Place;
@@ -19,10 +19,16 @@ pub use places::place_of;
 pub use places::surpluses;
 pub use widths::bits_at;
 pub use widths::bits_of;
-pub use widths::known_bits;
 
 // A raw count, as a frame carries it.
 pub struct Raw(pub u32);
+
+// What the bits that begin with a signal have of it: how many bits it has, its count, and the class of that.
+pub struct Cut {
+    pub bits: u32,
+    pub raw: Raw,
+    pub class: Class,
+}
 
 // A reading in thousandths of the printed unit.
 pub struct Thousandths(pub i64);

@@ -3,7 +3,7 @@
 // are computed in 32 bits, which is what most gateways have.
 ghost use mathlib.Core.Path.{_≡_};
 ghost use Prim.Native.Nat.{_<_};
-ghost use Rattle.catalogue.specs.Places.{placeOf, noPlace, numberLimit, hundred, surpluses, bounds, Placed};
+ghost use Rattle.catalogue.specs.Places.{numberLimit, hundred, surpluses, bounds, Placed};
 
 // How many hundreds there are with signals in them, or below one that has.
 pub const HUNDREDS: usize = 20;
@@ -113,12 +113,4 @@ pub fn place_of(number: u32, above: &[u32], ends: &[u8]) -> Place
         return Place::Nowhere;
     }
     Place::At(wide(place))
-}
-
-// The place of a signal that the catalogue has.
-pub fn known_place(number: u32, above: &[u32]) -> usize
-    requires { ⌜ (now above ≡ surpluses) × (placeOf number < noPlace) ⌝ }
-    ensures { λ r. ⌜ r ≡ placeOf number ⌝ }
-{
-    wide(number - above[hundred_of(number)])
 }

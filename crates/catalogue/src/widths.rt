@@ -1,13 +1,11 @@
 // The bits of a signal, from the constant table's own column, by the signal's place. Who asks for those of many holds the columns.
 use crate::places::Place;
 use crate::places::bounds;
-use crate::places::known_place;
 use crate::places::place_of;
 use crate::places::surpluses;
 ghost use mathlib.Core.Path.{_≡_};
-ghost use Prim.Native.Nat.{_<_};
 ghost use Rattle.catalogue.specs.Find.{bitsOf};
-ghost use Rattle.catalogue.specs.Places.{TableColumns, WidthColumns};
+ghost use Rattle.catalogue.specs.Places.{TableColumns};
 
 fn wide(bits: u8) -> u32
     ensures { λ r. ⌜ r ≡ bits ⌝ }
@@ -35,12 +33,4 @@ pub fn bits_of(number: u32) -> u32
     let ends = bounds();
     let widths = rows::widths();
     bits_at(number, &widths, &above, &ends)
-}
-
-// The bits of a signal that the catalogue has, as those of a taken book are: its place is not tested again.
-pub fn known_bits(number: u32, widths: &[u8], above: &[u32]) -> u32
-    requires { ⌜ WidthColumns (now above) (now widths) × (0 < bitsOf number) ⌝ }
-    ensures { λ r. ⌜ r ≡ bitsOf number ⌝ }
-{
-    wide(widths[known_place(number, above)])
 }

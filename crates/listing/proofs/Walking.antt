@@ -5,11 +5,10 @@ use Prim.Native.Nat.{ℕ, _+_, _*_, _≤_, _<_}
 use native.Mathlib.Omega.{arith}
 use lib.ListN.{length, getD, length-append}
 use lib.Seq.{sets}
-use Rattle.bits.specs.Word.{Fits, fieldOf}
+use Rattle.bits.specs.Word.{Fits}
 use Rattle.books.specs.Words.{sideBySide}
 use Rattle.catalogue.specs.declared.Class.{Class}
 use Rattle.catalogue.specs.Find.{bitsOf}
-use Rattle.catalogue.specs.Class.{classOf}
 use Rattle.messages.specs.Signals.{AllFit, classFrom}
 use Rattle.messages.proofs.Steps.{placementAt, rest, rest-more, rest-none, fits-at, fits-on}
 use Rattle.printing.specs.Put.{PutWithin}
@@ -75,8 +74,3 @@ room-left w r h = omega (arith, w .room, w .size, r .inside)
 pub fits-next : {old : List ℕ} {at : ℕ} {figures : Figures} {identifier word : ℕ} {ns ss out : List ℕ} {next i : ℕ} → Walked old at figures identifier word ns ss out next i
     → Roomy old at ns ss → i < length ns → Fits (getD ss i 0) (bitsOf (getD ns i 0))
 fits-next {ns = ns} {ss = ss} {i = i} w r h = fits-at ns ss i h (r .same) (w .fit)
-
--- the class of the signal at i, from the calls that give it
-pub class-is : (word n s : ℕ) {b raw : ℕ} {class : Class} → b ≡ bitsOf n → raw ≡ fieldOf word s b → class ≡ classOf n (record { 0 = raw })
-    → class ≡ classFrom word (record { number = n; start = s })
-class-is word n s b r c = c ∙ ap (λ (x : ℕ). classOf n (record { 0 = x })) (r ∙ ap (fieldOf word s) b)

@@ -34,13 +34,11 @@ pub enum Fitted {
     NoRoom,
 }
 
-// The whole lines from the front that fit, by a taken book. The catalogue's columns are bound once for all lines.
+// The whole lines from the front that fit, by a taken book.
 fn list_lines(book: &[u32; BOOK_WORDS], text: &[u8], out: &mut [u8], figures: Figures) -> Listed
     requires { ⌜ messagesTaken (now book) ≡ true ⌝ }
     ensures { λ r. ⌜ _≡_ {A = Listed × List ℕ} (r, now (out .exit)) (listingBy figures (messagesOf (now (book .entry))) (now (text .entry)) (now (out .entry))) ⌝ }
 {
-    let above = catalogue::surpluses();
-    let widths = rows::widths();
     let mut used: usize = 0;
     let mut written: usize = 0;
     while used < text.len() {
@@ -49,15 +47,7 @@ fn list_lines(book: &[u32; BOOK_WORDS], text: &[u8], out: &mut [u8], figures: Fi
         if end >= rest.len() {
             return Listed::Lines(used, written);
         }
-        match list_line(
-            book,
-            part_before(rest, end),
-            &widths,
-            &above,
-            &mut *out,
-            written,
-            figures,
-        ) {
+        match list_line(book, part_before(rest, end), &mut *out, written, figures) {
             Fitted::Next(next) => {
                 written = next;
                 used += end + 1;

@@ -1,10 +1,9 @@
-// One frame line, printed where its printout fits what is left of the room. The catalogue's columns are lent.
+// One frame line, printed where its printout fits what is left of the room.
 ghost use mathlib.Core.Path.{_≡_};
 ghost use mathlib.Core.Bool.{true};
 ghost use Prim.Native.Nat.{_≤_};
 ghost use lib.ListN.{length};
 ghost use Rattle.books.specs.Words.{messagesOf, messagesTaken};
-ghost use Rattle.catalogue.specs.Places.{WidthColumns};
 ghost use Rattle.listing.specs.Printout.{printout};
 ghost use Rattle.listing.specs.Working.{wordListing, PutIfFits};
 use crate::Fitted;
@@ -28,30 +27,18 @@ fn list_frame(
     book: &[u32; BOOK_WORDS],
     identifier: u32,
     word: u64,
-    widths: &[u8],
-    above: &[u32],
     out: &mut [u8],
     at: usize,
     figures: Figures,
 ) -> Fitted
-    requires { ⌜ WidthColumns (now above) (now widths) × (messagesTaken (now book) ≡ true) × (at ≤ length (now out)) ⌝ }
+    requires { ⌜ (messagesTaken (now book) ≡ true) × (at ≤ length (now out)) ⌝ }
     ensures { λ r. ⌜ PutIfFits (now (out .entry)) at (wordListing figures (now (book .entry)) identifier word) (now (out .exit)) r ⌝ }
 {
     match find_message(book, identifier) {
         MessageFound::Signals(from, to) => {
             let numbers = part(record::numbers(book), from, to);
             let starts = part(record::starts(book), from, to);
-            list_message(
-                &mut *out,
-                at,
-                identifier,
-                word,
-                numbers,
-                starts,
-                widths,
-                above,
-                figures,
-            )
+            list_message(&mut *out, at, identifier, word, numbers, starts, figures)
         }
         MessageFound::Nothing => list_refused(&mut *out, at, identifier, UNKNOWN_IDENTIFIER),
     }
@@ -61,13 +48,11 @@ fn list_frame(
 pub fn list_line(
     book: &[u32; BOOK_WORDS],
     line: &[u8],
-    widths: &[u8],
-    above: &[u32],
     out: &mut [u8],
     at: usize,
     figures: Figures,
 ) -> Fitted
-    requires { ⌜ WidthColumns (now above) (now widths) × (messagesTaken (now book) ≡ true) × (at ≤ length (now out)) ⌝ }
+    requires { ⌜ (messagesTaken (now book) ≡ true) × (at ≤ length (now out)) ⌝ }
     ensures { λ r. ⌜ PutIfFits (now (out .entry)) at (printout figures (messagesOf (now (book .entry))) (now (line .entry))) (now (out .exit)) r ⌝ }
 {
     match read_frame_line(line) {
@@ -75,8 +60,6 @@ pub fn list_line(
             book,
             identifier,
             word,
-            widths,
-            above,
             &mut *out,
             at,
             figures,

@@ -1,12 +1,9 @@
-// A frame by its message, whose signals' numbers and starts stand in two slices, side by side. The signals' bits come from the
-// catalogue's columns, which are lent.
+// A frame by its message, whose signals' numbers and starts stand in two slices, side by side.
 ghost use Rattle.books.specs.Words.{sideBySide};
-ghost use Rattle.catalogue.specs.Places.{WidthColumns};
 ghost use Rattle.listing.specs.Working.{wordLines, messageText, Roomy, Listable, SignalsPut, PutIfFits};
 use crate::Fitted;
 use crate::room::fit;
 use crate::room::list_refused;
-use catalogue::Raw;
 use messages::checked;
 use signal_lines::Figures;
 use signal_lines::LISTED_LINE_ROOM;
@@ -25,20 +22,17 @@ fn put_signals(
     word: u64,
     numbers: &[u32],
     starts: &[u32],
-    widths: &[u8],
-    above: &[u32],
     figures: Figures,
 ) -> usize
-    requires { ⌜ WidthColumns (now above) (now widths) × Roomy (now out) at (now numbers) (now starts) ⌝ }
+    requires { ⌜ Roomy (now out) at (now numbers) (now starts) ⌝ }
     ensures { λ r. ⌜ SignalsPut (now (out .entry)) at figures identifier word (now (numbers .entry)) (now (starts .entry)) (now (out .exit)) r ⌝ }
 {
     let mut next: usize = at;
     let mut i: usize = 0;
     while i < numbers.len() {
         let number = numbers[i];
-        let bits = catalogue::known_bits(number, widths, above);
-        let raw = bits::take(word, starts[i], bits);
-        let class = catalogue::class_of(number, Raw(raw));
+        let cut = catalogue::cut_of(number, bits::onward(word, starts[i]));
+        let class = cut.class;
         next = put_reading(&mut *out, next, identifier, number, class, figures);
         i += 1;
     }
@@ -53,38 +47,16 @@ fn list_signals(
     word: u64,
     numbers: &[u32],
     starts: &[u32],
-    widths: &[u8],
-    above: &[u32],
     figures: Figures,
 ) -> Fitted
-    requires { ⌜ WidthColumns (now above) (now widths) × Listable (now out) at (now numbers) (now starts) ⌝ }
+    requires { ⌜ Listable (now out) at (now numbers) (now starts) ⌝ }
     ensures { λ r. ⌜ PutIfFits (now (out .entry)) at (wordLines figures identifier word (sideBySide (now (numbers .entry)) (now (starts .entry)))) (now (out .exit)) r ⌝ }
 {
     if LISTED_LINE_ROOM * numbers.len() <= out.len() - at {
-        return Fitted::Next(put_signals(
-            &mut *out,
-            at,
-            identifier,
-            word,
-            numbers,
-            starts,
-            widths,
-            above,
-            figures,
-        ));
+        return Fitted::Next(put_signals(&mut *out, at, identifier, word, numbers, starts, figures));
     }
     let mut aside = [0u8; LONGEST];
-    let length = put_signals(
-        &mut aside,
-        0,
-        identifier,
-        word,
-        numbers,
-        starts,
-        widths,
-        above,
-        figures,
-    );
+    let length = put_signals(&mut aside, 0, identifier, word, numbers, starts, figures);
     fit(&mut *out, at, &aside[..length])
 }
 
@@ -96,25 +68,13 @@ pub fn list_message(
     word: u64,
     numbers: &[u32],
     starts: &[u32],
-    widths: &[u8],
-    above: &[u32],
     figures: Figures,
 ) -> Fitted
-    requires { ⌜ WidthColumns (now above) (now widths) × Listable (now out) at (now numbers) (now starts) ⌝ }
+    requires { ⌜ Listable (now out) at (now numbers) (now starts) ⌝ }
     ensures { λ r. ⌜ PutIfFits (now (out .entry)) at (messageText figures identifier word (now (numbers .entry)) (now (starts .entry))) (now (out .exit)) r ⌝ }
 {
     if checked(identifier, word, numbers) {
-        return list_signals(
-            &mut *out,
-            at,
-            identifier,
-            word,
-            numbers,
-            starts,
-            widths,
-            above,
-            figures,
-        );
+        return list_signals(&mut *out, at, identifier, word, numbers, starts, figures);
     }
     list_refused(&mut *out, at, identifier, WRONG_CHECKSUM)
 }

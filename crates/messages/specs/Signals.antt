@@ -19,6 +19,7 @@ use Rattle.catalogue.specs.Find.{bitsOf}
 use Rattle.catalogue.specs.Class.{classOf}
 use Rattle.catalogue.specs.declared.Raw.{Raw}
 use Rattle.catalogue.specs.declared.Class.{Class}
+use Rattle.catalogue.specs.declared.Cut.{Cut}
 use Rattle.framing.specs.Lending.{Lent}
 use Rattle.framing.specs.Messages.{checksumNumber, checksumStart, checksumBits}
 use Rattle.framing.specs.Reading.{classCode, thousandthsOf}
@@ -36,6 +37,10 @@ pub record InStep (ns ss : List ℕ) (raws classes thousandths : ℕ) : Type 0 w
   pub raw-room : length ns ≤ raws
   pub class-room : length ns ≤ classes
   pub thousandth-room : length ns ≤ thousandths
+
+-- what was cut for a signal, in numbers: its thousandths, its bits, its count and the code of its class
+abbrev pub numbersOfCut : Cut → ℤ × (ℕ × (ℕ × ℕ))
+numbersOfCut cut = (thousandthsOf (cut .class), (cut .bits, (cut .raw .0, classCode (cut .class))))
 
 -- the thousandths of a raw count of the signal with a number, and the code of its class
 abbrev pub numbersOfClass : ℕ → Raw → ℤ × ℕ

@@ -3,7 +3,8 @@ ghost use mathlib.Core.Path.{_≡_};
 ghost use Prim.Native.Nat.{ℕ};
 ghost use lib.IntN.{ℤ};
 ghost use Rattle.framing.specs.Reading.{classCode, thousandthsOf};
-ghost use Rattle.messages.specs.Signals.{numbersOfClass};
+ghost use Rattle.catalogue.specs.Cut.{cutOf};
+ghost use Rattle.messages.specs.Signals.{numbersOfCut, numbersOfClass};
 use catalogue::Class;
 use catalogue::Raw;
 
@@ -39,12 +40,31 @@ fn thousandths_of(class: Class) -> i64
     }
 }
 
-// The class of one raw count of the signal with a number: its code goes where it is lent, and the answer is its thousandths. Whoever
-// reads, packs or classes a count asks here, so that the class itself, which is no number, never goes through memory.
+// What the bits that begin with a signal have of it, in numbers: how many bits it has, its count and the code of its class go where they
+// are lent, and the answer is the thousandths. Whoever reads, packs or classes a count asks here, so that the class itself, which is no
+// number, never goes through memory, and the jump to a signal's shape is there once.
+pub fn cut_numbers(number: u32, from: u32, bits: &mut u32, count: &mut u32, code: &mut u8) -> i64
+    ensures { λ r. ⌜ _≡_ {A = ℤ × (ℕ × (ℕ × ℕ))} (r, (now (bits .exit), (now (count .exit), now (code .exit)))) (numbersOfCut (cutOf number from)) ⌝ }
+{
+    let cut = catalogue::cut_of(number, from);
+    let raw = cut.raw;
+    let class = cut.class;
+    *bits = cut.bits;
+    *count = raw.0;
+    *code = code_of(class);
+    thousandths_of(class)
+}
+
+// The class of one raw count of the signal with a number: its code goes where it is lent, and the answer is its thousandths.
 pub fn class_numbers(number: u32, raw: Raw, code: &mut u8) -> i64
     ensures { λ r. ⌜ _≡_ {A = ℤ × ℕ} (r, now (code .exit)) (numbersOfClass number raw) ⌝ }
 {
-    let class = catalogue::class_of(number, raw);
-    *code = code_of(class);
-    thousandths_of(class)
+    let mut bits: u32 = 0;
+    let mut count: u32 = 0;
+    let reading = cut_numbers(number, raw.0, &mut bits, &mut count, &mut *code);
+    if count != raw.0 {
+        *code = code_of(Class::TooWide);
+        return 0;
+    }
+    reading
 }

@@ -5,14 +5,12 @@ ghost use Rattle.bits.specs.Frame.{frameBytes};
 ghost use Rattle.bits.specs.Word.{Fits};
 ghost use Rattle.books.specs.Words.{sideBySide};
 ghost use Rattle.catalogue.specs.Find.{bitsOf};
-ghost use Rattle.catalogue.specs.Places.{WidthColumns};
 ghost use Rattle.framing.specs.Lending.{PacksInto};
 ghost use Rattle.framing.specs.Putting.{allOnes};
 ghost use Rattle.messages.specs.Signals.{messageFrom};
 ghost use Rattle.messages.specs.Put.{Packable, putOne, putAll, packInto};
 use crate::checksum::summed;
-use crate::classes::class_numbers;
-use catalogue::Raw;
+use crate::classes::cut_numbers;
 use framing::Packing;
 use record::CHECKSUM;
 
@@ -26,20 +24,21 @@ pub enum PutWord {
     ReservedOrOutside,
 }
 
-// The word with one more value at its place; 503 is skipped. The bits come from the catalogue's columns, which are lent.
-fn put_one(word: u64, number: u32, start: u32, value: u32, widths: &[u8], above: &[u32]) -> PutWord
-    requires { ⌜ WidthColumns (now above) (now widths) × Fits start (bitsOf number) ⌝ }
+// The word with one more value at its place; 503 is skipped. A value that is more than the count cut from it is too wide.
+fn put_one(word: u64, number: u32, start: u32, value: u32) -> PutWord
+    requires { ⌜ Fits start (bitsOf number) ⌝ }
     ensures { λ r. ⌜ r ≡ putOne word (record { number = number; start = start }) value ⌝ }
 {
     if number == CHECKSUM {
         return PutWord::Word(word);
     }
-    let bits = catalogue::known_bits(number, widths, above);
-    if catalogue::is_too_wide(bits, value) {
+    let mut bits: u32 = 0;
+    let mut count: u32 = 0;
+    let mut code: u8 = 0;
+    cut_numbers(number, value, &mut bits, &mut count, &mut code);
+    if count != value {
         return PutWord::TooWide;
     }
-    let mut code: u8 = 0;
-    class_numbers(number, Raw(value), &mut code);
     if code >= RESERVED {
         return PutWord::ReservedOrOutside;
     }
@@ -47,15 +46,15 @@ fn put_one(word: u64, number: u32, start: u32, value: u32, widths: &[u8], above:
 }
 
 // A word of ones with each value but that of 503 at its place.
-fn put_all(numbers: &[u32], starts: &[u32], values: &[u32], widths: &[u8], above: &[u32]) -> PutWord
-    requires { ⌜ WidthColumns (now above) (now widths) × Packable (now numbers) (now starts) (now values) ⌝ }
+fn put_all(numbers: &[u32], starts: &[u32], values: &[u32]) -> PutWord
+    requires { ⌜ Packable (now numbers) (now starts) (now values) ⌝ }
     ensures { λ r. ⌜ r ≡ putAll (PutWord.Word allOnes) (sideBySide (now (numbers .entry)) (now (starts .entry))) (now (values .entry)) ⌝ }
 {
     let mut word: u64 = 0xffff_ffff_ffff_ffff;
     let mut left = columns::length_of(numbers);
     let mut i: usize = 0;
     while left > 0 {
-        match put_one(word, numbers[i], starts[i], values[i], widths, above) {
+        match put_one(word, numbers[i], starts[i], values[i]) {
             PutWord::Word(next) => {
                 word = next;
                 i += 1;
@@ -79,9 +78,7 @@ pub fn pack_message(
     requires { ⌜ Packable (now numbers) (now starts) (now values) × (length (now frame) ≡ frameBytes) ⌝ }
     ensures { λ r. ⌜ PacksInto (packInto (messageFrom identifier (now (numbers .entry)) (now (starts .entry))) (now (values .entry))) r frame ⌝ }
 {
-    let above = catalogue::surpluses();
-    let widths = rows::widths();
-    match put_all(numbers, starts, values, &widths, &above) {
+    match put_all(numbers, starts, values) {
         PutWord::Word(word) => {
             bits::store(summed(identifier, word, numbers), frame);
             Packing::Packed

@@ -5,38 +5,34 @@ ghost use Prim.Native.Nat.{min};
 ghost use lib.ListN.{length};
 ghost use Rattle.bits.specs.Word.{bytesOf};
 ghost use Rattle.books.specs.Words.{sideBySide};
-ghost use Rattle.catalogue.specs.Places.{WidthColumns};
 ghost use Rattle.framing.specs.Lending.{ReadsInto};
 ghost use Rattle.framing.specs.Reading.{readByMessage};
 ghost use Rattle.messages.specs.Signals.{InStep, SignalsRead, messageFrom, Readable};
 use crate::checksum::checked;
-use crate::classes::class_numbers;
-use catalogue::Raw;
+use crate::classes::cut_numbers;
 use framing::Reading;
 
-// The raw count, class code and thousandths of each signal, from the front of three slices that have room for them. The bits come from
-// the catalogue's columns, which are lent.
+// The raw count, class code and thousandths of each signal, from the front of three slices that have room for them.
 pub fn read_signals(
     word: u64,
     numbers: &[u32],
     starts: &[u32],
-    widths: &[u8],
-    above: &[u32],
     raws: &mut [u32],
     classes: &mut [u8],
     thousandths: &mut [i64],
 )
-    requires { ⌜ WidthColumns (now above) (now widths) × InStep (now numbers) (now starts) (length (now raws)) (length (now classes)) (length (now thousandths)) ⌝ }
+    requires { ⌜ InStep (now numbers) (now starts) (length (now raws)) (length (now classes)) (length (now thousandths)) ⌝ }
     ensures { λ _. ⌜ SignalsRead word (sideBySide (now (numbers .entry)) (now (starts .entry))) raws classes thousandths ⌝ }
 {
     let mut left = columns::length_of(numbers);
     let mut i: usize = 0;
+    let mut bits: u32 = 0;
+    let mut raw: u32 = 0;
+    let mut code: u8 = 0;
     while left > 0 {
         let number = numbers[i];
-        let bits = catalogue::known_bits(number, widths, above);
-        let raw = bits::take(word, starts[i], bits);
-        let mut code: u8 = 0;
-        let reading = class_numbers(number, Raw(raw), &mut code);
+        let from = bits::onward(word, starts[i]);
+        let reading = cut_numbers(number, from, &mut bits, &mut raw, &mut code);
         raws[i] = raw;
         classes[i] = code;
         thousandths[i] = reading;
@@ -70,17 +66,6 @@ pub fn read_message(
     if least(raws.len(), least(classes.len(), thousandths.len())) < numbers.len() {
         return Reading::TooLittleRoom;
     }
-    let above = catalogue::surpluses();
-    let widths = rows::widths();
-    read_signals(
-        word,
-        numbers,
-        starts,
-        &widths,
-        &above,
-        raws,
-        classes,
-        thousandths,
-    );
+    read_signals(word, numbers, starts, raws, classes, thousandths);
     Reading::Read(columns::length_of(numbers))
 }

@@ -17,16 +17,10 @@ use Rattle.parts.proofs.part_before.Reads as part-before-reads
 use Rattle.parts.proofs.part_from.Reads as part-from-reads
 
 abbrev Inv-loop : tie.InvT-loop
-Inv-loop book text out₀ figures above widths used₀ written₀ out used written = Ran (printout figures (messagesOf book)) text out₀ out used written
+Inv-loop book text out₀ figures used₀ written₀ out used written = Ran (printout figures (messagesOf book)) text out₀ out used written
 
 abbrev μ-loop : tie.MeasureT-loop
-μ-loop book text out₀ figures above widths used₀ written₀ out used written = length text - used
-
-surpluses-requires : tie.Need-surpluses-requires Inv-loop μ-loop
-surpluses-requires c κs = search needs
-
-widths-requires : tie.Need-widths-requires Inv-loop μ-loop
-widths-requires c κs = search needs
+μ-loop book text out₀ figures used₀ written₀ out used written = length text - used
 
 loop-holds : tie.Need-loop-holds Inv-loop μ-loop
 loop-holds c = none-ran _ _ _
@@ -46,38 +40,32 @@ returns c = no-end (c .before .before .before .before .loop .inv) (c .before .be
 part-before-requires : tie.Need-part-before-requires Inv-loop μ-loop
 part-before-requires c κs = omega (arith, c .if1 .left)
 
-slice-aggregate-list-line : tie.Need-slice-aggregate-list-line Inv-loop μ-loop
-slice-aggregate-list-line c = search needs
-
-slice-aggregate-list-line-2 : tie.Need-slice-aggregate-list-line-2 Inv-loop μ-loop
-slice-aggregate-list-line-2 c = search needs
-
 list-line-requires : tie.Need-list-line-requires Inv-loop μ-loop
-list-line-requires c κs = (record { surplus = c .before .before .before .before .before .before .before .before .before .before .surpluses .ensures; bits = c .before .before .before .before .before .before .before .before .before .widths .ensures }, c .before .before .before .before .before .before .before .before .before .before .before .before .before .pre, omega (arith, c .before .before .before .before .before .before .before .before .loop .inv .inside, c .before .before .before .before .before .before .before .before .loop .inv .size))
+list-line-requires c κs = (c .before .before .before .before .before .before .before .before .before .pre, omega (arith, c .before .before .before .before .before .before .loop .inv .inside, c .before .before .before .before .before .before .loop .inv .size))
 
 enum-known-next : tie.Need-enum-known-next Inv-loop μ-loop
 enum-known-next c = search needs
 
 add-used : tie.Need-add-used Inv-loop μ-loop
-add-used c = omega (arith, c .before .before .before .before .before .before .before .before .before .before .if1 .left, ap length (c .before .before .before .before .before .before .before .before .before .before .before .before .part-from .ensures), length-drop (c .before .before .before .before .before .before .before .before .before .before .before .before .before .before .loop .used) (c .before .before .before .before .before .before .before .before .before .before .before .before .before .before .before .before .before .before .before .args .text .now))
+add-used c = omega (arith, c .before .before .before .before .before .before .before .before .if1 .left, ap length (c .before .before .before .before .before .before .before .before .before .before .part-from .ensures), length-drop (c .before .before .before .before .before .before .before .before .before .before .before .before .loop .used) (c .before .before .before .before .before .before .before .before .before .before .before .before .before .before .before .args .text .now))
 
 add-used-2 : tie.Need-add-used-2 Inv-loop μ-loop
-add-used-2 c = omega (arith, c .before .before .before .before .before .before .before .before .before .before .if1 .left, ap length (c .before .before .before .before .before .before .before .before .before .before .before .before .part-from .ensures), length-drop (c .before .before .before .before .before .before .before .before .before .before .before .before .before .before .loop .used) (c .before .before .before .before .before .before .before .before .before .before .before .before .before .before .before .before .before .before .before .args .text .now), c .before .before .before .before .before .before .before .before .before .before .before .before .before .loop-test .taken)
+add-used-2 c = omega (arith, c .before .before .before .before .before .before .before .before .if1 .left, ap length (c .before .before .before .before .before .before .before .before .before .before .part-from .ensures), length-drop (c .before .before .before .before .before .before .before .before .before .before .before .before .loop .used) (c .before .before .before .before .before .before .before .before .before .before .before .before .before .before .before .args .text .now), c .before .before .before .before .before .before .before .before .before .before .before .loop-test .taken)
 
 loop-less : tie.Need-loop-less Inv-loop μ-loop
-loop-less c = omega (arith, c .before .before .before .before .before .before .before .before .before .before .before .before .before .loop-test .taken)
+loop-less c = omega (arith, c .before .before .before .before .before .before .before .before .before .before .before .loop-test .taken)
 
 loop-again : tie.Need-loop-again Inv-loop μ-loop
-loop-again c = line-ran (c .before .before .before .before .before .before .before .before .before .before .before .before .before .before .loop .inv) (c .before .before .before .before .before .before .before .before .before .before .before .before .before .loop-test .taken) (c .before .before .before .before .before .before .before .before .before .before .before .before .part-from .ensures) (c .before .before .before .before .before .before .before .before .before .before .before .find .ensures) (c .before .before .before .before .before .before .before .before .before .before .if1 .left) (c .before .before .before .before .before .before .before .before .before .part-before .ensures) (went _ _ _ (c .before .before .before .before .before .list-line .ensures) _ (c .before .next .given .1))
+loop-again c = line-ran (c .before .before .before .before .before .before .before .before .before .before .before .before .loop .inv) (c .before .before .before .before .before .before .before .before .before .before .before .loop-test .taken) (c .before .before .before .before .before .before .before .before .before .before .part-from .ensures) (c .before .before .before .before .before .before .before .before .before .find .ensures) (c .before .before .before .before .before .before .before .before .if1 .left) (c .before .before .before .before .before .before .before .part-before .ensures) (went _ _ _ (c .before .before .before .before .before .list-line .ensures) _ (c .before .next .given .1))
 
 enum-told : tie.Need-enum-told Inv-loop μ-loop
 enum-told c = search needs
 
 same-length-2 : tie.Need-same-length-2 Inv-loop μ-loop
-same-length-2 c = stayed-long _ _ _ (c .before .before .before .before .list-line .ensures) (c .enum-told .given .1) ∙ c .before .before .before .before .before .before .before .before .before .before .before .before .before .loop .inv .size
+same-length-2 c = stayed-long _ _ _ (c .before .before .before .before .list-line .ensures) (c .enum-told .given .1) ∙ c .before .before .before .before .before .before .before .before .before .before .before .loop .inv .size
 
 returns-2 : tie.Need-returns-2 Inv-loop μ-loop
-returns-2 c = no-room (c .before .before .before .before .before .before .before .before .before .before .before .before .before .loop .inv) (c .before .before .before .before .before .before .before .before .before .before .before .before .loop-test .taken) (c .before .before .before .before .before .before .before .before .before .before .before .part-from .ensures) (c .before .before .before .before .before .before .before .before .before .before .find .ensures) (c .before .before .before .before .before .before .before .before .before .if1 .left) (c .before .before .before .before .before .before .before .before .part-before .ensures) (stayed _ _ _ (c .before .before .before .before .list-line .ensures) (c .enum-told .given .1))
+returns-2 c = no-room (c .before .before .before .before .before .before .before .before .before .before .before .loop .inv) (c .before .before .before .before .before .before .before .before .before .before .loop-test .taken) (c .before .before .before .before .before .before .before .before .before .part-from .ensures) (c .before .before .before .before .before .before .before .before .find .ensures) (c .before .before .before .before .before .before .before .if1 .left) (c .before .before .before .before .before .before .part-before .ensures) (stayed _ _ _ (c .before .before .before .before .list-line .ensures) (c .enum-told .given .1))
 
 same-length-3 : tie.Need-same-length-3 Inv-loop μ-loop
 same-length-3 c = c .before .loop .inv .size
@@ -91,16 +79,12 @@ list-lines-spec =
     (tie.spec
     Inv-loop
     μ-loop
-    surpluses-requires
-    widths-requires
     loop-holds
     part-from-requires
     find-requires
     same-length
     returns
     part-before-requires
-    slice-aggregate-list-line
-    slice-aggregate-list-line-2
     list-line-requires
     enum-known-next
     add-used

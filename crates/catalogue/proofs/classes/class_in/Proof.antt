@@ -2,8 +2,7 @@
 -- Assumes nothing.
 use mathlib.Core.Path.{_≡_, sym, ap, _∙_}
 use mathlib.Core.Bool.{false}
-use Prim.Native.Nat.{_*_, _^_}
-use lib.Dec.{leb}
+use Prim.Native.Nat.{_*_}
 use lib.IntN.{ℤ, pos, _+ℤ_}
 use mir.Syntax.{w32}
 use mir.Val.{SFits}
@@ -17,62 +16,52 @@ use Rattle.catalogue.proofs.classes.class_in.Tie as tie
 
 -- the tests on the way
 module _ (c : tie.Else1) where
-  narrow : leb (2 ^ c .before .before .args .bits) (c .before .before .args .raw .0) ≡ false
-  narrow = sym (c .before .is-too-wide .ensures) ∙ c .if1 .left
+  no1 : between (c .before .before .args .first1) (c .before .before .args .last1) (c .before .before .args .raw .0) ≡ false
+  no1 = sym (c .before .is-between .ensures) ∙ c .if1 .left
 
 module _ (c : tie.Else2) where
-  no1 : between (c .before .before .before .before .args .first1) (c .before .before .before .before .args .last1) (c .before .before .before .before .args .raw .0) ≡ false
-  no1 = sym (c .before .is-between .ensures) ∙ c .if2 .left
+  no2 : between (c .before .before .before .before .args .first2) (c .before .before .before .before .args .last2) (c .before .before .before .before .args .raw .0) ≡ false
+  no2 = sym (c .before .is-between2 .ensures) ∙ c .if2 .left
 
 module _ (c : tie.Else3) where
-  no2 : between (c .before .before .before .before .before .before .args .first2) (c .before .before .before .before .before .before .args .last2) (c .before .before .before .before .before .before .args .raw .0) ≡ false
-  no2 = sym (c .before .is-between2 .ensures) ∙ c .if3 .left
-
-module _ (c : tie.Else4) where
-  no3 : between (c .before .before .before .before .before .before .before .before .args .first3) (c .before .before .before .before .before .before .before .before .args .last3) (c .before .before .before .before .before .before .before .before .args .raw .0) ≡ false
-  no3 = sym (c .before .is-between3 .ensures) ∙ c .if4 .left
-
-is-too-wide-requires : tie.Need-is-too-wide-requires
-is-too-wide-requires c κs = search needs
-
-returns : tie.Need-returns
-returns c = simp (sym (c .before .is-too-wide .ensures) ∙ c .if1 .taken)
+  no3 : between (c .before .before .before .before .before .before .args .first3) (c .before .before .before .before .before .before .args .last3) (c .before .before .before .before .before .before .args .raw .0) ≡ false
+  no3 = sym (c .before .is-between3 .ensures) ∙ c .if3 .left
 
 is-between-requires : tie.Need-is-between-requires
 is-between-requires c κs = search needs
 
 marked-requires : tie.Need-marked-requires
-marked-requires c κs = has-kind _ _ (c .before .before .before .before .pre .1) (sym (c .before .is-between .ensures) ∙ c .if2 .taken)
+marked-requires c κs = has-kind _ _ (c .before .before .pre .0) (sym (c .before .is-between .ensures) ∙ c .if1 .taken)
 
-returns-2 : tie.Need-returns-2
-returns-2 c =
+returns : tie.Need-returns
+returns c =
     let w = c .before .before in
-    simp (sym (c .marked .ensures), narrow (w .before), sym (w .is-between .ensures) ∙ c .before .if2 .taken)
+    simp (sym (c .marked .ensures), sym (w .is-between .ensures) ∙ c .before .if1 .taken)
 
 is-between-requires-2 : tie.Need-is-between-requires-2
 is-between-requires-2 c κs = search needs
 
 marked-requires-2 : tie.Need-marked-requires-2
-marked-requires-2 c κs = has-kind _ _ (c .before .before .before .before .before .before .pre .2) (sym (c .before .is-between2 .ensures) ∙ c .if3 .taken)
+marked-requires-2 c κs = has-kind _ _ (c .before .before .before .before .pre .1) (sym (c .before .is-between2 .ensures) ∙ c .if2 .taken)
 
-returns-3 : tie.Need-returns-3
-returns-3 c =
+returns-2 : tie.Need-returns-2
+returns-2 c =
     let w = c .before .before in
     let e2 = w .before in
-    simp (sym (c .marked2 .ensures), narrow (e2 .before .before), no1 e2, sym (w .is-between2 .ensures) ∙ c .before .if3 .taken)
+    simp (sym (c .marked2 .ensures), no1 e2, sym (w .is-between2 .ensures) ∙ c .before .if2 .taken)
 
 is-between-requires-3 : tie.Need-is-between-requires-3
 is-between-requires-3 c κs = search needs
 
 marked-requires-3 : tie.Need-marked-requires-3
-marked-requires-3 c κs = has-kind _ _ (c .before .before .before .before .before .before .before .before .pre .3) (sym (c .before .is-between3 .ensures) ∙ c .if4 .taken)
+marked-requires-3 c κs = has-kind _ _ (c .before .before .before .before .before .before .pre .2) (sym (c .before .is-between3 .ensures) ∙ c .if3 .taken)
 
-returns-4 : tie.Need-returns-4
-returns-4 c =
+returns-3 : tie.Need-returns-3
+returns-3 c =
     let w = c .before .before in
     let e3 = w .before in
     let e2 = e3 .before .before in
-    simp (sym (c .marked3 .ensures), narrow (e2 .before .before), no1 e2, no2 e3, sym (w .is-between3 .ensures) ∙ c .before .if4 .taken)
+    simp (sym (c .marked3 .ensures), no1 e2, no2 e3, sym (w .is-between3 .ensures) ∙ c .before .if3 .taken)
 
 is-between-requires-4 : tie.Need-is-between-requires-4
 is-between-requires-4 c κs = search needs
@@ -80,42 +69,40 @@ is-between-requires-4 c κs = search needs
 reading-requires : tie.Need-reading-requires
 reading-requires c κs = search needs
 
-returns-5 : tie.Need-returns-5
-returns-5 c =
+returns-4 : tie.Need-returns-4
+returns-4 c =
     let w = c .before .before in
     let e4 = w .before in
     let e3 = e4 .before .before in
     let e2 = e3 .before .before in
-    let a = e2 .before .before .before .before .args in
+    let a = e2 .before .before .args in
     let so : SFits w32 (a .offset) = search needs in
-    simp (narrow (e2 .before .before), no1 e2, no2 e3, no3 e4, sym (w .is-between4 .ensures) ∙ c .before .if5 .taken)
+    simp (no1 e2, no2 e3, no3 e4, sym (w .is-between4 .ensures) ∙ c .before .if4 .taken)
     (ap (λ (z : ℤ). Value (record { 0 = z }))
     (c .reading .ensures ∙ ap (λ (z : ℤ). pos (a .raw .0 * a .resolution) +ℤ z) (toZ-ofZ w32 (a .offset) so)))
 
-returns-6 : tie.Need-returns-6
-returns-6 c =
+returns-5 : tie.Need-returns-5
+returns-5 c =
     let w = c .before in
     let e4 = w .before in
     let e3 = e4 .before .before in
     let e2 = e3 .before .before in
-    simp (narrow (e2 .before .before), no1 e2, no2 e3, no3 e4, sym (w .is-between4 .ensures) ∙ c .if5 .left)
+    simp (no1 e2, no2 e3, no3 e4, sym (w .is-between4 .ensures) ∙ c .if4 .left)
 
 pub class-in-spec : {M : Type 1} → statement M
 class-in-spec =
     tie.close
     (tie.spec
-    is-too-wide-requires
-    returns
     is-between-requires
     marked-requires
-    returns-2
+    returns
     is-between-requires-2
     marked-requires-2
-    returns-3
+    returns-2
     is-between-requires-3
     marked-requires-3
-    returns-4
+    returns-3
     is-between-requires-4
     reading-requires
-    returns-5
-    returns-6)
+    returns-4
+    returns-5)

@@ -7,11 +7,11 @@ use Rattle.catalogue.proofs.Marks.{no-code}
 use Rattle.catalogue.proofs.classes.two_marks.Statement.{statement}
 use Rattle.catalogue.proofs.classes.two_marks.Tie as tie
 
-class-in-requires : tie.Need-class-in-requires
-class-in-requires c κs = search (needs, no-code)
+three-marks-requires : tie.Need-three-marks-requires
+three-marks-requires c κs = search (needs, no-code)
 
 returns : tie.Need-returns
-returns c = rw (toZ-ofZ w32 (c .before .args .offset) (c .before .fits .offset)) at (c .class-in .ensures)
+returns c = rw (toZ-ofZ w32 (c .before .args .offset) (c .before .fits .offset)) at (c .three-marks .ensures)
 
 pub two-marks-spec : {M : Type 1} → statement M
-two-marks-spec = tie.close (tie.spec class-in-requires returns)
+two-marks-spec = tie.close (tie.spec three-marks-requires returns)

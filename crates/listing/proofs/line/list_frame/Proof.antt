@@ -34,7 +34,7 @@ part-requires-2 : tie.Need-part-requires-2
 part-requires-2 c κs = let s = (found-signals _ _ (c .before .before .before .before .from .given .1) (c .before .before .before .before .before .before .find-message .ensures)) in (s .order, omega (arith, s .inside, c .starts .ensures .1))
 
 list-message-requires : tie.Need-list-message-requires
-list-message-requires c κs = (c .before .before .before .before .before .before .before .before .before .before .before .before .pre .0, listable (c .before .before .before .before .before .before .before .before .before .before .before .before .pre .1) (found-signals _ _ (c .before .before .before .before .before .before .from .given .1) (c .before .before .before .before .before .before .before .before .find-message .ensures)) (column-part (c .before .before .before .before .before .before .from .given .0 .0) (c .before .before .before .before .before .before .from .given .0 .1 .0) (c .before .before .before .part .ensures .0) (c .before .before .before .before .numbers .ensures .0)) (column-part (c .before .before .before .before .before .before .from .given .0 .0) (c .before .before .before .before .before .before .from .given .0 .1 .0) (c .before .part2 .ensures .0) (c .before .before .starts .ensures .0)) (c .before .before .before .before .before .before .before .before .before .before .before .before .pre .2))
+list-message-requires c κs = listable (c .before .before .before .before .before .before .before .before .before .before .pre .0) (found-signals _ _ (c .before .before .before .before .before .before .from .given .1) (c .before .before .before .before .before .before .before .before .find-message .ensures)) (column-part (c .before .before .before .before .before .before .from .given .0 .0) (c .before .before .before .before .before .before .from .given .0 .1 .0) (c .before .before .before .part .ensures .0) (c .before .before .before .before .numbers .ensures .0)) (column-part (c .before .before .before .before .before .before .from .given .0 .0) (c .before .before .before .before .before .before .from .given .0 .1 .0) (c .before .part2 .ensures .0) (c .before .before .starts .ensures .0)) (c .before .before .before .before .before .before .before .before .before .before .pre .1)
 
 enum-told : tie.Need-enum-told
 enum-told c = search needs
@@ -46,7 +46,7 @@ same-length : tie.Need-same-length
 same-length c = search needs
 
 returns : tie.Need-returns
-returns c = fitted-as _ _ (frame-listed _ _ _ _ (c .before .before .before .before .before .before .before .before .before .before .before .before .before .before .before .fits .word .fits) (found-signals _ _ (c .before .before .before .before .before .before .before .before .before .from .given .1) (c .before .before .before .before .before .before .before .before .before .before .before .find-message .ensures)) (column-part (c .before .before .before .before .before .before .before .before .before .from .given .0 .0) (c .before .before .before .before .before .before .before .before .before .from .given .0 .1 .0) (c .before .before .before .before .before .before .part .ensures .0) (c .before .before .before .before .before .before .before .numbers .ensures .0)) (column-part (c .before .before .before .before .before .before .before .before .before .from .given .0 .0) (c .before .before .before .before .before .before .before .before .before .from .given .0 .1 .0) (c .before .before .before .before .part2 .ensures .0) (c .before .before .before .before .before .starts .ensures .0))) (c .before .before .list-message .ensures)
+returns c = fitted-as _ _ (frame-listed _ _ _ _ (c .before .before .before .before .before .before .before .before .before .before .before .before .before .fits .word .fits) (found-signals _ _ (c .before .before .before .before .before .before .before .before .before .from .given .1) (c .before .before .before .before .before .before .before .before .before .before .before .find-message .ensures)) (column-part (c .before .before .before .before .before .before .before .before .before .from .given .0 .0) (c .before .before .before .before .before .before .before .before .before .from .given .0 .1 .0) (c .before .before .before .before .before .before .part .ensures .0) (c .before .before .before .before .before .before .before .numbers .ensures .0)) (column-part (c .before .before .before .before .before .before .before .before .before .from .given .0 .0) (c .before .before .before .before .before .before .before .before .before .from .given .0 .1 .0) (c .before .before .before .before .part2 .ensures .0) (c .before .before .before .before .before .starts .ensures .0))) (c .before .before .list-message .ensures)
 
 same-length-2 : tie.Need-same-length-2
 same-length-2 c = search needs

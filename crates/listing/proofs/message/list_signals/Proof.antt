@@ -18,7 +18,7 @@ sub-if1 : tie.Need-sub-if1
 sub-if1 c = search needs
 
 put-signals-requires : tie.Need-put-signals-requires
-put-signals-requires c κs = (c .before .before .before .before .before .before .before .pre .0, record { same = c .before .before .before .before .before .before .before .pre .1 .same; fit = c .before .before .before .before .before .before .before .pre .1 .fit; inside = omega (arith, c .before .if1 .taken, c .before .before .before .before .before .before .before .pre .1 .inside) })
+put-signals-requires c κs = record { same = c .before .before .before .before .before .pre .same; fit = c .before .before .before .before .before .pre .fit; inside = omega (arith, c .before .if1 .taken, c .before .before .before .before .before .pre .inside) }
 
 same-length : tie.Need-same-length
 same-length c = search needs
@@ -30,13 +30,13 @@ slice-aggregate-put-signals : tie.Need-slice-aggregate-put-signals
 slice-aggregate-put-signals c = search needs
 
 put-signals-requires-2 : tie.Need-put-signals-requires-2
-put-signals-requires-2 c κs = (c .before .before .before .before .before .before .before .pre .0, record { same = c .before .before .before .before .before .before .before .pre .1 .same; fit = c .before .before .before .before .before .before .before .pre .1 .fit; inside = omega (arith, length-replicate {A = ℕ} 4096 0, c .before .before .before .before .before .before .before .pre .1 .many) })
+put-signals-requires-2 c κs = record { same = c .before .before .before .before .before .pre .same; fit = c .before .before .before .before .before .pre .fit; inside = omega (arith, length-replicate {A = ℕ} 4096 0, c .before .before .before .before .before .pre .many) }
 
 array-share-prefix-aside : tie.Need-array-share-prefix-aside
 array-share-prefix-aside c = search needs
 
 slice-aggregate-fit : tie.Need-slice-aggregate-fit
-slice-aggregate-fit c = aside-long (c .before .before .before .put-signals2 .ensures) (omega (arith, length-replicate {A = ℕ} 4096 0, c .before .before .before .before .before .before .before .before .before .before .before .pre .1 .many))
+slice-aggregate-fit c = aside-long (c .before .before .before .put-signals2 .ensures) (omega (arith, length-replicate {A = ℕ} 4096 0, c .before .before .before .before .before .before .before .before .before .pre .many))
 
 fit-requires : tie.Need-fit-requires
 fit-requires c κs = search needs
@@ -45,7 +45,7 @@ same-length-2 : tie.Need-same-length-2
 same-length-2 c = search needs
 
 returns-2 : tie.Need-returns-2
-returns-2 c = fitted-as _ _ (aside-is (c .before .before .before .before .before .before .put-signals2 .ensures) (omega (arith, length-replicate {A = ℕ} 4096 0, c .before .before .before .before .before .before .before .before .before .before .before .before .before .before .pre .1 .many))) (c .before .before .fit .ensures)
+returns-2 c = fitted-as _ _ (aside-is (c .before .before .before .before .before .before .put-signals2 .ensures) (omega (arith, length-replicate {A = ℕ} 4096 0, c .before .before .before .before .before .before .before .before .before .before .before .before .pre .many))) (c .before .before .fit .ensures)
 
 pub list-signals-spec : {M : Type 1} → statement M
 list-signals-spec =

@@ -1,24 +1,25 @@
 -- `listing::message::put_signals` meets its contract: writing what is left gives the final list. Assumes nothing.
-use mathlib.Core.Path.{subst⁻¹}
-use Prim.Native.Nat.{ℕ, _-_}
+use mathlib.Core.Path.{ap, _∙_, subst⁻¹}
+use Prim.Native.Nat.{_-_}
 use native.Mathlib.Omega.{arith}
 use borrow.Author.Needs.{needs}
-use lib.ListN.{length, getD}
-use Rattle.bits.specs.Word.{Fits}
+use lib.ListN.{length}
+use Rattle.catalogue.specs.declared.Cut.{Cut}
 use Rattle.doubles.specs.Doubles.{SmallIfValue}
 use Rattle.doubles.proofs.Values.{small-class}
-use Rattle.listing.proofs.Walking.{Walked, none-walked, signal-walked, all-walked, room-left, fits-next, class-is}
+use Rattle.messages.proofs.Cuts.{class-there}
+use Rattle.listing.proofs.Walking.{Walked, none-walked, signal-walked, all-walked, room-left, fits-next}
 use Rattle.listing.proofs.message.put_signals.Statement.{statement}
 use Rattle.listing.proofs.message.put_signals.Tie as tie
 
 abbrev Inv-loop : tie.InvT-loop
-Inv-loop out₀ at identifier word numbers starts widths above figures next₀ i₀ out next i = Walked out₀ at figures identifier word numbers starts out next i
+Inv-loop out₀ at identifier word numbers starts figures next₀ i₀ out next i = Walked out₀ at figures identifier word numbers starts out next i
 
 abbrev μ-loop : tie.MeasureT-loop
-μ-loop out₀ at identifier word numbers starts widths above figures next₀ i₀ out next i = length numbers - i
+μ-loop out₀ at identifier word numbers starts figures next₀ i₀ out next i = length numbers - i
 
 loop-holds : tie.Need-loop-holds Inv-loop μ-loop
-loop-holds c = none-walked _ _ _ _ _ _ _ (c .before .before .before .before .before .pre .1)
+loop-holds c = none-walked _ _ _ _ _ _ _ (c .before .before .before .pre)
 
 mul-number : tie.Need-mul-number Inv-loop μ-loop
 mul-number c = omega arith
@@ -26,26 +27,27 @@ mul-number c = omega arith
 shared-slice-read-number : tie.Need-shared-slice-read-number Inv-loop μ-loop
 shared-slice-read-number c = omega arith
 
-known-bits-requires : tie.Need-known-bits-requires Inv-loop μ-loop
-known-bits-requires c κs = (c .before .before .before .before .before .before .before .before .pre .0, fits-next (c .before .before .loop .inv) (c .before .before .before .before .before .before .before .before .pre .1) (c .before .loop-test .taken) .some)
+mul-onward : tie.Need-mul-onward Inv-loop μ-loop
+mul-onward c = omega arith
 
-mul-take : tie.Need-mul-take Inv-loop μ-loop
-mul-take c = omega arith
+shared-slice-read-onward : tie.Need-shared-slice-read-onward Inv-loop μ-loop
+shared-slice-read-onward c = omega (arith, c .before .before .before .before .before .before .before .pre .same)
 
-shared-slice-read-take : tie.Need-shared-slice-read-take Inv-loop μ-loop
-shared-slice-read-take c = omega (arith, c .before .before .before .before .before .before .before .before .before .before .pre .1 .same)
+onward-requires : tie.Need-onward-requires Inv-loop μ-loop
+onward-requires c κs =
+    let f = fits-next (c .before .before .before .loop .inv) (c .before .before .before .before .before .before .before .pre) (c .before .before .loop-test .taken) in
+    omega (arith, f .some, f .inside)
 
-take-requires : tie.Need-take-requires Inv-loop μ-loop
-take-requires c κs = subst⁻¹ (λ (b : ℕ). Fits (getD (c .before .before .before .before .before .before .before .before .before .before .args .starts .now) (c .before .before .before .before .loop .i) 0) b) (c .before .known-bits .ensures) (fits-next (c .before .before .before .before .loop .inv) (c .before .before .before .before .before .before .before .before .before .before .pre .1) (c .before .before .before .loop-test .taken))
-
-class-of-requires : tie.Need-class-of-requires Inv-loop μ-loop
-class-of-requires c κs = search needs
+cut-of-requires : tie.Need-cut-of-requires Inv-loop μ-loop
+cut-of-requires c κs = search needs
 
 put-reading-requires : tie.Need-put-reading-requires Inv-loop μ-loop
-put-reading-requires c κs = (
-  room-left (c .before .before .before .before .before .before .before .loop .inv) (c .before .before .before .before .before .before .before .before .before .before .before .before .before .pre .1) (c .before .before .before .before .before .before .loop-test .taken),
-  subst⁻¹ SmallIfValue (c .before .class-of .ensures) (small-class _ _),
-)
+put-reading-requires c κs =
+    let w = c .before .before .before .before .before .before .loop .inv in
+    let r = c .before .before .before .before .before .before .before .before .before .before .pre in
+    let h = c .before .before .before .before .before .loop-test .taken in
+    let class = ap (λ (k : Cut). k .class) (c .before .cut-of .ensures) ∙ class-there _ _ (fits-next w r h) _ (c .before .before .onward .ensures) in
+    (room-left w r h, subst⁻¹ SmallIfValue class (small-class _ _))
 
 add-i : tie.Need-add-i Inv-loop μ-loop
 add-i c = omega arith
@@ -54,7 +56,12 @@ loop-less : tie.Need-loop-less Inv-loop μ-loop
 loop-less c = omega arith
 
 loop-again : tie.Need-loop-again Inv-loop μ-loop
-loop-again c = signal-walked (c .before .before .before .before .before .before .before .before .before .before .loop .inv) (c .before .before .before .before .before .before .before .before .before .before .before .before .before .before .before .before .pre .1) (c .before .before .before .before .before .before .before .before .before .loop-test .taken) (class-is _ _ _ (c .before .before .before .before .before .before .before .known-bits .ensures) (c .before .before .before .before .before .take .ensures) (c .before .before .before .before .class-of .ensures)) (c .before .before .put-reading .ensures)
+loop-again c =
+    let w = c .before .before .before .before .before .before .before .before .before .loop .inv in
+    let r = c .before .before .before .before .before .before .before .before .before .before .before .before .before .pre in
+    let h = c .before .before .before .before .before .before .before .before .loop-test .taken in
+    let class = ap (λ (k : Cut). k .class) (c .before .before .before .before .cut-of .ensures) ∙ class-there _ _ (fits-next w r h) _ (c .before .before .before .before .before .onward .ensures) in
+    signal-walked w r h class (c .before .before .put-reading .ensures)
 
 same-length : tie.Need-same-length Inv-loop μ-loop
 same-length c = c .before .loop .inv .size
@@ -71,11 +78,10 @@ put-signals-spec =
     loop-holds
     mul-number
     shared-slice-read-number
-    known-bits-requires
-    mul-take
-    shared-slice-read-take
-    take-requires
-    class-of-requires
+    mul-onward
+    shared-slice-read-onward
+    onward-requires
+    cut-of-requires
     put-reading-requires
     add-i
     loop-less

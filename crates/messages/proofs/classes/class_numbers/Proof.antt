@@ -1,32 +1,39 @@
--- `messages::classes::class_numbers` meets its contract: both numbers are those of the class. Assumes nothing.
-use mathlib.Core.Path.{ap, _∙_}
+-- `messages::classes::class_numbers` meets its contract: a number that is more than the count cut from it is too wide. Assumes nothing.
+use mathlib.Core.Path.{sym, ap, _∙_}
+use Prim.Native.Nat.{ℕ}
+use lib.IntN.{ℤ}
 use mir.Syntax.{w64}
 use mir.ValLaws.{toZ-ofZ}
+use Rattle.catalogue.proofs.Classing.{class-cut, too-wide}
 use Rattle.framing.specs.Reading.{classCode, thousandthsOf}
 use borrow.Author.Needs.{needs}
 use Rattle.messages.proofs.classes.class_numbers.Statement.{statement}
 use Rattle.messages.proofs.classes.class_numbers.Tie as tie
 use Rattle.messages.proofs.classes.class_numbers.Reads as reads
 use Rattle.messages.proofs.classes.class_numbers.Lts as lts
-use Rattle.catalogue.proofs.class_of.Reads as class-of-reads
 use Rattle.messages.proofs.classes.code_of.Reads as code-of-reads
-use Rattle.messages.proofs.classes.thousandths_of.Reads as thousandths-of-reads
+use Rattle.messages.proofs.classes.cut_numbers.Reads as cut-numbers-reads
 
-class-of-requires : tie.Need-class-of-requires
-class-of-requires c κs = search needs
+cut-numbers-requires : tie.Need-cut-numbers-requires
+cut-numbers-requires c κs = search needs
 
 code-of-requires : tie.Need-code-of-requires
 code-of-requires c κs = search needs
 
-thousandths-of-requires : tie.Need-thousandths-of-requires
-thousandths-of-requires c κs = search needs
-
 returns : tie.Need-returns
 returns c =
-    let reading = toZ-ofZ w64 (c .thousandths-of .result) (search needs) ∙ c .thousandths-of .ensures ∙ ap thousandthsOf (c .before .before .class-of .ensures) in
-    let code = c .before .code-of .ensures ∙ ap classCode (c .before .before .class-of .ensures) in
+    let whole = c .before .before .before .cut-numbers .ensures in
+    let class = too-wide _ _ (λ e. c .before .if1 .taken (ap (λ (x : ℤ × (ℕ × (ℕ × ℕ))). x .1 .1 .0) whole ∙ e)) in
+    let code = c .code-of .ensures ∙ ap classCode class in
+    λ i. (thousandthsOf (class i), code i)
+
+returns-2 : tie.Need-returns-2
+returns-2 c =
+    let whole = c .before .before .cut-numbers .ensures in
+    let class = class-cut _ _ (sym (ap (λ (x : ℤ × (ℕ × (ℕ × ℕ))). x .1 .1 .0) whole) ∙ c .if1 .left) in
+    let reading = toZ-ofZ w64 (c .before .before .cut-numbers .result) (search needs) ∙ ap (λ (x : ℤ × (ℕ × (ℕ × ℕ))). x .0) whole ∙ ap thousandthsOf class in
+    let code = ap (λ (x : ℤ × (ℕ × (ℕ × ℕ))). x .1 .1 .1) whole ∙ ap classCode class in
     λ i. (reading i, code i)
 
 pub class-numbers-spec : {M : Type 1} → statement M
-class-numbers-spec =
-    tie.close (tie.spec class-of-requires code-of-requires thousandths-of-requires returns)
+class-numbers-spec = tie.close (tie.spec cut-numbers-requires code-of-requires returns returns-2)

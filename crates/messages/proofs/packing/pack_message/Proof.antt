@@ -7,18 +7,6 @@ use borrow.Author.Needs.{needs}
 use Rattle.messages.proofs.packing.pack_message.Statement.{statement}
 use Rattle.messages.proofs.packing.pack_message.Tie as tie
 
-surpluses-requires : tie.Need-surpluses-requires
-surpluses-requires c κs = search needs
-
-widths-requires : tie.Need-widths-requires
-widths-requires c κs = search needs
-
-slice-aggregate-put-all : tie.Need-slice-aggregate-put-all
-slice-aggregate-put-all c = search needs
-
-slice-aggregate-put-all-2 : tie.Need-slice-aggregate-put-all-2
-slice-aggregate-put-all-2 c = search needs
-
 put-all-requires : tie.Need-put-all-requires
 put-all-requires c κs = search needs
 
@@ -41,25 +29,21 @@ same-length : tie.Need-same-length
 same-length c = search needs
 
 returns : tie.Need-returns
-returns c = let a = c .before .before .before .before .before .before .before .before .before .before .before .before .before .before .before .before .before .args in
-    was-packed (a .identifier) (a .numbers .now) (a .starts .now) (a .values .now) (a .frame .now) (c .before .before .before .before .before .before .before .before .before .before .before .before .before .before .before .before .before .pre .0 .same) (c .before .before .before .before .before .before .word .given .0 .0) (sym (c .before .before .before .before .before .before .before .before .put-all .ensures) ∙ c .before .before .before .before .before .before .word .given .1) _ (c .before .before .store .ensures ∙ ap bytesOf (c .before .before .before .before .summed .ensures))
+returns c = let a = c .before .before .before .before .before .before .before .before .before .before .before .before .before .args in
+    was-packed (a .identifier) (a .numbers .now) (a .starts .now) (a .values .now) (a .frame .now) (c .before .before .before .before .before .before .before .before .before .before .before .before .before .pre .0 .same) (c .before .before .before .before .before .before .word .given .0 .0) (sym (c .before .before .before .before .before .before .before .before .put-all .ensures) ∙ c .before .before .before .before .before .before .word .given .1) _ (c .before .before .store .ensures ∙ ap bytesOf (c .before .before .before .before .summed .ensures))
 
 returns-2 : tie.Need-returns-2
-returns-2 c = let a = c .before .before .before .before .before .before .before .before .before .before .before .args in
+returns-2 c = let a = c .before .before .before .before .before .before .before .args in
     refused-wide (a .identifier) (a .numbers .now) (a .starts .now) (a .values .now) (a .frame .now) (sym (c .before .before .put-all .ensures) ∙ c .enum-told .given .1)
 
 returns-3 : tie.Need-returns-3
-returns-3 c = let a = c .before .before .before .before .before .before .before .before .before .before .before .args in
+returns-3 c = let a = c .before .before .before .before .before .before .before .args in
     refused-barred (a .identifier) (a .numbers .now) (a .starts .now) (a .values .now) (a .frame .now) (sym (c .before .before .put-all .ensures) ∙ c .enum-told2 .given .1)
 
 pub pack-message-spec : {M : Type 1} → statement M
 pack-message-spec =
     tie.close
     (tie.spec
-    surpluses-requires
-    widths-requires
-    slice-aggregate-put-all
-    slice-aggregate-put-all-2
     put-all-requires
     enum-known-word
     summed-requires

@@ -28,37 +28,37 @@ record Inv (numbers starts values : List ℕ) (word i left : ℕ) : Type 0 where
   puts : putAll (Word word) (rest numbers starts i) (drop i values) ≡ putAll (Word allOnes) (sideBySide numbers starts) values
 
 abbrev Inv-loop : tie.InvT-loop
-Inv-loop numbers starts values widths above word₀ left₀ i₀ word left i = Inv numbers starts values word i left
+Inv-loop numbers starts values word₀ left₀ i₀ word left i = Inv numbers starts values word i left
 
 abbrev μ-loop : tie.MeasureT-loop
-μ-loop numbers starts values widths above word₀ left₀ i₀ word left i = left
+μ-loop numbers starts values word₀ left₀ i₀ word left i = left
 
 length-of-requires : tie.Need-length-of-requires Inv-loop μ-loop
-length-of-requires c κs = c .before .before .before .before .before .pre .1 .few
+length-of-requires c κs = c .before .before .before .pre .few
 
 loop-holds : tie.Need-loop-holds Inv-loop μ-loop
-loop-holds c = record { counted = omega (arith, c .length-of .ensures); fit = c .before .before .before .before .before .before .pre .1 .fit; puts = refl }
+loop-holds c = record { counted = omega (arith, c .length-of .ensures); fit = c .before .before .before .before .pre .fit; puts = refl }
 
 mul-put-one : tie.Need-mul-put-one Inv-loop μ-loop
-mul-put-one c = omega (arith, c .before .loop .inv .counted, c .before .before .before .before .before .before .before .before .pre .1 .same, c .before .before .before .before .before .before .before .before .pre .1 .many)
+mul-put-one c = omega (arith, c .before .loop .inv .counted, c .before .before .before .before .before .before .pre .same, c .before .before .before .before .before .before .pre .many)
 
 shared-slice-read-put-one : tie.Need-shared-slice-read-put-one Inv-loop μ-loop
-shared-slice-read-put-one c = omega (arith, c .before .before .loop .inv .counted, c .before .before .before .before .before .before .before .before .before .pre .1 .same, c .before .before .before .before .before .before .before .before .before .pre .1 .many)
+shared-slice-read-put-one c = omega (arith, c .before .before .loop .inv .counted, c .before .before .before .before .before .before .before .pre .same, c .before .before .before .before .before .before .before .pre .many)
 
 mul-put-one-2 : tie.Need-mul-put-one-2 Inv-loop μ-loop
-mul-put-one-2 c = omega (arith, c .before .before .loop .inv .counted, c .before .before .before .before .before .before .before .before .before .pre .1 .same, c .before .before .before .before .before .before .before .before .before .pre .1 .many)
+mul-put-one-2 c = omega (arith, c .before .before .loop .inv .counted, c .before .before .before .before .before .before .before .pre .same, c .before .before .before .before .before .before .before .pre .many)
 
 shared-slice-read-put-one-2 : tie.Need-shared-slice-read-put-one-2 Inv-loop μ-loop
-shared-slice-read-put-one-2 c = omega (arith, c .before .before .before .loop .inv .counted, c .before .before .before .before .before .before .before .before .before .before .pre .1 .same, c .before .before .before .before .before .before .before .before .before .before .pre .1 .many)
+shared-slice-read-put-one-2 c = omega (arith, c .before .before .before .loop .inv .counted, c .before .before .before .before .before .before .before .before .pre .same, c .before .before .before .before .before .before .before .before .pre .many)
 
 mul-put-one-3 : tie.Need-mul-put-one-3 Inv-loop μ-loop
-mul-put-one-3 c = omega (arith, c .before .before .before .loop .inv .counted, c .before .before .before .before .before .before .before .before .before .before .pre .1 .same, c .before .before .before .before .before .before .before .before .before .before .pre .1 .many)
+mul-put-one-3 c = omega (arith, c .before .before .before .loop .inv .counted, c .before .before .before .before .before .before .before .before .pre .same, c .before .before .before .before .before .before .before .before .pre .many)
 
 shared-slice-read-put-one-3 : tie.Need-shared-slice-read-put-one-3 Inv-loop μ-loop
-shared-slice-read-put-one-3 c = omega (arith, c .before .before .before .before .loop .inv .counted, c .before .before .before .before .before .before .before .before .before .before .before .pre .1 .same, c .before .before .before .before .before .before .before .before .before .before .before .pre .1 .many)
+shared-slice-read-put-one-3 c = omega (arith, c .before .before .before .before .loop .inv .counted, c .before .before .before .before .before .before .before .before .before .pre .same, c .before .before .before .before .before .before .before .before .before .pre .many)
 
 put-one-requires : tie.Need-put-one-requires Inv-loop μ-loop
-put-one-requires c κs = (c .before .before .before .before .before .before .before .before .before .before .before .pre .0, fits-at (c .before .before .before .before .before .before .before .before .before .before .before .args .numbers .now) (c .before .before .before .before .before .before .before .before .before .before .before .args .starts .now) (c .before .before .before .before .loop .i) (within (c .before .before .before .before .loop .inv .counted) (c .before .before .before .loop-test .taken)) (c .before .before .before .before .before .before .before .before .before .before .before .pre .1 .same) (c .before .before .before .before .loop .inv .fit))
+put-one-requires c κs = fits-at (c .before .before .before .before .before .before .before .before .before .args .numbers .now) (c .before .before .before .before .before .before .before .before .before .args .starts .now) (c .before .before .before .before .loop .i) (within (c .before .before .before .before .loop .inv .counted) (c .before .before .before .loop-test .taken)) (c .before .before .before .before .before .before .before .before .before .pre .same) (c .before .before .before .before .loop .inv .fit)
 
 enum-known-next : tie.Need-enum-known-next Inv-loop μ-loop
 enum-known-next c = search needs
@@ -73,35 +73,35 @@ loop-less : tie.Need-loop-less Inv-loop μ-loop
 loop-less c = omega arith
 
 loop-again : tie.Need-loop-again Inv-loop μ-loop
-loop-again c = let a = c .before .before .before .before .before .before .before .before .before .before .before .before .before .before .before .args in
+loop-again c = let a = c .before .before .before .before .before .before .before .before .before .before .before .before .before .args in
     let l = c .before .before .before .before .before .before .before .before .loop in
     let put-on : PutWord → PutWord = λ x. putAll x (rest (a .numbers .now) (a .starts .now) (l .i + 1)) (drop (l .i + 1) (a .values .now)) in
     record {
       counted = omega (arith, l .inv .counted, c .before .before .before .before .before .before .before .loop-test .taken);
-      fit = fits-on (a .numbers .now) (a .starts .now) (l .i) (within (c .before .before .before .before .before .before .before .before .loop .inv .counted) (c .before .before .before .before .before .before .before .loop-test .taken)) (c .before .before .before .before .before .before .before .before .before .before .before .before .before .before .before .pre .1 .same) (l .inv .fit);
-      puts = sym (ap put-on (sym (c .before .before .before .put-one .ensures) ∙ c .before .next .given .1)) ∙ sym (put-more (a .numbers .now) (a .starts .now) (a .values .now) (l .word) (l .i) (c .before .before .before .before .before .before .before .before .before .before .before .before .before .before .before .pre .1) (within (c .before .before .before .before .before .before .before .before .loop .inv .counted) (c .before .before .before .before .before .before .before .loop-test .taken))) ∙ l .inv .puts;
+      fit = fits-on (a .numbers .now) (a .starts .now) (l .i) (within (c .before .before .before .before .before .before .before .before .loop .inv .counted) (c .before .before .before .before .before .before .before .loop-test .taken)) (c .before .before .before .before .before .before .before .before .before .before .before .before .before .pre .same) (l .inv .fit);
+      puts = sym (ap put-on (sym (c .before .before .before .put-one .ensures) ∙ c .before .next .given .1)) ∙ sym (put-more (a .numbers .now) (a .starts .now) (a .values .now) (l .word) (l .i) (c .before .before .before .before .before .before .before .before .before .before .before .before .before .pre) (within (c .before .before .before .before .before .before .before .before .loop .inv .counted) (c .before .before .before .before .before .before .before .loop-test .taken))) ∙ l .inv .puts;
     }
 
 enum-told : tie.Need-enum-told Inv-loop μ-loop
 enum-told c = search needs
 
 returns : tie.Need-returns Inv-loop μ-loop
-returns c = let a = c .before .before .before .before .before .before .before .before .before .before .before .before .before .before .args in
+returns c = let a = c .before .before .before .before .before .before .before .before .before .before .before .before .args in
     let l = c .before .before .before .before .before .before .before .loop in
     let put-on : PutWord → PutWord = λ x. putAll x (rest (a .numbers .now) (a .starts .now) (l .i + 1)) (drop (l .i + 1) (a .values .now)) in
-    sym (put-more (a .numbers .now) (a .starts .now) (a .values .now) (l .word) (l .i) (c .before .before .before .before .before .before .before .before .before .before .before .before .before .before .pre .1) (within (c .before .before .before .before .before .before .before .loop .inv .counted) (c .before .before .before .before .before .before .loop-test .taken)) ∙ ap put-on (sym (c .before .before .put-one .ensures) ∙ c .enum-told .given .1) ∙ wide-stays (rest (a .numbers .now) (a .starts .now) (l .i + 1)) (drop (l .i + 1) (a .values .now))) ∙ l .inv .puts
+    sym (put-more (a .numbers .now) (a .starts .now) (a .values .now) (l .word) (l .i) (c .before .before .before .before .before .before .before .before .before .before .before .before .pre) (within (c .before .before .before .before .before .before .before .loop .inv .counted) (c .before .before .before .before .before .before .loop-test .taken)) ∙ ap put-on (sym (c .before .before .put-one .ensures) ∙ c .enum-told .given .1) ∙ wide-stays (rest (a .numbers .now) (a .starts .now) (l .i + 1)) (drop (l .i + 1) (a .values .now))) ∙ l .inv .puts
 
 enum-told-2 : tie.Need-enum-told-2 Inv-loop μ-loop
 enum-told-2 c = search needs
 
 returns-2 : tie.Need-returns-2 Inv-loop μ-loop
-returns-2 c = let a = c .before .before .before .before .before .before .before .before .before .before .before .before .before .before .args in
+returns-2 c = let a = c .before .before .before .before .before .before .before .before .before .before .before .before .args in
     let l = c .before .before .before .before .before .before .before .loop in
     let put-on : PutWord → PutWord = λ x. putAll x (rest (a .numbers .now) (a .starts .now) (l .i + 1)) (drop (l .i + 1) (a .values .now)) in
-    sym (put-more (a .numbers .now) (a .starts .now) (a .values .now) (l .word) (l .i) (c .before .before .before .before .before .before .before .before .before .before .before .before .before .before .pre .1) (within (c .before .before .before .before .before .before .before .loop .inv .counted) (c .before .before .before .before .before .before .loop-test .taken)) ∙ ap put-on (sym (c .before .before .put-one .ensures) ∙ c .enum-told2 .given .1) ∙ barred-stays (rest (a .numbers .now) (a .starts .now) (l .i + 1)) (drop (l .i + 1) (a .values .now))) ∙ l .inv .puts
+    sym (put-more (a .numbers .now) (a .starts .now) (a .values .now) (l .word) (l .i) (c .before .before .before .before .before .before .before .before .before .before .before .before .pre) (within (c .before .before .before .before .before .before .before .loop .inv .counted) (c .before .before .before .before .before .before .loop-test .taken)) ∙ ap put-on (sym (c .before .before .put-one .ensures) ∙ c .enum-told2 .given .1) ∙ barred-stays (rest (a .numbers .now) (a .starts .now) (l .i + 1)) (drop (l .i + 1) (a .values .now))) ∙ l .inv .puts
 
 returns-3 : tie.Need-returns-3 Inv-loop μ-loop
-returns-3 c = let a = c .before .before .before .before .before .before .before .before .args in
+returns-3 c = let a = c .before .before .before .before .before .before .args in
     let l = c .before .loop in
     sym (put-none (a .numbers .now) (a .starts .now) (a .values .now) (l .word) (l .i) (past (c .before .loop .inv .counted) (c .loop-test .left))) ∙ l .inv .puts
 

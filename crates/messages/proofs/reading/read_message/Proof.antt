@@ -11,12 +11,10 @@ use Rattle.messages.proofs.reading.read_message.Statement.{statement}
 use Rattle.messages.proofs.reading.read_message.Tie as tie
 use Rattle.messages.proofs.reading.read_message.Reads as reads
 use Rattle.messages.proofs.reading.read_message.Lts as lts
-use Rattle.catalogue.proofs.surpluses.Reads as surpluses-reads
 use Rattle.columns.proofs.length_of.Reads as length-of-reads
 use Rattle.messages.proofs.checksum.checked.Reads as checked-reads
 use Rattle.messages.proofs.reading.least.Reads as least-reads
 use Rattle.messages.proofs.reading.read_signals.Reads as read-signals-reads
-use Rattle.rows.proofs.widths.Reads as widths-reads
 
 checked-requires : tie.Need-checked-requires
 checked-requires c κs = search needs
@@ -37,26 +35,11 @@ returns-2 c = let a = c .before .before .before .before .before .before .before 
     let check : checkHolds (a .identifier) (a .word) (a .numbers .now) ≡ true = sym (c .before .before .before .before .checked .ensures) ∙ not-false _ (c .before .before .before .if1 .left) in
     refused-room (a .identifier) (a .word) (a .numbers .now) (a .starts .now) (omega arith) (c .before .before .before .before .before .before .before .before .before .pre) (record { raws = a .raws .now; classes = a .classes .now; thousandths = a .thousandths .now }) check (omega arith)
 
-surpluses-requires : tie.Need-surpluses-requires
-surpluses-requires c κs = search needs
-
-widths-requires : tie.Need-widths-requires
-widths-requires c κs = search needs
-
-slice-aggregate-read-signals : tie.Need-slice-aggregate-read-signals
-slice-aggregate-read-signals c = search needs
-
-slice-aggregate-read-signals-2 : tie.Need-slice-aggregate-read-signals-2
-slice-aggregate-read-signals-2 c = search needs
-
 read-signals-requires : tie.Need-read-signals-requires
-read-signals-requires c κs = (
-  record { surplus = c .before .before .before .before .before .before .surpluses .ensures; bits = c .before .before .before .before .before .widths .ensures },
-  record { few = c .before .before .before .before .before .before .before .before .before .before .before .before .before .before .before .before .pre .few; same = c .before .before .before .before .before .before .before .before .before .before .before .before .before .before .before .before .pre .same; fit = c .before .before .before .before .before .before .before .before .before .before .before .before .before .before .before .before .pre .fit; raw-room = omega arith; class-room = omega arith; thousandth-room = omega arith },
-)
+read-signals-requires c κs = record { few = c .before .before .before .before .before .before .before .before .before .before .before .before .pre .few; same = c .before .before .before .before .before .before .before .before .before .before .before .before .pre .same; fit = c .before .before .before .before .before .before .before .before .before .before .before .before .pre .fit; raw-room = omega arith; class-room = omega arith; thousandth-room = omega arith }
 
 length-of-requires : tie.Need-length-of-requires
-length-of-requires c κs = c .before .before .before .before .before .before .before .before .before .before .before .before .before .before .before .before .before .before .before .before .before .before .pre .few
+length-of-requires c κs = c .before .before .before .before .before .before .before .before .before .before .before .before .before .before .before .before .before .before .pre .few
 
 same-length : tie.Need-same-length
 same-length c = search needs
@@ -68,9 +51,9 @@ same-length-3 : tie.Need-same-length-3
 same-length-3 c = search needs
 
 returns-3 : tie.Need-returns-3
-returns-3 c = let a = c .before .before .before .before .before .before .before .before .before .before .before .before .before .before .before .before .before .before .before .before .before .before .before .args in
-    let check : checkHolds (a .identifier) (a .word) (a .numbers .now) ≡ true = sym (c .before .before .before .before .before .before .before .before .before .before .before .before .before .before .before .before .before .before .checked .ensures) ∙ not-false _ (c .before .before .before .before .before .before .before .before .before .before .before .before .before .before .before .before .before .if1 .left) in
-    was-read (a .identifier) (a .word) (a .numbers .now) (a .starts .now) (omega (arith, c .before .before .before .before .before .before .before .before .before .before .before .before .before .before .before .before .before .before .before .before .before .before .before .fits .word)) (c .before .before .before .before .before .before .before .before .before .before .before .before .before .before .before .before .before .before .before .before .before .before .before .pre) (record { raws = a .raws .now; classes = a .classes .now; thousandths = a .thousandths .now }) check (omega arith) _ (c .length-of .ensures) _
+returns-3 c = let a = c .before .before .before .before .before .before .before .before .before .before .before .before .before .before .before .before .before .before .before .args in
+    let check : checkHolds (a .identifier) (a .word) (a .numbers .now) ≡ true = sym (c .before .before .before .before .before .before .before .before .before .before .before .before .before .before .checked .ensures) ∙ not-false _ (c .before .before .before .before .before .before .before .before .before .before .before .before .before .if1 .left) in
+    was-read (a .identifier) (a .word) (a .numbers .now) (a .starts .now) (omega (arith, c .before .before .before .before .before .before .before .before .before .before .before .before .before .before .before .before .before .before .before .fits .word)) (c .before .before .before .before .before .before .before .before .before .before .before .before .before .before .before .before .before .before .before .pre) (record { raws = a .raws .now; classes = a .classes .now; thousandths = a .thousandths .now }) check (omega arith) _ (c .length-of .ensures) _
     (c .before .before .before .before .before .before .read-signals .ensures .0) (c .before .before .before .before .before .before .read-signals .ensures .1) (c .before .before .before .before .before .before .read-signals .ensures .2)
 
 pub read-message-spec : {M : Type 1} → statement M
@@ -82,10 +65,6 @@ read-message-spec =
     least-requires
     least-requires-2
     returns-2
-    surpluses-requires
-    widths-requires
-    slice-aggregate-read-signals
-    slice-aggregate-read-signals-2
     read-signals-requires
     length-of-requires
     same-length

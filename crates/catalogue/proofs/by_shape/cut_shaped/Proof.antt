@@ -1,4 +1,4 @@
--- `catalogue::by_shape::class_shaped` meets its contract: each arm does the work on the row of its shape, and what is left for
+-- `catalogue::by_shape::cut_shaped` meets its contract: each arm does the work on the row of its shape, and what is left for
 -- `_` is no shape. Of each arm there is a line for what it asks, which has `kinded→` where the shape has a mark, and one for what it
 -- gives; tools/shapes_code.py writes them. Assumes nothing.
 use mathlib.Core.Path.{_≡_, sym, ap, subst}
@@ -7,20 +7,19 @@ use Prim.Native.Nat.{ℕ}
 use borrow.Author.Needs.{needs}
 use Rattle.rows.specs.declared.Row.{Row}
 use Rattle.rows.proofs.Ruled.{kinded→}
-use Rattle.catalogue.specs.declared.Raw.{Raw}
-use Rattle.catalogue.specs.declared.Class.{Class}
+use Rattle.catalogue.specs.declared.Cut.{Cut}
 use Rattle.catalogue.specs.Shapes.{rowShaped}
-use Rattle.catalogue.specs.Class.{classFor}
+use Rattle.catalogue.specs.Cut.{cutFor}
 use Rattle.catalogue.proofs.Arms.{no-shape}
-use Rattle.catalogue.proofs.by_shape.class_shaped.Statement.{statement}
-use Rattle.catalogue.proofs.by_shape.class_shaped.Tie as tie
+use Rattle.catalogue.proofs.by_shape.cut_shaped.Statement.{statement}
+use Rattle.catalogue.proofs.by_shape.cut_shaped.Tie as tie
 
--- the class in the row of the arm's shape is that in the row of the shape, which is the same
-arm : (k s : ℕ) (raw : Raw) (r : Class) → s ≡ k → r ≡ classFor (rowShaped k) raw → r ≡ classFor (rowShaped s) raw
-arm k s raw r e h = subst (λ (m : ℕ). r ≡ classFor (rowShaped m) raw) (sym e) h
+-- what is cut in the row of the arm's shape is that in the row of the shape, which is the same
+arm : (k s from : ℕ) (r : Cut) → s ≡ k → r ≡ cutFor (rowShaped k) from → r ≡ cutFor (rowShaped s) from
+arm k s from r e h = subst (λ (m : ℕ). r ≡ cutFor (rowShaped m) from) (sym e) h
 
-pub class-shaped-spec : {M : Type 1} → statement M
-class-shaped-spec =
+pub cut-shaped-spec : {M : Type 1} → statement M
+cut-shaped-spec =
     tie.close
     (tie.spec
     (λ c κs. search (needs, kinded→))
@@ -95,4 +94,4 @@ class-shaped-spec =
     (λ c. search arm)
     (λ c. search arm)
     (λ c. search arm)
-    (λ c. ap (λ (o : Option Row). classFor o (c .before .args .raw)) (no-shape (c .before .args .shape) (c .match .rest))))
+    (λ c. ap (λ (o : Option Row). cutFor o (c .before .args .from)) (no-shape (c .before .args .shape) (c .match .rest))))
