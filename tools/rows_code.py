@@ -3,7 +3,7 @@
 
     python3 tools/rows_code.py           prints what crates/rows/src/columns.rt has to be
 
-A mistake here can't make an answer wrong: the contracts of `row_at` and `widths` hold the columns against the definition.
+A mistake here can't make an answer wrong: the contracts of `row_at`, `widths` and `last_starts` hold the columns against the definition.
 """
 
 from listed_rows import ROWS_FILE, listed
@@ -13,6 +13,7 @@ HEAD = """// The columns of the constant table: for each row of specs/Rows.antt 
 """
 KINDS = {"unmarked": 0, "invalid": 1, "absent": 2, "error": 3, "reserved": 4}  # the constants of crates/rows/src/lib.rt
 UNMARKED = ("unmarked", 1, 0)
+FRAME_BITS = 64
 
 
 def mark_columns(which):
@@ -30,6 +31,7 @@ def mark_columns(which):
 COLUMNS = [
     ("NUMBERS", "u32", lambda row: row.number),
     ("BITS", "u8", lambda row: row.bits),
+    ("LAST_STARTS", "u8", lambda row: FRAME_BITS - row.bits),
     ("RESOLUTIONS", "u16", lambda row: row.resolution),
     ("OFFSETS", "i32", lambda row: row.offset),
     ("LOWESTS", "u32", lambda row: row.lowest),

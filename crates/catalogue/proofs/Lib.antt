@@ -1,6 +1,7 @@
 pub mod Arms
 pub mod Found
 pub mod Placed
+pub mod LastStarts
 pub mod Shaped
 pub mod Classing
 pub mod Marks

@@ -100,7 +100,7 @@ number-in n (r ∷ rs) h = go (eqb (r .number) n) refl h (number-in n rs)
     go true e l later = eqb-true _ _ e
     go false e l later = later (omega (arith, l))
 
-long : length rows ≡ noPlace
+pub long : length rows ≡ noPlace
 unfolding rows
 long = refl
 

@@ -7,7 +7,7 @@ use Prim.Native.Nat.{ℕ, suc, _*_, _/_, _<_}
 use lib.Dec.{eqb}
 use Rattle.rows.specs.declared.Row.{Row}
 use Rattle.rows.specs.Rows.{rows}
-use Rattle.rows.specs.Widths.{widthsOf}
+use Rattle.rows.specs.Widths.{widthsOf, lastStartsOf}
 use Rattle.catalogue.specs.declared.places.Place.{Place}
 use Rattle.catalogue.specs.declared.places.Place.the-variants.{At, Nowhere}
 
@@ -48,6 +48,11 @@ bounds = 0 ∷ 0 ∷ 10 ∷ 39 ∷ 47 ∷ 62 ∷ 67 ∷ 77 ∷ 85 ∷ 92 ∷ 95 
 pub record TableColumns (above ends widths : List ℕ) : Type 0 where
   pub places : (above ≡ surpluses) × (ends ≡ bounds)
   pub bits : widths ≡ widthsOf rows
+
+-- those by which its place and its last start are found
+pub record StartColumns (above ends lastStarts : List ℕ) : Type 0 where
+  pub places : (above ≡ surpluses) × (ends ≡ bounds)
+  pub lasts : lastStarts ≡ lastStartsOf rows
 
 -- those that are enough for a signal which the catalogue has
 pub record WidthColumns (above widths : List ℕ) : Type 0 where

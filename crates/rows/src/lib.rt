@@ -3,6 +3,7 @@
 mod columns;
 mod table;
 
+pub use table::last_starts;
 pub use table::row_at;
 pub use table::widths;
 

@@ -1,6 +1,7 @@
-// The catalogue as one constant table of 199 rows: a column for each of a row's fifteen numbers, each in its own type (src/columns.rt).
-// It is built anew at every read. So the test of a book holds its bits (`widths`), and what is asked for each signal of a frame goes
-// by the signal's shape instead.
+// The catalogue as one constant table of 199 rows: a column for each of a row's fifteen numbers, each in its own type (src/columns.rt),
+// and one of what follows from its bits, the last start that it may have in a frame. A column is built anew at every read. So who asks
+// for the bits of many signals holds theirs (`widths`), the test of a book the last starts (`last_starts`), and what is asked for each
+// signal of a frame goes by the signal's shape instead.
 use crate::Mark;
 use crate::Row;
 use crate::columns::BITS;
@@ -14,6 +15,7 @@ use crate::columns::KINDS_3;
 use crate::columns::LASTS_1;
 use crate::columns::LASTS_2;
 use crate::columns::LASTS_3;
+use crate::columns::LAST_STARTS;
 use crate::columns::LOWESTS;
 use crate::columns::NUMBERS;
 use crate::columns::OFFSETS;
@@ -22,7 +24,7 @@ ghost use mathlib.Core.Path.{_≡_};
 ghost use Prim.Native.Nat.{_<_};
 ghost use lib.ListN.{getD};
 ghost use Rattle.rows.specs.Rows.{rows, blank};
-ghost use Rattle.rows.specs.Widths.{widthsOf};
+ghost use Rattle.rows.specs.Widths.{widthsOf, lastStartsOf};
 
 fn wide(bits: u8) -> u32
     ensures { λ r. ⌜ r ≡ bits ⌝ }
@@ -35,6 +37,13 @@ pub fn widths() -> [u8; 199]
     ensures { λ r. ⌜ r ≡ widthsOf rows ⌝ }
 {
     BITS
+}
+
+// The last start of each row: the highest at which a signal of its bits ends within a frame.
+pub fn last_starts() -> [u8; 199]
+    ensures { λ r. ⌜ r ≡ lastStartsOf rows ⌝ }
+{
+    LAST_STARTS
 }
 
 // The row at a place, of 199.
