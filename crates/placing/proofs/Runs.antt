@@ -74,3 +74,9 @@ run-bits s b g k = ap (λ (n : ℕ). bit n k) value ∙ at (ltb k s) refl
         let d : s + (k - s) ≡ k = omega arith in
         subst (λ (n : ℕ). bit ((2 ^ b - 1) * 2 ^ s) n ≡ leb s k && ltb k (s + b)) d
         (shifted-at (2 ^ b - 1) s (k - s) ∙ ones b (k - s) ∙ past (ltb (k - s) b) refl l ∙ rw (le-leb s k l))
+
+-- as many as a word has from bit l on
+pub run-up-to-bits : (s l : ℕ) → s ≤ l → l < width → (k : ℕ) → bit ((2 ^ 64 - 1) / 2 ^ l * 2 ^ s % 2 ^ 64) k ≡ inRun s (64 - l) k
+run-up-to-bits s l h g k =
+    let e : l ≡ 64 - (64 - l) = omega (arith, g) in
+    ap (λ (n : ℕ). bit ((2 ^ 64 - 1) / 2 ^ n * 2 ^ s % 2 ^ 64) k) e ∙ run-bits s (64 - l) (omega (arith, h, g)) k

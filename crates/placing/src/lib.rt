@@ -2,14 +2,14 @@
 ghost use mathlib.Core.Path.{_≡_};
 ghost use mathlib.Core.Bool.{Bool};
 ghost use mathlib.Core.List.{List};
-ghost use Prim.Native.Nat.{ℕ, _≤_, _<_};
+ghost use Prim.Native.Nat.{ℕ, _-_, _≤_, _<_};
 ghost use lib.ListN.{length};
 ghost use Rattle.rows.specs.Rule.{mostBits};
 ghost use Rattle.catalogue.specs.Find.{bitsOf};
-ghost use Rattle.catalogue.specs.Places.{TableColumns};
+ghost use Rattle.catalogue.specs.Places.{StartColumns};
 ghost use Rattle.books.specs.Belonging.{inRun};
 ghost use Rattle.books.specs.Book.{placement};
-ghost use Rattle.books.specs.Lines.{isIn, misplaced};
+ghost use Rattle.books.specs.Lines.{isIn, misplaced, frameBits};
 ghost use Rattle.books.specs.Words.{sideBySide};
 ghost use Rattle.masks.specs.Bit.{bit};
 ghost use Rattle.placing.specs.Placing.{standsAlone, FrameRoom};
@@ -27,8 +27,8 @@ const FRAME_BITS: u32 = 64;
 // Ones in every bit of a frame.
 const ALL_BITS: u64 = 0xffff_ffff_ffff_ffff;
 
-// The bits of the two signals that have a start of their own.
-const FIXED_BITS: u32 = 4;
+// The last start that their four bits leave the two signals that have a start of their own.
+const FIXED_LAST: u32 = 60;
 
 // How many marks there are, by which numbers are told apart quickly: as many as a mask has.
 const MARKS: u32 = masks::WIDTH as u32;
@@ -50,21 +50,22 @@ pub fn is_misplaced(number: u32, start: u32, bits: u32) -> bool
     false
 }
 
-fn wide(bits: u8) -> u32
-    ensures { λ r. ⌜ r ≡ bits ⌝ }
+fn wide(last: u8) -> u32
+    ensures { λ r. ⌜ r ≡ last ⌝ }
 {
-    bits as u32
+    last as u32
 }
 
-// Whether a signal with so many bits stands where it may with a start, by itself. Only signals of four bits have a start of their own.
-fn stands_alone(number: u32, start: u32, bits: u32) -> bool
-    requires { ⌜ (0 < bits) × (bits ≡ bitsOf number) ⌝ }
+// Whether a signal stands where it may with a start, by itself: its bits leave it starts up to `last`. Only signals of four bits have a
+// start of their own.
+fn stands_alone(number: u32, start: u32, last: u32) -> bool
+    requires { ⌜ (0 < frameBits - last) × (frameBits - last ≡ bitsOf number) ⌝ }
     ensures { λ r. ⌜ r ≡ standsAlone (placement number start) ⌝ }
 {
-    if start > FRAME_BITS - bits {
+    if start > last {
         return false;
     }
-    if bits == FIXED_BITS {
+    if last == FIXED_LAST {
         if number == CHECKSUM {
             return start == CHECKSUM_START;
         }
@@ -81,6 +82,14 @@ pub fn run(start: u32, bits: u32) -> u64
     ensures { λ r. ⌜ ((k : ℕ) → bit r k ≡ inRun start bits k) ⌝ }
 {
     (ALL_BITS >> (FRAME_BITS - bits)) << start
+}
+
+// The same by the last start that its bits leave it: they are as many as a frame has from there on.
+fn run_up_to(start: u32, last: u32) -> u64
+    requires { ⌜ (start ≤ last) × (last < frameBits) ⌝ }
+    ensures { λ r. ⌜ ((k : ℕ) → bit r k ≡ inRun start (frameBits - last) k) ⌝ }
+{
+    (ALL_BITS >> last) << start
 }
 
 // What the signals of a message fill: a mask of their frame bits, and one of their numbers' marks.
@@ -127,11 +136,11 @@ pub fn well_placed(
     starts: &[u32],
     above: &[u32],
     ends: &[u8],
-    widths: &[u8],
+    lasts: &[u8],
     stamps: &mut [u8],
     stamp: u8,
 ) -> bool
-    requires { ⌜ (length (now numbers) ≤ signalLimit) × (length (now starts) ≡ length (now numbers)) × TableColumns (now above) (now ends) (now widths) × Below (now stamps) stamp ⌝ }
+    requires { ⌜ (length (now numbers) ≤ signalLimit) × (length (now starts) ≡ length (now numbers)) × StartColumns (now above) (now ends) (now lasts) × Below (now stamps) stamp ⌝ }
     ensures { λ r. ⌜ _≡_ {A = Bool × List ℕ} (r, now (stamps .exit)) (stampedTest (sideBySide (now (numbers .entry)) (now (starts .entry))) stamp (now (stamps .entry))) ⌝ }
 {
     let mut filled: u64 = 0;
@@ -143,11 +152,11 @@ pub fn well_placed(
         let Place::At(place) = catalogue::place_of(number, above, ends) else {
             return false;
         };
-        let bits = wide(widths[place]);
-        if !stands_alone(number, start, bits) {
+        let last = wide(lasts[place]);
+        if !stands_alone(number, start, last) {
             return false;
         }
-        let here = run(start, bits);
+        let here = run_up_to(start, last);
         if masks::meet(filled, here) {
             return false;
         }

@@ -5,7 +5,7 @@ ghost use Prim.Native.Nat.{_+_, _≤_, _<_};
 ghost use lib.ListN.{length, drop};
 ghost use Rattle.books.specs.Words.{sideBySide, messagesTaken};
 ghost use Rattle.books.specs.Lines.{messageLimit, signalLimit};
-ghost use Rattle.catalogue.specs.Places.{TableColumns};
+ghost use Rattle.catalogue.specs.Places.{StartColumns};
 ghost use Rattle.placing.specs.Stamps.{Below};
 ghost use Rattle.zeros.specs.Zeros.{zeros};
 ghost use Rattle.tables.specs.Testing.{parted};
@@ -45,10 +45,10 @@ fn well_parted(
     starts: &[u32],
     above: &[u32],
     bounds: &[u8],
-    widths: &[u8],
+    lasts: &[u8],
     stamps: &mut [u8],
 ) -> bool
-    requires { ⌜ (length (now starts) ≡ length (now numbers)) × (length (now numbers) ≤ signalLimit) × (length (now ends) ≤ messageLimit) × TableColumns (now above) (now bounds) (now widths) × Below (now stamps) 1 ⌝ }
+    requires { ⌜ (length (now starts) ≡ length (now numbers)) × (length (now numbers) ≤ signalLimit) × (length (now ends) ≤ messageLimit) × StartColumns (now above) (now bounds) (now lasts) × Below (now stamps) 1 ⌝ }
     ensures { λ r. ⌜ r ≡ parted 0 (now (ends .entry)) (sideBySide (now (numbers .entry)) (now (starts .entry))) ⌝ }
 {
     let mut begin: usize = 0;
@@ -67,7 +67,7 @@ fn well_parted(
             columns::part(starts, begin, end),
             above,
             bounds,
-            widths,
+            lasts,
             stamps,
             stamp_of(at),
         ) {
@@ -107,7 +107,7 @@ pub fn messages_taken(book: &[u32; BOOK_WORDS]) -> bool
     }
     let above = catalogue::surpluses();
     let bounds = catalogue::bounds();
-    let widths = rows::widths();
+    let lasts = rows::last_starts();
     let mut stamps = [0u8; catalogue::PLACES];
     well_parted(
         record::first(ends, messages),
@@ -115,7 +115,7 @@ pub fn messages_taken(book: &[u32; BOOK_WORDS]) -> bool
         record::first(starts, signals),
         &above,
         &bounds,
-        &widths,
+        &lasts,
         &mut stamps,
     )
 }

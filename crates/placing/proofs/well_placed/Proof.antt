@@ -4,7 +4,8 @@ use Prim.Native.Nat.{_+_}
 use native.Mathlib.Omega.{arith}
 use borrow.Author.Tests.{not-true, not-false}
 use lib.ListN.{length}
-use Rattle.catalogue.proofs.Placed.{at-place, nowhere, in-widths, its-bits, has-some}
+use Rattle.catalogue.proofs.Placed.{at-place, nowhere}
+use Rattle.catalogue.proofs.LastStarts.{in-lasts, bits-from-last, last-inside}
 use borrow.Author.Needs.{needs}
 use Rattle.columns.proofs.Counting.{within, past}
 use Rattle.placing.proofs.Placing.{alone-room}
@@ -17,15 +18,15 @@ use Rattle.catalogue.proofs.place_of.Reads as place-of-reads
 use Rattle.columns.proofs.length_of.Reads as length-of-reads
 use Rattle.masks.proofs.either.Reads as either-reads
 use Rattle.masks.proofs.meet.Reads as meet-reads
-use Rattle.placing.proofs.run.Reads as run-reads
+use Rattle.placing.proofs.run_up_to.Reads as run-up-to-reads
 use Rattle.placing.proofs.stands_alone.Reads as stands-alone-reads
 use Rattle.placing.proofs.wide.Reads as wide-reads
 
 abbrev Inv-loop : tie.InvT-loop
-Inv-loop numbers starts above ends widths stamps₀ stamp filled₀ left₀ at₀ stamps filled left at = Passed numbers starts stamps₀ filled stamps stamp at × (at + left ≡ length numbers)
+Inv-loop numbers starts above ends lasts stamps₀ stamp filled₀ left₀ at₀ stamps filled left at = Passed numbers starts stamps₀ filled stamps stamp at × (at + left ≡ length numbers)
 
 abbrev μ-loop : tie.MeasureT-loop
-μ-loop numbers starts above ends widths stamps₀ stamp filled₀ left₀ at₀ stamps filled left at = left
+μ-loop numbers starts above ends lasts stamps₀ stamp filled₀ left₀ at₀ stamps filled left at = left
 
 length-of-requires : tie.Need-length-of-requires Inv-loop μ-loop
 length-of-requires c κs = search needs
@@ -61,13 +62,13 @@ returns : tie.Need-returns Inv-loop μ-loop
 returns c = refuse-unknown _ _ _ _ _ _ _ (c .before .before .before .before .before .before .before .before .before .before .before .before .before .before .pre .1) (c .before .before .before .before .before .before .loop .inv .0) (within (c .before .before .before .before .before .before .loop .inv .1) (c .before .before .before .before .before .loop-test .taken)) (nowhere _ _ (c .before .before .place-of .ensures) (c .enum-told .given .1))
 
 shared-slice-read-wide : tie.Need-shared-slice-read-wide Inv-loop μ-loop
-shared-slice-read-wide c = in-widths _ _ _ (c .before .before .before .before .before .before .before .before .before .before .before .before .before .before .before .before .pre .2 .bits) (at-place _ _ _ (c .before .before .before .before .place-of .ensures) (c .before .before .place .given .1))
+shared-slice-read-wide c = in-lasts _ _ _ (c .before .before .before .before .before .before .before .before .before .before .before .before .before .before .before .before .pre .2 .lasts) (at-place _ _ _ (c .before .before .before .before .place-of .ensures) (c .before .before .place .given .1))
 
 wide-requires : tie.Need-wide-requires Inv-loop μ-loop
 wide-requires c κs = search needs
 
 stands-alone-requires : tie.Need-stands-alone-requires Inv-loop μ-loop
-stands-alone-requires c κs = (has-some _ _ _ (c .before .before .before .before .before .before .before .before .before .before .before .before .before .before .before .before .before .pre .2 .bits) (at-place _ _ _ (c .before .before .before .before .before .place-of .ensures) (c .before .before .before .place .given .1)) _ (c .wide .ensures), (its-bits _ _ _ (c .before .before .before .before .before .before .before .before .before .before .before .before .before .before .before .before .before .pre .2 .bits) (at-place _ _ _ (c .before .before .before .before .before .place-of .ensures) (c .before .before .before .place .given .1)) _ (c .wide .ensures)))
+stands-alone-requires c κs = (omega (arith, last-inside _ _ _ (c .before .before .before .before .before .before .before .before .before .before .before .before .before .before .before .before .before .pre .2 .lasts) (at-place _ _ _ (c .before .before .before .before .before .place-of .ensures) (c .before .before .before .place .given .1)) _ (c .wide .ensures)), (bits-from-last _ _ _ (c .before .before .before .before .before .before .before .before .before .before .before .before .before .before .before .before .before .pre .2 .lasts) (at-place _ _ _ (c .before .before .before .before .before .place-of .ensures) (c .before .before .before .place .given .1)) _ (c .wide .ensures)))
 
 same-length-2 : tie.Need-same-length-2 Inv-loop μ-loop
 same-length-2 c = simp (c .before .before .before .before .before .before .before .before .before .before .before .loop .inv .0 .below .each, c .before .before .before .before .before .before .before .before .before .before .before .before .before .before .before .before .before .before .before .pre .3 .each)
@@ -75,8 +76,8 @@ same-length-2 c = simp (c .before .before .before .before .before .before .befor
 returns-2 : tie.Need-returns-2 Inv-loop μ-loop
 returns-2 c = refuse-alone _ _ _ _ _ _ _ (c .before .before .before .before .before .before .before .before .before .before .before .before .before .before .before .before .before .before .before .pre .1) (c .before .before .before .before .before .before .before .before .before .before .before .loop .inv .0) (within (c .before .before .before .before .before .before .before .before .before .before .before .loop .inv .1) (c .before .before .before .before .before .before .before .before .before .before .loop-test .taken)) (sym (c .before .stands-alone .ensures) ∙ not-true _ (c .if1 .taken))
 
-run-requires : tie.Need-run-requires Inv-loop μ-loop
-run-requires c κs = alone-room _ _ _ (its-bits _ _ _ (c .before .before .before .before .before .before .before .before .before .before .before .before .before .before .before .before .before .before .before .pre .2 .bits) (at-place _ _ _ (c .before .before .before .before .before .before .before .place-of .ensures) (c .before .before .before .before .before .place .given .1)) _ (c .before .before .wide .ensures)) (sym (c .before .stands-alone .ensures) ∙ not-false _ (c .if1 .left))
+run-up-to-requires : tie.Need-run-up-to-requires Inv-loop μ-loop
+run-up-to-requires c κs = (let room = alone-room _ _ _ (bits-from-last _ _ _ (c .before .before .before .before .before .before .before .before .before .before .before .before .before .before .before .before .before .before .before .pre .2 .lasts) (at-place _ _ _ (c .before .before .before .before .before .before .before .place-of .ensures) (c .before .before .before .before .before .place .given .1)) _ (c .before .before .wide .ensures)) (sym (c .before .stands-alone .ensures) ∙ not-false _ (c .if1 .left)) in omega (arith, room .to, last-inside _ _ _ (c .before .before .before .before .before .before .before .before .before .before .before .before .before .before .before .before .before .before .before .pre .2 .lasts) (at-place _ _ _ (c .before .before .before .before .before .before .before .place-of .ensures) (c .before .before .before .before .before .place .given .1)) _ (c .before .before .wide .ensures)), last-inside _ _ _ (c .before .before .before .before .before .before .before .before .before .before .before .before .before .before .before .before .before .before .before .pre .2 .lasts) (at-place _ _ _ (c .before .before .before .before .before .before .before .place-of .ensures) (c .before .before .before .before .before .place .given .1)) _ (c .before .before .wide .ensures))
 
 meet-requires : tie.Need-meet-requires Inv-loop μ-loop
 meet-requires c κs = search needs
@@ -85,7 +86,7 @@ same-length-3 : tie.Need-same-length-3 Inv-loop μ-loop
 same-length-3 c = simp (c .before .before .before .before .before .before .before .before .before .before .before .before .before .before .loop .inv .0 .below .each, c .before .before .before .before .before .before .before .before .before .before .before .before .before .before .before .before .before .before .before .before .before .before .pre .3 .each)
 
 returns-3 : tie.Need-returns-3 Inv-loop μ-loop
-returns-3 c = refuse-meeting _ _ _ _ _ _ _ (c .before .before .before .before .before .before .before .before .before .before .before .before .before .before .before .before .before .before .before .before .before .before .pre .1) (c .before .before .before .before .before .before .before .before .before .before .before .before .before .before .loop .inv .0) (within (c .before .before .before .before .before .before .before .before .before .before .before .before .before .before .loop .inv .1) (c .before .before .before .before .before .before .before .before .before .before .before .before .before .loop-test .taken)) _ (at-place _ _ _ (c .before .before .before .before .before .before .before .before .before .before .place-of .ensures) (c .before .before .before .before .before .before .before .before .place .given .1)) (sym (c .before .before .before .before .stands-alone .ensures) ∙ not-false _ (c .before .before .before .if1 .left)) _ (c .before .before .run .result) (its-bits _ _ _ (c .before .before .before .before .before .before .before .before .before .before .before .before .before .before .before .before .before .before .before .before .before .before .pre .2 .bits) (at-place _ _ _ (c .before .before .before .before .before .before .before .before .before .before .place-of .ensures) (c .before .before .before .before .before .before .before .before .place .given .1)) _ (c .before .before .before .before .before .wide .ensures)) (c .before .before .run .ensures) (sym (c .before .meet .ensures) ∙ c .if2 .taken)
+returns-3 c = refuse-meeting _ _ _ _ _ _ _ (c .before .before .before .before .before .before .before .before .before .before .before .before .before .before .before .before .before .before .before .before .before .before .pre .1) (c .before .before .before .before .before .before .before .before .before .before .before .before .before .before .loop .inv .0) (within (c .before .before .before .before .before .before .before .before .before .before .before .before .before .before .loop .inv .1) (c .before .before .before .before .before .before .before .before .before .before .before .before .before .loop-test .taken)) _ (at-place _ _ _ (c .before .before .before .before .before .before .before .before .before .before .place-of .ensures) (c .before .before .before .before .before .before .before .before .place .given .1)) (sym (c .before .before .before .before .stands-alone .ensures) ∙ not-false _ (c .before .before .before .if1 .left)) _ (c .before .before .run-up-to .result) (bits-from-last _ _ _ (c .before .before .before .before .before .before .before .before .before .before .before .before .before .before .before .before .before .before .before .before .before .before .pre .2 .lasts) (at-place _ _ _ (c .before .before .before .before .before .before .before .before .before .before .place-of .ensures) (c .before .before .before .before .before .before .before .before .place .given .1)) _ (c .before .before .before .before .before .wide .ensures)) (c .before .before .run-up-to .ensures) (sym (c .before .meet .ensures) ∙ c .if2 .taken)
 
 slice-read-if3 : tie.Need-slice-read-if3 Inv-loop μ-loop
 slice-read-if3 c = omega (arith, c .before .before .before .before .before .before .before .before .before .before .before .before .before .before .before .loop .inv .0 .below .each, (at-place _ _ _ (c .before .before .before .before .before .before .before .before .before .before .before .place-of .ensures) (c .before .before .before .before .before .before .before .before .before .place .given .1)) .1)
@@ -112,7 +113,7 @@ loop-less : tie.Need-loop-less Inv-loop μ-loop
 loop-less c = omega arith
 
 loop-again : tie.Need-loop-again Inv-loop μ-loop
-loop-again c = (next _ _ _ _ _ _ _ (c .before .before .before .before .before .before .before .before .before .before .before .before .before .before .before .before .before .before .before .before .before .before .before .before .before .pre .1) (c .before .before .before .before .before .before .before .before .before .before .before .before .before .before .before .before .before .loop .inv .0) (within (c .before .before .before .before .before .before .before .before .before .before .before .before .before .before .before .before .before .loop .inv .1) (c .before .before .before .before .before .before .before .before .before .before .before .before .before .before .before .before .loop-test .taken)) _ (at-place _ _ _ (c .before .before .before .before .before .before .before .before .before .before .before .before .before .place-of .ensures) (c .before .before .before .before .before .before .before .before .before .before .before .place .given .1)) (sym (c .before .before .before .before .before .before .before .stands-alone .ensures) ∙ not-false _ (c .before .before .before .before .before .before .if1 .left)) _ (c .before .before .before .before .before .run .result) (its-bits _ _ _ (c .before .before .before .before .before .before .before .before .before .before .before .before .before .before .before .before .before .before .before .before .before .before .before .before .before .pre .2 .bits) (at-place _ _ _ (c .before .before .before .before .before .before .before .before .before .before .before .before .before .place-of .ensures) (c .before .before .before .before .before .before .before .before .before .before .before .place .given .1)) _ (c .before .before .before .before .before .before .before .before .wide .ensures)) (c .before .before .before .before .before .run .ensures) (sym (c .before .before .before .before .meet .ensures) ∙ c .before .before .before .if2 .left) (c .before .if3 .left) _ (c .either .ensures), omega (arith, c .before .before .before .before .before .before .before .before .before .before .before .before .before .before .before .before .before .loop .inv .1, c .before .before .before .before .before .before .before .before .before .before .before .before .before .before .before .before .loop-test .taken))
+loop-again c = (next _ _ _ _ _ _ _ (c .before .before .before .before .before .before .before .before .before .before .before .before .before .before .before .before .before .before .before .before .before .before .before .before .before .pre .1) (c .before .before .before .before .before .before .before .before .before .before .before .before .before .before .before .before .before .loop .inv .0) (within (c .before .before .before .before .before .before .before .before .before .before .before .before .before .before .before .before .before .loop .inv .1) (c .before .before .before .before .before .before .before .before .before .before .before .before .before .before .before .before .loop-test .taken)) _ (at-place _ _ _ (c .before .before .before .before .before .before .before .before .before .before .before .before .before .place-of .ensures) (c .before .before .before .before .before .before .before .before .before .before .before .place .given .1)) (sym (c .before .before .before .before .before .before .before .stands-alone .ensures) ∙ not-false _ (c .before .before .before .before .before .before .if1 .left)) _ (c .before .before .before .before .before .run-up-to .result) (bits-from-last _ _ _ (c .before .before .before .before .before .before .before .before .before .before .before .before .before .before .before .before .before .before .before .before .before .before .before .before .before .pre .2 .lasts) (at-place _ _ _ (c .before .before .before .before .before .before .before .before .before .before .before .before .before .place-of .ensures) (c .before .before .before .before .before .before .before .before .before .before .before .place .given .1)) _ (c .before .before .before .before .before .before .before .before .wide .ensures)) (c .before .before .before .before .before .run-up-to .ensures) (sym (c .before .before .before .before .meet .ensures) ∙ c .before .before .before .if2 .left) (c .before .if3 .left) _ (c .either .ensures), omega (arith, c .before .before .before .before .before .before .before .before .before .before .before .before .before .before .before .before .before .loop .inv .1, c .before .before .before .before .before .before .before .before .before .before .before .before .before .before .before .before .loop-test .taken))
 
 same-length-5 : tie.Need-same-length-5 Inv-loop μ-loop
 same-length-5 c = simp (c .before .loop .inv .0 .below .each, c .before .before .before .before .before .before .before .before .before .pre .3 .each)
@@ -142,7 +143,7 @@ well-placed-spec =
     stands-alone-requires
     same-length-2
     returns-2
-    run-requires
+    run-up-to-requires
     meet-requires
     same-length-3
     returns-3

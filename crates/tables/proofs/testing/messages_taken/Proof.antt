@@ -25,7 +25,7 @@ use Rattle.record.proofs.numbers.Reads as numbers-reads
 use Rattle.record.proofs.signal_count.Reads as signal-count-reads
 use Rattle.record.proofs.starts.Reads as starts-reads
 use Rattle.record.proofs.wide.Reads as wide-reads
-use Rattle.rows.proofs.widths.Reads as widths-reads
+use Rattle.rows.proofs.last_starts.Reads as last-starts-reads
 use Rattle.tables.proofs.testing.rests_zero.Reads as rests-zero-reads
 use Rattle.tables.proofs.testing.well_parted.Reads as well-parted-reads
 
@@ -90,8 +90,8 @@ surpluses-requires c κs = search needs
 bounds-requires : tie.Need-bounds-requires
 bounds-requires c κs = search needs
 
-widths-requires : tie.Need-widths-requires
-widths-requires c κs = search needs
+last-starts-requires : tie.Need-last-starts-requires
+last-starts-requires c κs = search needs
 
 first-requires-2 : tie.Need-first-requires-2
 first-requires-2 c κs = search needs
@@ -115,7 +115,7 @@ slice-aggregate-well-parted-4 : tie.Need-slice-aggregate-well-parted-4
 slice-aggregate-well-parted-4 c = search needs
 
 well-parted-requires : tie.Need-well-parted-requires
-well-parted-requires c κs = (omega (arith, c .before .before .before .before .before .first3 .ensures .1, c .before .before .before .before .first4 .ensures .1), omega (arith, c .before .before .before .before .before .first3 .ensures .1, c .before .before .before .before .before .before .before .before .before .before .before .before .before .before .before .before .before .before .before .before .before .if2 .left), omega (arith, c .before .before .before .before .before .before .first2 .ensures .1, c .before .before .before .before .before .before .before .before .before .before .before .before .before .before .before .before .before .before .before .before .before .before .before .before .if1 .left), record { places = (c .before .before .before .before .before .before .before .before .before .surpluses .ensures, c .before .before .before .before .before .before .before .before .bounds .ensures); bits = c .before .before .before .before .before .before .before .widths .ensures }, no-stamps)
+well-parted-requires c κs = (omega (arith, c .before .before .before .before .before .first3 .ensures .1, c .before .before .before .before .first4 .ensures .1), omega (arith, c .before .before .before .before .before .first3 .ensures .1, c .before .before .before .before .before .before .before .before .before .before .before .before .before .before .before .before .before .before .before .before .before .if2 .left), omega (arith, c .before .before .before .before .before .before .first2 .ensures .1, c .before .before .before .before .before .before .before .before .before .before .before .before .before .before .before .before .before .before .before .before .before .before .before .before .if1 .left), record { places = (c .before .before .before .before .before .before .before .before .before .surpluses .ensures, c .before .before .before .before .before .before .before .before .bounds .ensures); lasts = c .before .before .before .before .before .before .before .last-starts .ensures }, no-stamps)
 
 returns-6 : tie.Need-returns-6
 returns-6 c = c .before .well-parted .ensures ∙ last-part _ _ _ _ _ _ _ (c .before .before .before .before .before .before .before .before .before .before .before .before .before .before .before .before .before .before .before .before .before .before .before .before .before .before .before .wide .ensures ∙ c .before .before .before .before .before .before .before .before .before .before .before .before .before .before .before .before .before .before .before .before .before .before .before .before .before .before .before .before .message-count .ensures) (c .before .before .before .before .before .before .before .before .before .before .before .before .before .before .before .before .before .before .before .before .before .before .before .before .wide2 .ensures ∙ c .before .before .before .before .before .before .before .before .before .before .before .before .before .before .before .before .before .before .before .before .before .before .before .before .before .signal-count .ensures) (c .before .before .before .before .before .before .before .before .before .before .before .before .before .before .before .before .before .before .before .before .before .before .ids .ensures .0) (c .before .before .before .before .before .before .before .before .before .before .before .before .before .before .before .before .before .before .before .before .before .ends .ensures .0) (c .before .before .before .before .before .before .before .before .before .before .before .before .before .before .before .before .before .before .numbers .ensures .0) (c .before .before .before .before .before .before .before .before .before .before .before .before .before .before .before .before .before .starts .ensures .0) (c .before .before .before .before .before .before .before .before .before .before .before .before .before .before .before .before .before .before .before .before .before .before .ids .ensures .1) (c .before .before .before .before .before .before .before .before .before .before .before .before .before .before .before .before .before .before .before .before .before .ends .ensures .1) (c .before .before .before .before .before .before .before .before .before .before .before .before .before .before .before .before .before .before .numbers .ensures .1) (c .before .before .before .before .before .before .before .before .before .before .before .before .before .before .before .before .before .starts .ensures .1) (c .before .before .before .before .before .before .before .before .before .before .before .before .before .before .before .before .before .before .before .before .before .before .before .before .before .before .if1 .left) (c .before .before .before .before .before .before .before .before .before .before .before .before .before .before .before .before .before .before .before .before .before .before .before .if2 .left) (sym (c .before .before .before .before .before .before .before .before .before .before .before .before .before .before .before .before .before .before .before .before .rests-zero .ensures) ∙ not-false _ (c .before .before .before .before .before .before .before .before .before .before .before .before .before .before .before .before .before .before .before .if3 .left)) (sym (c .before .before .before .before .before .before .before .before .before .before .before .before .before .before .before .before .rests-zero2 .ensures) ∙ not-false _ (c .before .before .before .before .before .before .before .before .before .before .before .before .before .before .before .if4 .left)) (sym (c .before .before .before .before .before .before .before .before .before .before .before .before .before .distinct .ensures ∙ ap (distinctAfter []) (c .before .before .before .before .before .before .before .before .before .before .before .before .before .before .first .ensures .0)) ∙ not-false _ (c .before .before .before .before .before .before .before .before .before .before .before .before .if5 .left)) _ _ _ (c .before .before .before .before .before .before .before .before .first2 .ensures .0) (c .before .before .before .before .before .before .before .first3 .ensures .0) (c .before .before .before .before .before .before .first4 .ensures .0)
@@ -143,7 +143,7 @@ messages-taken-spec =
     returns-5
     surpluses-requires
     bounds-requires
-    widths-requires
+    last-starts-requires
     first-requires-2
     first-requires-3
     first-requires-4

@@ -20,10 +20,10 @@ use Rattle.record.proofs.wide.Reads as wide-reads
 use Rattle.tables.proofs.testing.stamp_of.Reads as stamp-of-reads
 
 abbrev Inv-loop : tie.InvT-loop
-Inv-loop ends numbers starts above bounds widths stamps₀ begin₀ left₀ at₀ stamps begin left at = Reached ends numbers starts begin at × Below stamps (at + 1) × (at + left ≡ length ends)
+Inv-loop ends numbers starts above bounds lasts stamps₀ begin₀ left₀ at₀ stamps begin left at = Reached ends numbers starts begin at × Below stamps (at + 1) × (at + left ≡ length ends)
 
 abbrev μ-loop : tie.MeasureT-loop
-μ-loop ends numbers starts above bounds widths stamps₀ begin₀ left₀ at₀ stamps begin left at = left
+μ-loop ends numbers starts above bounds lasts stamps₀ begin₀ left₀ at₀ stamps begin left at = left
 
 length-of-requires : tie.Need-length-of-requires Inv-loop μ-loop
 length-of-requires c κs = omega (arith, c .before .before .before .before .before .before .before .pre .2)
