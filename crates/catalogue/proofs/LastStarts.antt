@@ -24,12 +24,8 @@ module _ (lasts : List ℕ) (n p : ℕ) (column : lasts ≡ lastStartsOf rows) (
   there : getD lasts p 0 ≡ 64 - bitsOf n
   there = rw column (last-at rows p (subst (λ (k : ℕ). p < k) (sym long) (place .1)) ∙ ap (λ (b : ℕ). 64 - b) (ap (λ (q : ℕ). getD (widthsOf rows) q 0) (place .0) ∙ bits-there n))
 
-  pub some-bits : 0 < bitsOf n
+  some-bits : 0 < bitsOf n
   some-bits = has-some (widthsOf rows) n p refl place (bitsOf n) (sym (ap (λ (q : ℕ). getD (widthsOf rows) q 0) (place .0) ∙ bits-there n))
 
-  module _ (last : ℕ) (e : last ≡ getD lasts p 0) where
-    pub bits-from-last : 64 - last ≡ bitsOf n
-    bits-from-last = omega (arith, e, there, few-bits n)
-
-    pub last-inside : last < 64
-    last-inside = omega (arith, e, there, some-bits)
+  pub its-last : (last : ℕ) → last ≡ getD lasts p 0 → (last < 64) × (64 - last ≡ bitsOf n)
+  its-last last e = (omega (arith, e, there, some-bits), omega (arith, e, there, few-bits n))

@@ -24,6 +24,13 @@ placeOf n = placeIn n rows
 abbrev pub noPlace : ℕ
 noPlace = 199
 
+-- the places of the checksum, 503, and of the counter, 504
+abbrev pub checksumPlace : ℕ
+checksumPlace = 49
+
+abbrev pub counterPlace : ℕ
+counterPlace = 50
+
 -- what is found by the number n: the place of that signal, or nothing where the catalogue has no such signal
 abbrev pub Placed : ℕ → Place → Type 0
 Placed n (At p) = (p ≡ placeOf n) × (p < noPlace)

@@ -11,6 +11,8 @@ mod widths;
 
 pub use by_shape::class_of;
 pub use by_shape::cut_of;
+pub use places::CHECKSUM_PLACE;
+pub use places::COUNTER_PLACE;
 pub use places::HUNDREDS;
 pub use places::PLACES;
 pub use places::Place;

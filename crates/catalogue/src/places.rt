@@ -11,6 +11,11 @@ pub const HUNDREDS: usize = 20;
 // How many places there are.
 pub const PLACES: usize = 199;
 
+// The places of the checksum, 503, and of the counter, 504: the two signals that have a start of their own.
+pub const CHECKSUM_PLACE: usize = 49;
+
+pub const COUNTER_PLACE: usize = 50;
+
 const NUMBER_LIMIT: u32 = 2000;
 
 // What the numbers of a hundred's signals have more than their places.

@@ -2,6 +2,7 @@ pub mod Placing
 pub mod Runs
 pub mod Covering
 pub mod Marks
+pub mod Fixed
 pub mod Stamped
 pub mod Filling
 pub mod Signals

@@ -1,13 +1,12 @@
 -- One signal against its frame. Assumes nothing.
-use mathlib.Core.Path.{_≡_, refl, sym, ap, _∙_}
+use mathlib.Core.Path.{_≡_, sym, ap, _∙_}
 use mathlib.Core.Bool.{Bool, true, false, _||_, not, or-true, or-false, Bool·not-not}
 use Prim.Native.Nat.{ℕ, _+_, _-_, _≤_, _<_}
 use native.Mathlib.Nat.{pos-of-ne-zero}
 use native.Mathlib.Omega.{arith}
 use lib.Dec.{eqb, leb, ltb}
 use borrow.Author.Tests.{ne-eqb, eqb-false, lt-ltb, le-ltb, le-leb, lt-leb, leb-false, ltb-false}
-use Rattle.rows.specs.Rows.{rows}
-use Rattle.catalogue.specs.Find.{bitsOf, rowOf}
+use Rattle.catalogue.specs.Find.{bitsOf}
 use Rattle.catalogue.proofs.Found.{few-bits}
 use Rattle.books.specs.Book.{Placement, placement}
 use Rattle.books.specs.Fixed.{checksumNumber, checksumStart, counterNumber, counterStart}
@@ -69,14 +68,6 @@ alone-room n s b e h =
     record { from = leb-false _ _ (u .1); some = rw e (has-bits p h); few = omega (arith, e, few-bits n); to = not-past n s b e (a .1) }
 
 -- ---- a signal that has bits, by where they end and by the start of its own
-checksum-bits : bitsOf checksumNumber ≡ 4
-unfolding bitsOf rowOf rows
-checksum-bits = refl
-
-counter-bits : bitsOf counterNumber ≡ 4
-unfolding bitsOf rowOf rows
-counter-bits = refl
-
 module _ (n s b : ℕ) (known-bits : (0 < b) × (b ≡ bitsOf n)) where
   few : b ≤ frameBits
   few = omega (arith, known-bits .1, few-bits n)
@@ -104,6 +95,3 @@ module _ (n s b : ℕ) (known-bits : (0 < b) × (b ≡ bitsOf n)) where
 
     pub alone-free : (n ≡ checksumNumber → ⊥) → (n ≡ counterNumber → ⊥) → true ≡ standsAlone (placement n s)
     alone-free f g = sym (only-misplaced ∙ ap not (well-placed n s b (known-bits .1) inside f g))
-
-    pub alone-other : (b ≡ 4 → ⊥) → true ≡ standsAlone (placement n s)
-    alone-other f = alone-free (λ z. f (known-bits .1 ∙ ap bitsOf z ∙ checksum-bits)) (λ z. f (known-bits .1 ∙ ap bitsOf z ∙ counter-bits))

@@ -1,8 +1,8 @@
 -- The signals of a message, passed one after the other. Assumes nothing.
 use mathlib.Core.Path.{_≡_, refl, sym, ap, _∙_, subst}
-use mathlib.Core.Bool.{Bool, true, false, cond, _&&_, _||_, not}
+use mathlib.Core.Bool.{Bool, true, false, cond, _&&_, _||_, not, true≢false}
 use mathlib.Core.List.{List, [], _∷_, _++_}
-use Prim.Native.Nat.{ℕ, suc, _+_, _≤_, _<_}
+use Prim.Native.Nat.{ℕ, suc, _+_, _-_, _≤_, _<_}
 use native.Mathlib.Omega.{arith}
 use native.Mathlib.Numerals.{add-one}
 use lib.Dec.{eqb}
@@ -13,19 +13,19 @@ use Rattle.catalogue.specs.Find.{bitsOf}
 use Rattle.catalogue.specs.Places.{placeOf, noPlace}
 use Rattle.catalogue.proofs.Placed.{no-bits}
 use Rattle.books.specs.Book.{Placement, numbers, placement}
-use Rattle.books.specs.Lines.{isIn, unknownOrOver, misplaced, meetsEarlier}
+use Rattle.books.specs.Lines.{isIn, unknownOrOver, misplaced, meetsEarlier, frameBits}
 use Rattle.books.specs.Good.{fitsAfter, goodAfter}
-use Rattle.books.specs.Belonging.{inRun, bitBelongs, covers, HaveBits, none}
+use Rattle.books.specs.Belonging.{inRun, bitBelongs, covers}
 use Rattle.books.specs.Words.{sideBySide}
 use Rattle.books.proofs.Tests.{neither}
 use Rattle.books.proofs.Sides.{side-numbers}
-use Rattle.books.proofs.Meeting.{have-more}
 use Rattle.masks.specs.Bit.{bit, meeting}
 use Rattle.masks.proofs.Bits.{bit-zero}
 use Rattle.placing.specs.Placing.{standsAlone}
-use Rattle.placing.specs.Stamps.{Stamped, Below, stampedAfter, stampedTest}
-use Rattle.placing.proofs.Placing.{has-bits, unknown}
+use Rattle.placing.specs.Stamps.{fixedPlace, atFixedStart, fixedStamp, Stamped, Below, stampedAt, stampedAfter, stampedTest}
+use Rattle.placing.proofs.Placing.{alone-past, unknown}
 use Rattle.placing.proofs.Covering.{covers-none, covers-more, same-meeting}
+use Rattle.placing.proofs.Fixed.{EachAlone, no-signal, alone-more, alone-wide, fixed-there, fixed-alone, others-alone, again-meets}
 use Rattle.placing.proofs.Stamped.{stamped-none, stamped-more, below-next, below-more}
 
 -- the signals before `at`, and those from it on
@@ -83,7 +83,7 @@ module _ (others : List Placement) (p : Placement) where
 
 pub record Passed (ns ss lent : List ℕ) (filled : ℕ) (stamps : List ℕ) (stamp at : ℕ) : Type 0 where
   pub same : goodAfter (sideBySide (take at ns) (take at ss)) (sideBySide (drop at ns) (drop at ss)) ≡ goodAfter [] (sideBySide ns ss)
-  pub each-wide : HaveBits (sideBySide (take at ns) (take at ss))
+  pub alone : EachAlone (sideBySide (take at ns) (take at ss))
   pub bits : (k : ℕ) → bit filled k ≡ covers (sideBySide (take at ns) (take at ss)) k
   pub left : stampedAfter (sideBySide (take at ns) (take at ss)) (sideBySide (drop at ns) (drop at ss)) stamp stamps ≡ stampedAfter [] (sideBySide ns ss) stamp lent
   pub stamped : Stamped stamps stamp (take at ns)
@@ -93,7 +93,7 @@ pub begin : (ns ss stamps : List ℕ) (stamp : ℕ) → Below stamps stamp → P
 unfolding sideBySide
 begin ns ss stamps stamp b = record {
   same = refl;
-  each-wide = none;
+  alone = no-signal;
   bits = λ k. bit-zero k ∙ sym (covers-none k);
   left = refl;
   stamped = stamped-none stamps stamp b;
@@ -127,7 +127,7 @@ module _ (ns ss lent : List ℕ) (filled : ℕ) (stamps : List ℕ) (stamp at : 
     step = sym (ap (goodAfter (earlier ns ss at)) one) ∙ w .same
 
     further : List ℕ
-    further = stampedAfter (earlier ns ss at ++ (nth ns ss at ∷ [])) (later ns ss (at + 1)) stamp (set stamps (placeOf (getD ns at 0)) stamp)
+    further = stampedAfter (earlier ns ss at ++ (nth ns ss at ∷ [])) (later ns ss (at + 1)) stamp (stampedAt stamps (placeOf (getD ns at 0)) stamp)
 
     left-step : cond (fitsAfter (earlier ns ss at) (nth ns ss at)) further stamps ≡ stampedAfter [] (sideBySide ns ss) stamp lent
     unfolding stampedAfter further
@@ -142,9 +142,6 @@ module _ (ns ss lent : List ℕ) (filled : ℕ) (stamps : List ℕ) (stamp at : 
     listed : numbers (earlier ns ss at) ≡ take at ns
     listed = side-numbers (take at ns) (take at ss) long
 
-    among : isIn (getD ns at 0) (numbers (earlier ns ss at)) ≡ isIn (getD ns at 0) (take at ns)
-    among = ap (isIn (getD ns at 0)) listed
-
     pub refuse-alone : standsAlone (nth ns ss at) ≡ false → Answers false
     refuse-alone f = fail (not-alone (earlier ns ss at) (nth ns ss at) f)
 
@@ -152,41 +149,93 @@ module _ (ns ss lent : List ℕ) (filled : ℕ) (stamps : List ℕ) (stamp at : 
     pub refuse-unknown : placeOf (getD ns at 0) ≡ noPlace → Answers false
     refuse-unknown f = refuse-alone (ap (λ (t : Bool). not (t || misplaced (nth ns ss at))) (unknown (getD ns at 0) (getD ss at 0) (no-bits (getD ns at 0) f)))
 
-    module _ (p : ℕ) (place : (p ≡ placeOf (getD ns at 0)) × (p < noPlace)) where
-      known : eqb (getD stamps p 0) stamp ≡ isIn (getD ns at 0) (take at ns)
-      known = rw (place .0) (w .stamped (getD ns at 0) (subst (λ (q : ℕ). q < noPlace) (place .0) (place .1)))
+    module _ (p : ℕ) (place : (p ≡ placeOf (getD ns at 0)) × (p < noPlace)) (last : ℕ) (room : (last < 64) × (64 - last ≡ bitsOf (getD ns at 0))) where
+      known-bits : (0 < 64 - last) × (64 - last ≡ bitsOf (getD ns at 0))
+      known-bits = let l = room .0 in (omega arith, room .1)
 
-      pub refuse-again : getD stamps p 0 ≡ stamp → Answers false
-      refuse-again f = fail (not-new (earlier ns ss at) (nth ns ss at) (among ∙ sym known ∙ eq-eqb _ _ f))
+      pub refuse-over : last < getD ss at 0 → Answers false
+      refuse-over l = let i = room .0 in refuse-alone (sym (alone-past (getD ns at 0) (getD ss at 0) (64 - last) known-bits (omega arith)))
 
-      module _ (alone : standsAlone (nth ns ss at) ≡ true) (b run : ℕ) (eb : b ≡ bitsOf (getD ns at 0)) (inside : (k : ℕ) → bit run k ≡ inRun (getD ss at 0) b k) where
-        own : (k : ℕ) → bit run k ≡ bitBelongs (nth ns ss at) k
-        own k = inside k ∙ ap (λ (n : ℕ). inRun (getD ss at 0) n k) eb
+      module _ (g : getD ss at 0 ≤ last) where
+        inside : getD ss at 0 ≤ frameBits - (64 - last)
+        inside = let i = room .0 in omega arith
 
-        same-bits : meeting filled run ≡ meetsEarlier (earlier ns ss at) (nth ns ss at)
-        same-bits = same-meeting (earlier ns ss at) (nth ns ss at) filled run (w .bits) own (w .each-wide) (has-bits (nth ns ss at) alone)
+        there : placeOf (getD ns at 0) < noPlace
+        there = subst (λ (q : ℕ). q < noPlace) (place .0) (place .1)
 
-        pub refuse-meeting : meeting filled run ≡ true → Answers false
-        refuse-meeting f = fail (not-apart (earlier ns ss at) (nth ns ss at) (sym same-bits ∙ f))
+        told : fixedPlace p ≡ false → eqb (getD stamps p 0) stamp ≡ isIn (getD ns at 0) (numbers (earlier ns ss at))
+        told f =
+            ap (λ (q : ℕ). eqb (getD stamps q 0) stamp) (place .0)
+            ∙ w .stamped (getD ns at 0) there (ap fixedPlace (sym (place .0)) ∙ f)
+            ∙ sym (ap (isIn (getD ns at 0)) listed)
 
-        pub next : meeting filled run ≡ false → (getD stamps p 0 ≡ stamp → ⊥) → (more : ℕ) → ((k : ℕ) → bit more k ≡ bit filled k || bit run k)
-            → Passed ns ss lent more (set stamps p stamp) stamp (at + 1)
-        unfolding rest further
-        next m i more wider =
-            let passes = well (earlier ns ss at) (nth ns ss at) alone (among ∙ sym known ∙ ne-eqb _ _ i) (sym same-bits ∙ m) in
-            let gs : at < length ss = omega arith in
-            let longer : earlier ns ss (at + 1) ≡ earlier ns ss at ++ (nth ns ss at ∷ []) =
-            rw (add-one at, take-suc ns at 0 h, take-suc ss at 0 gs) (side-more (take at ns) (take at ss) (getD ns at 0) (getD ss at 0) long)
-            in
-            let there : placeOf (getD ns at 0) < noPlace = subst (λ (q : ℕ). q < noPlace) (place .0) (place .1) in
-            record {
-              same = ap (λ (l : List Placement). goodAfter l (later ns ss (at + 1))) longer ∙ sym (ap (λ (t : Bool). t && rest) passes) ∙ step;
-              each-wide = subst HaveBits (sym longer) (have-more (nth ns ss at) (w .each-wide) (has-bits (nth ns ss at) alone));
-              bits = λ k. wider k ∙ ap (λ (t : Bool). t || bit run k) (w .bits k) ∙ ap (λ (t : Bool). covers (earlier ns ss at) k || t) (own k) ∙
-                  sym (covers-more (earlier ns ss at) (nth ns ss at) k) ∙ ap (λ (l : List Placement). covers l k) (sym longer);
-              left = ap (λ (l : List Placement). stampedAfter l (later ns ss (at + 1)) stamp (set stamps p stamp)) longer ∙
-                  ap (λ (q : ℕ). stampedAfter (earlier ns ss at ++ (nth ns ss at ∷ [])) (later ns ss (at + 1)) stamp (set stamps q stamp)) (place .0) ∙
-                  sym (ap (λ (t : Bool). cond t further stamps) passes) ∙ left-step;
-              stamped = rw (place .0, add-one at, take-suc ns at 0 h) (stamped-more stamps stamp (take at ns) (getD ns at 0) (w .below .each) there (w .stamped));
-              below = below-more stamps stamp p (w .below);
-            }
+        fixed-told : fixedPlace p ≡ true → atFixedStart p (getD ss at 0) ≡ standsAlone (nth ns ss at)
+        fixed-told f =
+            ap (λ (q : ℕ). atFixedStart q (getD ss at 0)) (place .0)
+            ∙ fixed-alone (getD ns at 0) (getD ss at 0) (64 - last) known-bits inside (ap fixedPlace (sym (place .0)) ∙ f)
+
+        -- it stands where it may not, or comes again
+        pub refuse-again : stamp ≤ getD stamps p 0 → atFixedStart p (getD ss at 0) ≡ false → Answers false
+        refuse-again k f = go (fixedPlace p) refl
+          where
+            go : (t : Bool) → fixedPlace p ≡ t → Answers false
+            go true e = refuse-alone (sym (fixed-told e) ∙ f)
+            go false e = let l = w .below .below p e in fail (not-new (earlier ns ss at) (nth ns ss at) (sym (told e) ∙ eq-eqb (getD stamps p 0) stamp (omega (arith, k, l))))
+
+        module _ (run : ℕ) (filled-here : (k : ℕ) → bit run k ≡ inRun (getD ss at 0) (64 - last) k) where
+          own : (k : ℕ) → bit run k ≡ bitBelongs (nth ns ss at) k
+          own k = filled-here k ∙ ap (λ (n : ℕ). inRun (getD ss at 0) n k) (room .1)
+
+          same-bits : meeting filled run ≡ meetsEarlier (earlier ns ss at) (nth ns ss at)
+          same-bits = same-meeting (earlier ns ss at) (nth ns ss at) filled run (w .bits) own (alone-wide (w .alone)) (omega (arith, known-bits .0, known-bits .1))
+
+          pub refuse-meeting : meeting filled run ≡ true → Answers false
+          refuse-meeting f = fail (not-apart (earlier ns ss at) (nth ns ss at) (sym same-bits ∙ f))
+
+          module _ (apart : meeting filled run ≡ false) (more : ℕ) (wider : (k : ℕ) → bit more k ≡ bit filled k || bit run k) (stamps′ : List ℕ) where
+            next : standsAlone (nth ns ss at) ≡ true → isIn (getD ns at 0) (numbers (earlier ns ss at)) ≡ false → stamps′ ≡ stampedAt stamps (placeOf (getD ns at 0)) stamp
+                → Passed ns ss lent more stamps′ stamp (at + 1)
+            unfolding rest further
+            next alone new put =
+                let passes = well (earlier ns ss at) (nth ns ss at) alone new (sym same-bits ∙ apart) in
+                let gs : at < length ss = omega arith in
+                let longer : earlier ns ss (at + 1) ≡ earlier ns ss at ++ (nth ns ss at ∷ []) =
+                rw (add-one at, take-suc ns at 0 h, take-suc ss at 0 gs) (side-more (take at ns) (take at ss) (getD ns at 0) (getD ss at 0) long)
+                in
+                record {
+                  same = ap (λ (l : List Placement). goodAfter l (later ns ss (at + 1))) longer ∙ sym (ap (λ (t : Bool). t && rest) passes) ∙ step;
+                  alone = subst EachAlone (sym longer) (alone-more (nth ns ss at) (w .alone) alone);
+                  bits = λ k. wider k ∙ ap (λ (t : Bool). t || bit run k) (w .bits k) ∙ ap (λ (t : Bool). covers (earlier ns ss at) k || t) (own k) ∙
+                      sym (covers-more (earlier ns ss at) (nth ns ss at) k) ∙ ap (λ (l : List Placement). covers l k) (sym longer);
+                  left = ap (λ (l : List Placement). stampedAfter l (later ns ss (at + 1)) stamp stamps′) longer ∙
+                      ap (stampedAfter (earlier ns ss at ++ (nth ns ss at ∷ [])) (later ns ss (at + 1)) stamp) put ∙
+                      sym (ap (λ (t : Bool). cond t further stamps) passes) ∙ left-step;
+                  stamped = rw (put, add-one at, take-suc ns at 0 h) (stamped-more stamps stamp (take at ns) (getD ns at 0) (w .below .each) there (w .stamped));
+                  below = rw put (below-more stamps stamp (placeOf (getD ns at 0)) (w .below));
+                }
+
+            -- a signal that may stand anywhere comes for the first time
+            pub next-other : stamp ≤ fixedStamp → getD stamps p 0 < stamp → stamps′ ≡ set stamps p stamp → Passed ns ss lent more stamps′ stamp (at + 1)
+            next-other most i put = go (fixedPlace p) refl
+              where
+                go : (t : Bool) → fixedPlace p ≡ t → Passed ns ss lent more stamps′ stamp (at + 1)
+                go true e = let v = w .below .fixed p e in absurd (omega (arith, v, i, most))
+                go false e =
+                    let f : fixedPlace (placeOf (getD ns at 0)) ≡ false = ap fixedPlace (sym (place .0)) ∙ e in
+                    next (sym (others-alone (getD ns at 0) (getD ss at 0) (64 - last) known-bits inside f)) (sym (told e) ∙ ne-eqb (getD stamps p 0) stamp (λ z. omega (arith, z, i)))
+                    (put ∙ ap (λ (q : ℕ). set stamps q stamp) (place .0) ∙ ap (λ (t : Bool). cond t stamps (set stamps (placeOf (getD ns at 0)) stamp)) (sym f))
+
+            -- one of the two that have a start of their own stands there
+            pub next-fixed : atFixedStart p (getD ss at 0) ≡ true → stamps′ ≡ stamps → Passed ns ss lent more stamps′ stamp (at + 1)
+            next-fixed i put =
+                let e = fixed-there p (getD ss at 0) i in
+                let f : fixedPlace (placeOf (getD ns at 0)) ≡ true = ap fixedPlace (sym (place .0)) ∙ e in
+                let alone = sym (fixed-told e) ∙ i in
+                next alone (go alone f (isIn (getD ns at 0) (numbers (earlier ns ss at))) refl)
+                (put ∙ ap (λ (t : Bool). cond t stamps (set stamps (placeOf (getD ns at 0)) stamp)) (sym f))
+              where
+                go : standsAlone (nth ns ss at) ≡ true → fixedPlace (placeOf (getD ns at 0)) ≡ true → (t : Bool) → isIn (getD ns at 0) (numbers (earlier ns ss at)) ≡ t
+                    → isIn (getD ns at 0) (numbers (earlier ns ss at)) ≡ false
+                go alone f true z =
+                    absurd (true≢false (sym (again-meets (earlier ns ss at) (nth ns ss at) (w .alone) alone f z) ∙ sym same-bits ∙ apart))
+                go alone f false z = z

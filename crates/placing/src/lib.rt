@@ -12,10 +12,12 @@ ghost use Rattle.books.specs.Book.{placement};
 ghost use Rattle.books.specs.Lines.{isIn, misplaced, frameBits};
 ghost use Rattle.books.specs.Words.{sideBySide};
 ghost use Rattle.masks.specs.Bit.{bit};
-ghost use Rattle.placing.specs.Placing.{standsAlone, FrameRoom};
+ghost use Rattle.placing.specs.Placing.{FrameRoom};
 ghost use Rattle.placing.specs.Filling.{Marks, FilledMore};
-ghost use Rattle.placing.specs.Stamps.{Below, stampedTest};
+ghost use Rattle.placing.specs.Stamps.{atFixedStart, Below, stampedTest};
 ghost use Rattle.record.specs.Limits.{signalLimit, startLimit};
+use catalogue::CHECKSUM_PLACE;
+use catalogue::COUNTER_PLACE;
 use catalogue::Place;
 use record::CHECKSUM;
 use record::CHECKSUM_START;
@@ -27,8 +29,8 @@ const FRAME_BITS: u32 = 64;
 // Ones in every bit of a frame.
 const ALL_BITS: u64 = 0xffff_ffff_ffff_ffff;
 
-// The last start that their four bits leave the two signals that have a start of their own.
-const FIXED_LAST: u32 = 60;
+// The stamp on the places of the two signals that have a start of their own: no message has it, and it is above all that they have.
+pub const FIXED_STAMP: u8 = 255;
 
 // How many marks there are, by which numbers are told apart quickly: as many as a mask has.
 const MARKS: u32 = masks::WIDTH as u32;
@@ -54,26 +56,6 @@ fn wide(last: u8) -> u32
     ensures { λ r. ⌜ r ≡ last ⌝ }
 {
     last as u32
-}
-
-// Whether a signal stands where it may with a start, by itself: its bits leave it starts up to `last`. Only signals of four bits have a
-// start of their own.
-fn stands_alone(number: u32, start: u32, last: u32) -> bool
-    requires { ⌜ (0 < frameBits - last) × (frameBits - last ≡ bitsOf number) ⌝ }
-    ensures { λ r. ⌜ r ≡ standsAlone (placement number start) ⌝ }
-{
-    if start > last {
-        return false;
-    }
-    if last == FIXED_LAST {
-        if number == CHECKSUM {
-            return start == CHECKSUM_START;
-        }
-        if number == COUNTER {
-            return start == COUNTER_START;
-        }
-    }
-    true
 }
 
 // A mask of the frame bits of a signal.
@@ -128,9 +110,24 @@ pub fn is_repeated(numbers: &[u32], filled: Filled, number: u32) -> bool
     false
 }
 
+// Whether a place is that of a signal with a start of its own, and this is the start.
+fn has_fixed_start(place: usize, start: u32) -> bool
+    ensures { λ r. ⌜ r ≡ atFixedStart place start ⌝ }
+{
+    if place == CHECKSUM_PLACE {
+        return start == CHECKSUM_START;
+    }
+    if place == COUNTER_PLACE {
+        return start == COUNTER_START;
+    }
+    false
+}
+
 // Whether all signals of a message stand where they may: each by itself, none twice, and no bits that meet.
-// The columns of the catalogue are lent, and a stamp for each of its places: that of this message, which is above all that stand
-// there, is put on the place of each signal passed.
+// The columns of the catalogue are lent, and a stamp for each of its places: that of this message, which is above all that messages
+// left there, is put on the place of each signal passed. The two signals that have a start of their own need none: at that start a
+// second one meets the first. Their places have a stamp that no message's is above, so only they, and a signal that comes again, are
+// looked at twice.
 pub fn well_placed(
     numbers: &[u32],
     starts: &[u32],
@@ -153,17 +150,18 @@ pub fn well_placed(
             return false;
         };
         let last = wide(lasts[place]);
-        if !stands_alone(number, start, last) {
+        if start > last {
             return false;
         }
         let here = run_up_to(start, last);
         if masks::meet(filled, here) {
             return false;
         }
-        if stamps[place] == stamp {
+        if stamps[place] < stamp {
+            stamps[place] = stamp;
+        } else if !has_fixed_start(place, start) {
             return false;
         }
-        stamps[place] = stamp;
         filled = masks::either(filled, here);
         at += 1;
         left -= 1;

@@ -109,6 +109,8 @@ pub fn messages_taken(book: &[u32; BOOK_WORDS]) -> bool
     let bounds = catalogue::bounds();
     let lasts = rows::last_starts();
     let mut stamps = [0u8; catalogue::PLACES];
+    stamps[catalogue::CHECKSUM_PLACE] = placing::FIXED_STAMP;
+    stamps[catalogue::COUNTER_PLACE] = placing::FIXED_STAMP;
     well_parted(
         record::first(ends, messages),
         record::first(numbers, signals),

@@ -1,15 +1,15 @@
 -- `placing::well_placed` meets its contract: the answer for the signals from `at` on is the answer for all, those before it fill what is held and their places have the stamp. Assumes nothing.
 use mathlib.Core.Path.{_≡_, sym, _∙_}
+use mathlib.Core.Logic.{⊎-elim}
 use Prim.Native.Nat.{_+_}
 use native.Mathlib.Omega.{arith}
 use borrow.Author.Tests.{not-true, not-false}
 use lib.ListN.{length}
 use Rattle.catalogue.proofs.Placed.{at-place, nowhere}
-use Rattle.catalogue.proofs.LastStarts.{in-lasts, bits-from-last, last-inside}
+use Rattle.catalogue.proofs.LastStarts.{in-lasts, its-last}
 use borrow.Author.Needs.{needs}
 use Rattle.columns.proofs.Counting.{within, past}
-use Rattle.placing.proofs.Placing.{alone-room}
-use Rattle.placing.proofs.Signals.{Passed, begin, end, refuse-unknown, refuse-alone, refuse-meeting, refuse-again, next}
+use Rattle.placing.proofs.Signals.{Passed, begin, end, refuse-unknown, refuse-over, refuse-meeting, refuse-again, next-other, next-fixed}
 use Rattle.placing.proofs.well_placed.Statement.{statement}
 use Rattle.placing.proofs.well_placed.Tie as tie
 use Rattle.placing.proofs.well_placed.Reads as reads
@@ -18,8 +18,8 @@ use Rattle.catalogue.proofs.place_of.Reads as place-of-reads
 use Rattle.columns.proofs.length_of.Reads as length-of-reads
 use Rattle.masks.proofs.either.Reads as either-reads
 use Rattle.masks.proofs.meet.Reads as meet-reads
+use Rattle.placing.proofs.has_fixed_start.Reads as has-fixed-start-reads
 use Rattle.placing.proofs.run_up_to.Reads as run-up-to-reads
-use Rattle.placing.proofs.stands_alone.Reads as stands-alone-reads
 use Rattle.placing.proofs.wide.Reads as wide-reads
 
 abbrev Inv-loop : tie.InvT-loop
@@ -67,38 +67,38 @@ shared-slice-read-wide c = in-lasts _ _ _ (c .before .before .before .before .be
 wide-requires : tie.Need-wide-requires Inv-loop μ-loop
 wide-requires c κs = search needs
 
-stands-alone-requires : tie.Need-stands-alone-requires Inv-loop μ-loop
-stands-alone-requires c κs = (omega (arith, last-inside _ _ _ (c .before .before .before .before .before .before .before .before .before .before .before .before .before .before .before .before .before .pre .2 .lasts) (at-place _ _ _ (c .before .before .before .before .before .place-of .ensures) (c .before .before .before .place .given .1)) _ (c .wide .ensures)), (bits-from-last _ _ _ (c .before .before .before .before .before .before .before .before .before .before .before .before .before .before .before .before .before .pre .2 .lasts) (at-place _ _ _ (c .before .before .before .before .before .place-of .ensures) (c .before .before .before .place .given .1)) _ (c .wide .ensures)))
-
 same-length-2 : tie.Need-same-length-2 Inv-loop μ-loop
-same-length-2 c = simp (c .before .before .before .before .before .before .before .before .before .before .before .loop .inv .0 .below .each, c .before .before .before .before .before .before .before .before .before .before .before .before .before .before .before .before .before .before .before .pre .3 .each)
+same-length-2 c = simp (c .before .before .before .before .before .before .before .before .before .before .loop .inv .0 .below .each, c .before .before .before .before .before .before .before .before .before .before .before .before .before .before .before .before .before .before .pre .3 .each)
 
 returns-2 : tie.Need-returns-2 Inv-loop μ-loop
-returns-2 c = refuse-alone _ _ _ _ _ _ _ (c .before .before .before .before .before .before .before .before .before .before .before .before .before .before .before .before .before .before .before .pre .1) (c .before .before .before .before .before .before .before .before .before .before .before .loop .inv .0) (within (c .before .before .before .before .before .before .before .before .before .before .before .loop .inv .1) (c .before .before .before .before .before .before .before .before .before .before .loop-test .taken)) (sym (c .before .stands-alone .ensures) ∙ not-true _ (c .if1 .taken))
+returns-2 c = refuse-over _ _ _ _ _ _ _ (c .before .before .before .before .before .before .before .before .before .before .before .before .before .before .before .before .before .before .pre .1) (c .before .before .before .before .before .before .before .before .before .before .loop .inv .0) (within (c .before .before .before .before .before .before .before .before .before .before .loop .inv .1) (c .before .before .before .before .before .before .before .before .before .loop-test .taken)) _ (at-place _ _ _ (c .before .before .before .before .before .before .place-of .ensures) (c .before .before .before .before .place .given .1)) _ (its-last _ _ _ (c .before .before .before .before .before .before .before .before .before .before .before .before .before .before .before .before .before .before .pre .2 .lasts) (at-place _ _ _ (c .before .before .before .before .before .before .place-of .ensures) (c .before .before .before .before .place .given .1)) _ (c .before .wide .ensures)) (c .if1 .taken)
 
 run-up-to-requires : tie.Need-run-up-to-requires Inv-loop μ-loop
-run-up-to-requires c κs = (let room = alone-room _ _ _ (bits-from-last _ _ _ (c .before .before .before .before .before .before .before .before .before .before .before .before .before .before .before .before .before .before .before .pre .2 .lasts) (at-place _ _ _ (c .before .before .before .before .before .before .before .place-of .ensures) (c .before .before .before .before .before .place .given .1)) _ (c .before .before .wide .ensures)) (sym (c .before .stands-alone .ensures) ∙ not-false _ (c .if1 .left)) in omega (arith, room .to, last-inside _ _ _ (c .before .before .before .before .before .before .before .before .before .before .before .before .before .before .before .before .before .before .before .pre .2 .lasts) (at-place _ _ _ (c .before .before .before .before .before .before .before .place-of .ensures) (c .before .before .before .before .before .place .given .1)) _ (c .before .before .wide .ensures)), last-inside _ _ _ (c .before .before .before .before .before .before .before .before .before .before .before .before .before .before .before .before .before .before .before .pre .2 .lasts) (at-place _ _ _ (c .before .before .before .before .before .before .before .place-of .ensures) (c .before .before .before .before .before .place .given .1)) _ (c .before .before .wide .ensures))
+run-up-to-requires c κs = (c .if1 .left, (its-last _ _ _ (c .before .before .before .before .before .before .before .before .before .before .before .before .before .before .before .before .before .before .pre .2 .lasts) (at-place _ _ _ (c .before .before .before .before .before .before .place-of .ensures) (c .before .before .before .before .place .given .1)) _ (c .before .wide .ensures)) .0)
 
 meet-requires : tie.Need-meet-requires Inv-loop μ-loop
 meet-requires c κs = search needs
 
 same-length-3 : tie.Need-same-length-3 Inv-loop μ-loop
-same-length-3 c = simp (c .before .before .before .before .before .before .before .before .before .before .before .before .before .before .loop .inv .0 .below .each, c .before .before .before .before .before .before .before .before .before .before .before .before .before .before .before .before .before .before .before .before .before .before .pre .3 .each)
+same-length-3 c = simp (c .before .before .before .before .before .before .before .before .before .before .before .before .before .loop .inv .0 .below .each, c .before .before .before .before .before .before .before .before .before .before .before .before .before .before .before .before .before .before .before .before .before .pre .3 .each)
 
 returns-3 : tie.Need-returns-3 Inv-loop μ-loop
-returns-3 c = refuse-meeting _ _ _ _ _ _ _ (c .before .before .before .before .before .before .before .before .before .before .before .before .before .before .before .before .before .before .before .before .before .before .pre .1) (c .before .before .before .before .before .before .before .before .before .before .before .before .before .before .loop .inv .0) (within (c .before .before .before .before .before .before .before .before .before .before .before .before .before .before .loop .inv .1) (c .before .before .before .before .before .before .before .before .before .before .before .before .before .loop-test .taken)) _ (at-place _ _ _ (c .before .before .before .before .before .before .before .before .before .before .place-of .ensures) (c .before .before .before .before .before .before .before .before .place .given .1)) (sym (c .before .before .before .before .stands-alone .ensures) ∙ not-false _ (c .before .before .before .if1 .left)) _ (c .before .before .run-up-to .result) (bits-from-last _ _ _ (c .before .before .before .before .before .before .before .before .before .before .before .before .before .before .before .before .before .before .before .before .before .before .pre .2 .lasts) (at-place _ _ _ (c .before .before .before .before .before .before .before .before .before .before .place-of .ensures) (c .before .before .before .before .before .before .before .before .place .given .1)) _ (c .before .before .before .before .before .wide .ensures)) (c .before .before .run-up-to .ensures) (sym (c .before .meet .ensures) ∙ c .if2 .taken)
+returns-3 c = refuse-meeting _ _ _ _ _ _ _ (c .before .before .before .before .before .before .before .before .before .before .before .before .before .before .before .before .before .before .before .before .before .pre .1) (c .before .before .before .before .before .before .before .before .before .before .before .before .before .loop .inv .0) (within (c .before .before .before .before .before .before .before .before .before .before .before .before .before .loop .inv .1) (c .before .before .before .before .before .before .before .before .before .before .before .before .loop-test .taken)) _ (at-place _ _ _ (c .before .before .before .before .before .before .before .before .before .place-of .ensures) (c .before .before .before .before .before .before .before .place .given .1)) _ (its-last _ _ _ (c .before .before .before .before .before .before .before .before .before .before .before .before .before .before .before .before .before .before .before .before .before .pre .2 .lasts) (at-place _ _ _ (c .before .before .before .before .before .before .before .before .before .place-of .ensures) (c .before .before .before .before .before .before .before .place .given .1)) _ (c .before .before .before .before .wide .ensures)) (c .before .before .before .if1 .left) _ (c .before .before .run-up-to .ensures) (sym (c .before .meet .ensures) ∙ c .if2 .taken)
 
 slice-read-if3 : tie.Need-slice-read-if3 Inv-loop μ-loop
-slice-read-if3 c = omega (arith, c .before .before .before .before .before .before .before .before .before .before .before .before .before .before .before .loop .inv .0 .below .each, (at-place _ _ _ (c .before .before .before .before .before .before .before .before .before .before .before .place-of .ensures) (c .before .before .before .before .before .before .before .before .before .place .given .1)) .1)
-
-same-length-4 : tie.Need-same-length-4 Inv-loop μ-loop
-same-length-4 c = simp (c .before .before .before .before .before .before .before .before .before .before .before .before .before .before .before .before .loop .inv .0 .below .each, c .before .before .before .before .before .before .before .before .before .before .before .before .before .before .before .before .before .before .before .before .before .before .before .before .pre .3 .each)
-
-returns-4 : tie.Need-returns-4 Inv-loop μ-loop
-returns-4 c = refuse-again _ _ _ _ _ _ _ (c .before .before .before .before .before .before .before .before .before .before .before .before .before .before .before .before .before .before .before .before .before .before .before .before .pre .1) (c .before .before .before .before .before .before .before .before .before .before .before .before .before .before .before .before .loop .inv .0) (within (c .before .before .before .before .before .before .before .before .before .before .before .before .before .before .before .before .loop .inv .1) (c .before .before .before .before .before .before .before .before .before .before .before .before .before .before .before .loop-test .taken)) _ (at-place _ _ _ (c .before .before .before .before .before .before .before .before .before .before .before .before .place-of .ensures) (c .before .before .before .before .before .before .before .before .before .before .place .given .1)) (c .if3 .taken)
+slice-read-if3 c = omega (arith, c .before .before .before .before .before .before .before .before .before .before .before .before .before .before .loop .inv .0 .below .each, (at-place _ _ _ (c .before .before .before .before .before .before .before .before .before .before .place-of .ensures) (c .before .before .before .before .before .before .before .before .place .given .1)) .1)
 
 slice-write-stamps : tie.Need-slice-write-stamps Inv-loop μ-loop
-slice-write-stamps c = omega (arith, c .before .before .before .before .before .before .before .before .before .before .before .before .before .before .before .before .loop .inv .0 .below .each, (at-place _ _ _ (c .before .before .before .before .before .before .before .before .before .before .before .before .place-of .ensures) (c .before .before .before .before .before .before .before .before .before .before .place .given .1)) .1)
+slice-write-stamps c = omega (arith, c .before .before .before .before .before .before .before .before .before .before .before .before .before .before .before .loop .inv .0 .below .each, (at-place _ _ _ (c .before .before .before .before .before .before .before .before .before .before .before .place-of .ensures) (c .before .before .before .before .before .before .before .before .before .place .given .1)) .1)
+
+has-fixed-start-requires : tie.Need-has-fixed-start-requires Inv-loop μ-loop
+has-fixed-start-requires c κs = search needs
+
+same-length-4 : tie.Need-same-length-4 Inv-loop μ-loop
+same-length-4 c = simp (c .before .before .before .before .before .before .before .before .before .before .before .before .before .before .before .before .before .loop .inv .0 .below .each, c .before .before .before .before .before .before .before .before .before .before .before .before .before .before .before .before .before .before .before .before .before .before .before .before .before .pre .3 .each)
+
+returns-4 : tie.Need-returns-4 Inv-loop μ-loop
+returns-4 c = refuse-again _ _ _ _ _ _ _ (c .before .before .before .before .before .before .before .before .before .before .before .before .before .before .before .before .before .before .before .before .before .before .before .before .before .pre .1) (c .before .before .before .before .before .before .before .before .before .before .before .before .before .before .before .before .before .loop .inv .0) (within (c .before .before .before .before .before .before .before .before .before .before .before .before .before .before .before .before .before .loop .inv .1) (c .before .before .before .before .before .before .before .before .before .before .before .before .before .before .before .before .loop-test .taken)) _ (at-place _ _ _ (c .before .before .before .before .before .before .before .before .before .before .before .before .before .place-of .ensures) (c .before .before .before .before .before .before .before .before .before .before .before .place .given .1)) _ (its-last _ _ _ (c .before .before .before .before .before .before .before .before .before .before .before .before .before .before .before .before .before .before .before .before .before .before .before .before .before .pre .2 .lasts) (at-place _ _ _ (c .before .before .before .before .before .before .before .before .before .before .before .before .before .place-of .ensures) (c .before .before .before .before .before .before .before .before .before .before .before .place .given .1)) _ (c .before .before .before .before .before .before .before .before .wide .ensures)) (c .before .before .before .before .before .before .before .if1 .left) (c .before .before .if3 .left) (sym (c .before .has-fixed-start .ensures) ∙ not-true _ (c .if4 .taken))
 
 either-requires : tie.Need-either-requires Inv-loop μ-loop
 either-requires c κs = search needs
@@ -113,7 +113,13 @@ loop-less : tie.Need-loop-less Inv-loop μ-loop
 loop-less c = omega arith
 
 loop-again : tie.Need-loop-again Inv-loop μ-loop
-loop-again c = (next _ _ _ _ _ _ _ (c .before .before .before .before .before .before .before .before .before .before .before .before .before .before .before .before .before .before .before .before .before .before .before .before .before .pre .1) (c .before .before .before .before .before .before .before .before .before .before .before .before .before .before .before .before .before .loop .inv .0) (within (c .before .before .before .before .before .before .before .before .before .before .before .before .before .before .before .before .before .loop .inv .1) (c .before .before .before .before .before .before .before .before .before .before .before .before .before .before .before .before .loop-test .taken)) _ (at-place _ _ _ (c .before .before .before .before .before .before .before .before .before .before .before .before .before .place-of .ensures) (c .before .before .before .before .before .before .before .before .before .before .before .place .given .1)) (sym (c .before .before .before .before .before .before .before .stands-alone .ensures) ∙ not-false _ (c .before .before .before .before .before .before .if1 .left)) _ (c .before .before .before .before .before .run-up-to .result) (bits-from-last _ _ _ (c .before .before .before .before .before .before .before .before .before .before .before .before .before .before .before .before .before .before .before .before .before .before .before .before .before .pre .2 .lasts) (at-place _ _ _ (c .before .before .before .before .before .before .before .before .before .before .before .before .before .place-of .ensures) (c .before .before .before .before .before .before .before .before .before .before .before .place .given .1)) _ (c .before .before .before .before .before .before .before .before .wide .ensures)) (c .before .before .before .before .before .run-up-to .ensures) (sym (c .before .before .before .before .meet .ensures) ∙ c .before .before .before .if2 .left) (c .before .if3 .left) _ (c .either .ensures), omega (arith, c .before .before .before .before .before .before .before .before .before .before .before .before .before .before .before .before .before .loop .inv .1, c .before .before .before .before .before .before .before .before .before .before .before .before .before .before .before .before .loop-test .taken))
+loop-again c = (
+  ⊎-elim
+      (λ w. next-other _ _ _ _ _ _ _ (c .before .before .before .before .before .before .before .before .before .before .before .before .before .before .before .before .before .before .before .before .before .before .before .before .pre .1) (c .before .before .before .before .before .before .before .before .before .before .before .before .before .before .before .before .loop .inv .0) (within (c .before .before .before .before .before .before .before .before .before .before .before .before .before .before .before .before .loop .inv .1) (c .before .before .before .before .before .before .before .before .before .before .before .before .before .before .before .loop-test .taken)) _ (at-place _ _ _ (c .before .before .before .before .before .before .before .before .before .before .before .before .place-of .ensures) (c .before .before .before .before .before .before .before .before .before .before .place .given .1)) _ (its-last _ _ _ (c .before .before .before .before .before .before .before .before .before .before .before .before .before .before .before .before .before .before .before .before .before .before .before .before .pre .2 .lasts) (at-place _ _ _ (c .before .before .before .before .before .before .before .before .before .before .before .before .place-of .ensures) (c .before .before .before .before .before .before .before .before .before .before .place .given .1)) _ (c .before .before .before .before .before .before .before .wide .ensures)) (c .before .before .before .before .before .before .if1 .left) _ (c .before .before .before .before .before .run-up-to .ensures) (sym (c .before .before .before .before .meet .ensures) ∙ c .before .before .before .if2 .left) _ (c .either .ensures) _ (omega (arith, c .before .before .before .before .before .before .before .before .before .before .before .before .before .before .before .before .before .before .before .before .before .before .before .before .fits .stamp .fits)) (w .0 .taken) (w .1))
+      (λ w. next-fixed _ _ _ _ _ _ _ (c .before .before .before .before .before .before .before .before .before .before .before .before .before .before .before .before .before .before .before .before .before .before .before .before .pre .1) (c .before .before .before .before .before .before .before .before .before .before .before .before .before .before .before .before .loop .inv .0) (within (c .before .before .before .before .before .before .before .before .before .before .before .before .before .before .before .before .loop .inv .1) (c .before .before .before .before .before .before .before .before .before .before .before .before .before .before .before .loop-test .taken)) _ (at-place _ _ _ (c .before .before .before .before .before .before .before .before .before .before .before .before .place-of .ensures) (c .before .before .before .before .before .before .before .before .before .before .place .given .1)) _ (its-last _ _ _ (c .before .before .before .before .before .before .before .before .before .before .before .before .before .before .before .before .before .before .before .before .before .before .before .before .pre .2 .lasts) (at-place _ _ _ (c .before .before .before .before .before .before .before .before .before .before .before .before .place-of .ensures) (c .before .before .before .before .before .before .before .before .before .before .place .given .1)) _ (c .before .before .before .before .before .before .before .wide .ensures)) (c .before .before .before .before .before .before .if1 .left) _ (c .before .before .before .before .before .run-up-to .ensures) (sym (c .before .before .before .before .meet .ensures) ∙ c .before .before .before .if2 .left) _ (c .either .ensures) _ (sym (w .1 .ensures) ∙ not-false _ (w .2 .left)) (w .3))
+      (c .before .if3 .came),
+  omega (arith, c .before .before .before .before .before .before .before .before .before .before .before .before .before .before .before .before .loop .inv .1, c .before .before .before .before .before .before .before .before .before .before .before .before .before .before .before .loop-test .taken),
+)
 
 same-length-5 : tie.Need-same-length-5 Inv-loop μ-loop
 same-length-5 c = simp (c .before .loop .inv .0 .below .each, c .before .before .before .before .before .before .before .before .before .pre .3 .each)
@@ -140,7 +146,6 @@ well-placed-spec =
     returns
     shared-slice-read-wide
     wide-requires
-    stands-alone-requires
     same-length-2
     returns-2
     run-up-to-requires
@@ -148,9 +153,10 @@ well-placed-spec =
     same-length-3
     returns-3
     slice-read-if3
+    slice-write-stamps
+    has-fixed-start-requires
     same-length-4
     returns-4
-    slice-write-stamps
     either-requires
     add-at
     sub-left
