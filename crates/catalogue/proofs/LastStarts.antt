@@ -21,11 +21,14 @@ module _ (lasts : List ℕ) (n p : ℕ) (column : lasts ≡ lastStartsOf rows) (
   pub in-lasts : p < length lasts
   in-lasts = rw column (subst (λ (k : ℕ). p < k) (sym (length-map rows (λ (r : Row). 64 - r .bits) ∙ long)) (place .1))
 
-  there : getD lasts p 0 ≡ 64 - bitsOf n
-  there = rw column (last-at rows p (subst (λ (k : ℕ). p < k) (sym long) (place .1)) ∙ ap (λ (b : ℕ). 64 - b) (ap (λ (q : ℕ). getD (widthsOf rows) q 0) (place .0) ∙ bits-there n))
+  width-there : getD (widthsOf rows) p 0 ≡ bitsOf n
+  width-there = ap (λ (q : ℕ). getD (widthsOf rows) q 0) (place .0) ∙ bits-there n
+
+  last-there : getD lasts p 0 ≡ 64 - bitsOf n
+  last-there = rw column (last-at rows p (subst (λ (k : ℕ). p < k) (sym long) (place .1)) ∙ ap (λ (b : ℕ). 64 - b) width-there)
 
   some-bits : 0 < bitsOf n
-  some-bits = has-some (widthsOf rows) n p refl place (bitsOf n) (sym (ap (λ (q : ℕ). getD (widthsOf rows) q 0) (place .0) ∙ bits-there n))
+  some-bits = has-some (widthsOf rows) n p refl place (bitsOf n) (sym width-there)
 
   pub its-last : (last : ℕ) → last ≡ getD lasts p 0 → (last < 64) × (64 - last ≡ bitsOf n)
-  its-last last e = (omega (arith, e, there, some-bits), omega (arith, e, there, few-bits n))
+  its-last last e = (omega (arith, e, last-there, some-bits), omega (arith, e, last-there, few-bits n))

@@ -1,5 +1,5 @@
--- The place of a signal in the table, and the columns by which the code finds it and its bits: numbers go by the hundred, a hundred
--- for each table of the standard. Assumes nothing.
+-- The place of a signal in the table, and the columns by which the code finds it, its bits and its last start: numbers go by the
+-- hundred, a hundred for each table of the standard. Assumes nothing.
 use mathlib.Core.Path.{_≡_}
 use mathlib.Core.Bool.{cond}
 use mathlib.Core.List.{List, [], _∷_}

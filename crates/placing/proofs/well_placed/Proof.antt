@@ -1,4 +1,4 @@
--- `placing::well_placed` meets its contract: the answer for the signals from `at` on is the answer for all, those before it fill what is held and their places have the stamp. Assumes nothing.
+-- `placing::well_placed` meets its contract: the answer for the signals from `at` on is the answer for all, those before it stand alone, fill what is held, and have the stamp on their places unless they have a start of their own. Assumes nothing.
 use mathlib.Core.Path.{_≡_, sym, _∙_}
 use mathlib.Core.Logic.{⊎-elim}
 use Prim.Native.Nat.{_+_}
