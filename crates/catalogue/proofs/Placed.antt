@@ -115,10 +115,6 @@ one-number n m e h =
     sym (number-there n g) ∙ ap (λ (p : ℕ). getD (map (λ (r : Row). r .number) rows) p 0) e ∙ number-there m h
 
 -- ---- what the code does with the columns lent to it
-not-past : (b : Bool) (p q : ℕ) → cond b noPlace p ≡ q → q < noPlace → p ≡ q
-not-past true p q e l = absurd (omega (arith, e, l))
-not-past false p q e l = e
-
 module _ (above : List ℕ) (n k : ℕ) (column : above ≡ surpluses) (h : n < numberLimit) (at : k ≡ hundred n) where
   few : k < 20
   few = let below : n < 2000 = h in omega (arith, at, below)
@@ -128,13 +124,6 @@ module _ (above : List ℕ) (n k : ℕ) (column : above ≡ surpluses) (h : n < 
 
   pub no-less : getD above k 0 ≤ n
   no-less = rw (column, at) (surplus-within n h)
-
-  -- of a signal that the catalogue has
-  pub known-there : placeOf n < noPlace → n - getD above k 0 ≡ placeOf n
-  known-there known =
-      rw (column, at)
-      (not-past (leb (getD bounds (hundred n) 0) (n - getD surpluses (hundred n) 0)) (n - getD surpluses (hundred n) 0) (placeOf n)
-      (computed-place n h) known)
 
   module _ (ends : List ℕ) (ends-column : ends ≡ bounds) where
     pub in-ends : k < length ends
@@ -203,27 +192,6 @@ wide-at (r ∷ rs) (suc p) t h = wide-at rs p (and-eq-true-iff (ltb 0 (r .bits))
 all-wide : allWide rows ≡ true
 unfolding allWide rows
 all-wide = refl
-
--- a signal that has bits has a place, and a number below the limit
-pub has-place : (n : ℕ) → 0 < bitsOf n → placeOf n < noPlace
-has-place n h = go (ltb (placeOf n) noPlace) refl
-  where
-    go : (b : Bool) → ltb (placeOf n) noPlace ≡ b → placeOf n < noPlace
-    go true e = ltb-true _ _ e
-    go false e =
-        let past = ltb-false (placeOf n) noPlace e in
-        let none = no-bits n (omega (arith, past, place-most n)) in
-        absurd (omega (arith, h, none))
-
-pub known-at : (n p : ℕ) → 0 < bitsOf n → p ≡ placeOf n → (p ≡ placeOf n) × (p < noPlace)
-known-at n p h e = (e, subst (λ (x : ℕ). x < noPlace) (sym e) (has-place n h))
-
-pub known-below : (n : ℕ) → placeOf n < noPlace → n < numberLimit
-known-below n h = go (ltb n numberLimit) refl
-  where
-    go : (b : Bool) → ltb n numberLimit ≡ b → n < numberLimit
-    go true e = ltb-true _ _ e
-    go false e = let none = place-above n (ltb-false n numberLimit e) in absurd (omega (arith, h, none))
 
 -- what is read there is the signal's bits, and there are some
 module _ (widths : List ℕ) (n p : ℕ) (column : widths ≡ widthsOf rows) (place : (p ≡ placeOf n) × (p < noPlace)) where

@@ -60,8 +60,3 @@ pub record TableColumns (above ends widths : List ℕ) : Type 0 where
 pub record StartColumns (above ends lastStarts : List ℕ) : Type 0 where
   pub places : (above ≡ surpluses) × (ends ≡ bounds)
   pub lasts : lastStarts ≡ lastStartsOf rows
-
--- those that are enough for a signal which the catalogue has
-pub record WidthColumns (above widths : List ℕ) : Type 0 where
-  pub surplus : above ≡ surpluses
-  pub bits : widths ≡ widthsOf rows
