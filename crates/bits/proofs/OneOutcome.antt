@@ -20,7 +20,7 @@ use Rattle.bits.specs.Checksum.{checksumOf}
 use Rattle.bits.specs.Word.{wordOf, bytesOf, fieldOf, placed}
 use Rattle.bits.proofs.load as load
 use Rattle.bits.proofs.store as store
-use Rattle.bits.proofs.onward as onward
+use Rattle.bits.proofs.window as window
 use Rattle.bits.proofs.take as take
 use Rattle.bits.proofs.place as place
 use Rattle.bits.proofs.checksum as checksum
@@ -33,8 +33,8 @@ module _ {M : Type 1} (𝓤 : URA M) (H : Heap 𝓤) (A : Atoms 𝓤) (mem : Mem
   pub one-store : (κs : Lfts 1) (word : ℕ) (frame : RefT (List ℕ)) → Only 𝓤 (λ (x : List ℕ). store.clauses 𝓤 H A mem run κs (word, (frame, tt)) .ensures tt tt (word, (at-last frame x, tt)))
   one-store κs word frame = only-this 𝓤 _ (codedList codedℕ) (bytesOf word) (λ x. refl)
 
-  pub one-onward : (word start : ℕ) (e : AtExit onward.ended tt) → Only 𝓤 (λ r. onward.clauses 𝓤 H A mem run tt (word, (start, tt)) .ensures tt r e)
-  one-onward word start e = only-this 𝓤 _ codedℕ (fieldOf word start 32) (λ r. refl)
+  pub one-window : (word start : ℕ) (e : AtExit window.ended tt) → Only 𝓤 (λ r. window.clauses 𝓤 H A mem run tt (word, (start, tt)) .ensures tt r e)
+  one-window word start e = only-this 𝓤 _ codedℕ (fieldOf word start 32) (λ r. refl)
 
   pub one-take : (word start bits : ℕ) (e : AtExit take.ended tt) → Only 𝓤 (λ r. take.clauses 𝓤 H A mem run tt (word, (start, (bits, tt))) .ensures tt r e)
   one-take word start bits e = only-this 𝓤 _ codedℕ (fieldOf word start bits) (λ r. refl)

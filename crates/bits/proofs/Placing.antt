@@ -25,9 +25,9 @@ unfolding fieldOf
 field-is w s n e = e
 
 -- the lowest bits of a field are the field of so many
-pub lowest-field : (w s b : ℕ) → b ≤ 32 → fieldOf w s 32 % 2 ^ b ≡ fieldOf w s b
+pub low-field : (w s b : ℕ) → b ≤ 32 → fieldOf w s 32 % 2 ^ b ≡ fieldOf w s b
 unfolding fieldOf
-lowest-field w s b h = let whole : 32 ≡ (32 - b) + b = omega (arith, h) in ap (λ (m : ℕ). w / 2 ^ s % 2 ^ m % 2 ^ b) whole ∙ mod-mod-pow (w / 2 ^ s) (32 - b) b
+low-field w s b h = let whole : 32 ≡ (32 - b) + b = omega (arith, h) in ap (λ (m : ℕ). w / 2 ^ s % 2 ^ m % 2 ^ b) whole ∙ mod-mod-pow (w / 2 ^ s) (32 - b) b
 
 pub taken-out : (w s b n : ℕ) → b ≤ 32 → n ≡ fieldOf w s 32 → n * 2 ^ (32 - b) % 2 ^ 32 / 2 ^ (32 - b) ≡ fieldOf w s b
 unfolding fieldOf

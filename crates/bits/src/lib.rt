@@ -50,8 +50,8 @@ fn low_half(word: u64) -> u32
     (word % 4294967296) as u32
 }
 
-// The 32 bits from `start` on, of which those past the frame are 0.
-pub fn onward(word: u64, start: u32) -> u32
+// The window of 32 bits that begins at `start`; those past the frame are 0.
+pub fn window(word: u64, start: u32) -> u32
     requires { ⌜ start < frameBits ⌝ }
     ensures { λ r. ⌜ r ≡ fieldOf word start 32 ⌝ }
 {
@@ -64,7 +64,7 @@ pub fn take(word: u64, start: u32, bits: u32) -> u32
     ensures { λ r. ⌜ r ≡ fieldOf word start bits ⌝ }
 {
     let past = 32 - bits;
-    (onward(word, start) << past) >> past
+    (window(word, start) << past) >> past
 }
 
 fn wide_count(count: u32) -> u64

@@ -15,73 +15,80 @@ use Rattle.catalogue.specs.declared.Cut.{Cut}
 use Rattle.catalogue.specs.Find.{bitsIn, bitsOf, rowOf}
 use Rattle.catalogue.specs.Shapes.{shapeOf, rowShaped, forget}
 use Rattle.catalogue.specs.Class.{classIn, classFor, classOf}
-use Rattle.catalogue.specs.Cut.{lowest, cutFor, cutOf}
+use Rattle.catalogue.specs.Cut.{lowBits, cutFor, cutOf}
 use Rattle.catalogue.proofs.Shaped.{by-shape}
 
 -- ---- by the shape
 
-same-cut : (o : Option Row) (from : ℕ) → cutFor o from ≡ cutFor (forget o) from
-same-cut none from = refl
-same-cut (some r) from = refl
+same-cut : (o : Option Row) (window : ℕ) → cutFor o window ≡ cutFor (forget o) window
+same-cut none window = refl
+same-cut (some r) window = refl
 
-cut-by-shape : (n from : ℕ) → cutFor (rowShaped (shapeOf n)) from ≡ cutOf n from
+cut-by-shape : (n window : ℕ) → cutFor (rowShaped (shapeOf n)) window ≡ cutOf n window
 unfolding cutOf
-cut-by-shape n from =
-    same-cut (rowShaped (shapeOf n)) from
-    ∙ sym (same-cut (rowOf n) from ∙ ap (λ (o : Option Row). cutFor o from) (by-shape n))
+cut-by-shape n window =
+    same-cut (rowShaped (shapeOf n)) window
+    ∙ sym (same-cut (rowOf n) window ∙ ap (λ (o : Option Row). cutFor o window) (by-shape n))
 
 -- what is cut in a signal's shape is what is cut for it
-pub shaped-cut : (n s from : ℕ) {k : Cut} → s ≡ shapeOf n → k ≡ cutFor (rowShaped s) from → k ≡ cutOf n from
-shaped-cut n s from e h = h ∙ ap (λ (m : ℕ). cutFor (rowShaped m) from) e ∙ cut-by-shape n from
+pub shaped-cut : (n s window : ℕ) {k : Cut} → s ≡ shapeOf n → k ≡ cutFor (rowShaped s) window → k ≡ cutOf n window
+shaped-cut n s window e h = h ∙ ap (λ (m : ℕ). cutFor (rowShaped m) window) e ∙ cut-by-shape n window
 
 -- ---- a whole number
 
-whole-class : (o : Option Row) (from : ℕ) → cutFor o from .raw .0 ≡ from → cutFor o from .class ≡ classFor o (record { 0 = from })
-whole-class none from e = refl
-whole-class (some r) from e =
-    ap (λ (n : ℕ). classIn r (record { 0 = n })) e
-    ∙ sym (ap (λ (t : _). cond t TooWide (classIn r (record { 0 = from }))) (lt-leb (2 ^ r .bits) from (omega (arith, e, mod-lt from (pow-pos (r .bits))))))
+-- a number is its own b lowest bits just where it is below 2 ^ b
+pub whole-below : (b v : ℕ) → v % 2 ^ b ≡ v → v < 2 ^ b
+whole-below b v e = omega (arith, e, mod-lt v (pow-pos b))
 
-part-wide : (o : Option Row) (from : ℕ) → (cutFor o from .raw .0 ≡ from → ⊥) → TooWide ≡ classFor o (record { 0 = from })
-part-wide none from e = absurd (e refl)
-part-wide (some r) from e = go (decLe (2 ^ r .bits) from)
+pub part-above : (b v : ℕ) → (v % 2 ^ b ≡ v → ⊥) → 2 ^ b ≤ v
+part-above b v e = go (decLe (2 ^ b) v)
   where
-    go : Dec (2 ^ r .bits ≤ from) → TooWide ≡ classFor (some r) (record { 0 = from })
-    go (yes h) = sym (ap (λ (t : _). cond t TooWide (classIn r (record { 0 = from }))) (le-leb (2 ^ r .bits) from h))
+    go : Dec (2 ^ b ≤ v) → 2 ^ b ≤ v
+    go (yes h) = h
     go (no h) = absurd (e (mod-eq-of-lt (omega (arith, h))))
 
--- the class of a number that is the count, and of one that is more
-pub class-cut : (n from : ℕ) → cutOf n from .raw .0 ≡ from → cutOf n from .class ≡ classOf n (record { 0 = from })
-unfolding cutOf classOf
-class-cut n from = whole-class (rowOf n) from
+whole-class : (o : Option Row) (window : ℕ) → cutFor o window .raw .0 ≡ window → cutFor o window .class ≡ classFor o (record { 0 = window })
+whole-class none window e = refl
+whole-class (some r) window e =
+    ap (λ (n : ℕ). classIn r (record { 0 = n })) e
+    ∙ sym (ap (λ (t : _). cond t TooWide (classIn r (record { 0 = window }))) (lt-leb (2 ^ r .bits) window (whole-below (r .bits) window e)))
 
-pub too-wide : (n from : ℕ) → (cutOf n from .raw .0 ≡ from → ⊥) → TooWide ≡ classOf n (record { 0 = from })
+part-wide : (o : Option Row) (window : ℕ) → (cutFor o window .raw .0 ≡ window → ⊥) → TooWide ≡ classFor o (record { 0 = window })
+part-wide none window e = absurd (e refl)
+part-wide (some r) window e = sym (ap (λ (t : _). cond t TooWide (classIn r (record { 0 = window }))) (le-leb (2 ^ r .bits) window (part-above (r .bits) window e)))
+
+-- the class of a number that is the count, and of one that is more
+pub class-cut : (n window : ℕ) → cutOf n window .raw .0 ≡ window → cutOf n window .class ≡ classOf n (record { 0 = window })
 unfolding cutOf classOf
-too-wide n from = part-wide (rowOf n) from
+class-cut n window = whole-class (rowOf n) window
+
+pub cut-too-wide : (n window : ℕ) → (cutOf n window .raw .0 ≡ window → ⊥) → TooWide ≡ classOf n (record { 0 = window })
+unfolding cutOf classOf
+cut-too-wide n window = part-wide (rowOf n) window
 
 -- ---- a signal of the catalogue
 
-bits-in : (o : Option Row) (from : ℕ) → cutFor o from .bits ≡ bitsIn o
-bits-in none from = refl
-bits-in (some r) from = refl
+bits-in : (o : Option Row) (window : ℕ) → cutFor o window .bits ≡ bitsIn o
+bits-in none window = refl
+bits-in (some r) window = refl
 
-count-in : (o : Option Row) (from : ℕ) → 0 < bitsIn o → cutFor o from .raw .0 ≡ from % 2 ^ bitsIn o
-count-in none from h = absurd (omega (arith, h))
-count-in (some r) from h = refl
+count-in : (o : Option Row) (window : ℕ) → 0 < bitsIn o → cutFor o window .raw .0 ≡ window % 2 ^ bitsIn o
+count-in none window h = absurd (omega (arith, h))
+count-in (some r) window h = refl
 
-class-within : (o : Option Row) (from : ℕ) → 0 < bitsIn o → cutFor o from .class ≡ classFor o (record { 0 = from % 2 ^ bitsIn o })
-class-within none from h = absurd (omega (arith, h))
-class-within (some r) from h = sym (ap (λ (t : _). cond t TooWide (classIn r (lowest (r .bits) from))) (lt-leb (2 ^ r .bits) (from % 2 ^ r .bits) (mod-lt from (pow-pos (r .bits)))))
+class-within : (o : Option Row) (window : ℕ) → 0 < bitsIn o → cutFor o window .class ≡ classFor o (record { 0 = window % 2 ^ bitsIn o })
+class-within none window h = absurd (omega (arith, h))
+class-within (some r) window h = sym (ap (λ (t : _). cond t TooWide (classIn r (lowBits (r .bits) window))) (lt-leb (2 ^ r .bits) (window % 2 ^ r .bits) (mod-lt window (pow-pos (r .bits)))))
 
 -- its bits, its count and the class of that
-pub cut-bits : (n from : ℕ) → cutOf n from .bits ≡ bitsOf n
+pub cut-bits : (n window : ℕ) → cutOf n window .bits ≡ bitsOf n
 unfolding cutOf bitsOf
-cut-bits n from = bits-in (rowOf n) from
+cut-bits n window = bits-in (rowOf n) window
 
-pub cut-count : (n from : ℕ) → 0 < bitsOf n → cutOf n from .raw .0 ≡ from % 2 ^ bitsOf n
+pub cut-count : (n window : ℕ) → 0 < bitsOf n → cutOf n window .raw .0 ≡ window % 2 ^ bitsOf n
 unfolding cutOf bitsOf
-cut-count n from = count-in (rowOf n) from
+cut-count n window = count-in (rowOf n) window
 
-pub cut-class : (n from : ℕ) → 0 < bitsOf n → cutOf n from .class ≡ classOf n (record { 0 = from % 2 ^ bitsOf n })
+pub cut-class : (n window : ℕ) → 0 < bitsOf n → cutOf n window .class ≡ classOf n (record { 0 = window % 2 ^ bitsOf n })
 unfolding cutOf bitsOf classOf
-cut-class n from = class-within (rowOf n) from
+cut-class n window = class-within (rowOf n) window

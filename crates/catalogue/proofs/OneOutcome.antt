@@ -35,8 +35,8 @@ module _ {M : Type 1} (𝓤 : URA M) (H : Heap 𝓤) (A : Atoms 𝓤) (mem : Mem
   pub one-class-of : (number : ℕ) (raw : Raw) (e : AtExit class-of.ended tt) → Only 𝓤 (λ r. class-of.clauses 𝓤 H A mem run tt (number, (raw, tt)) .ensures tt r e)
   one-class-of number raw e = only-this 𝓤 _ (the-class.the-row .coded) (classOf number raw) (λ r. refl)
 
-  pub one-cut-of : (number from : ℕ) (e : AtExit cut-of.ended tt) → Only 𝓤 (λ r. cut-of.clauses 𝓤 H A mem run tt (number, (from, tt)) .ensures tt r e)
-  one-cut-of number from e = only-this 𝓤 _ (the-cut.the-row .coded) (cutOf number from) (λ r. refl)
+  pub one-cut-of : (number window : ℕ) (e : AtExit cut-of.ended tt) → Only 𝓤 (λ r. cut-of.clauses 𝓤 H A mem run tt (number, (window, tt)) .ensures tt r e)
+  one-cut-of number window e = only-this 𝓤 _ (the-cut.the-row .coded) (cutOf number window) (λ r. refl)
 
   pub one-bits-of : (number : ℕ) (e : AtExit bits-of.ended tt) → Only 𝓤 (λ r. bits-of.clauses 𝓤 H A mem run tt (number, tt) .ensures tt r e)
   one-bits-of number e = only-this 𝓤 _ codedℕ (bitsOf number) (λ r. refl)

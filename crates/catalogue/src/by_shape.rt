@@ -1,5 +1,5 @@
-// The count of a signal, cut from the bits that begin with it, and its class, by the constants of its shape: an arm for each, which
-// tools/shapes_code.py writes.
+// The count of a signal, cut from the window of bits that begins with it, and its class, by the constants of its shape: an arm for
+// each, which tools/shapes_code.py writes.
 use crate::Class;
 use crate::Cut;
 use crate::Raw;
@@ -18,22 +18,22 @@ ghost use Rattle.catalogue.specs.Class.{classOf};
 ghost use Rattle.catalogue.specs.Cut.{cutFor, cutOf};
 
 // Count and class by the signal's shape. Each arm is a shape of specs/Shapes.antt.
-fn cut_shaped(shape: usize, from: u32) -> Cut
-    ensures { λ r. ⌜ r ≡ cutFor (rowShaped shape) from ⌝ }
+fn cut_shaped(shape: usize, window: u32) -> Cut
+    ensures { λ r. ⌜ r ≡ cutFor (rowShaped shape) window ⌝ }
 {
     match shape {
-        0 => one_mark(16, 100, 0, 0, 65535, INVALID, 65535, 65535, from),
-        1 => one_mark(16, 100, -2000000, 0, 65535, INVALID, 65535, 65535, from),
-        2 => one_mark(8, 400, 0, 0, 250, INVALID, 255, 255, from),
-        3 => no_mark(2, 1000, 0, 0, 3, from),
-        4 => one_mark(16, 1000, 0, 0, 60000, INVALID, 65535, 65535, from),
-        5 => two_marks(2, 1000, 0, 0, 3, RESERVED, 0, 0, INVALID, 3, 3, from),
-        6 => no_mark(1, 1000, 0, 0, 1, from),
-        7 => no_mark(32, 1000, 0, 0, 4294967295, from),
-        8 => no_mark(16, 100, 0, 0, 65535, from),
-        9 => one_mark(2, 1000, 0, 0, 3, RESERVED, 0, 0, from),
-        10 => one_mark(2, 1000, 0, 0, 3, RESERVED, 2, 3, from),
-        11 => no_mark(4, 1000, 0, 0, 15, from),
+        0 => one_mark(16, 100, 0, 0, 65535, INVALID, 65535, 65535, window),
+        1 => one_mark(16, 100, -2000000, 0, 65535, INVALID, 65535, 65535, window),
+        2 => one_mark(8, 400, 0, 0, 250, INVALID, 255, 255, window),
+        3 => no_mark(2, 1000, 0, 0, 3, window),
+        4 => one_mark(16, 1000, 0, 0, 60000, INVALID, 65535, 65535, window),
+        5 => two_marks(2, 1000, 0, 0, 3, RESERVED, 0, 0, INVALID, 3, 3, window),
+        6 => no_mark(1, 1000, 0, 0, 1, window),
+        7 => no_mark(32, 1000, 0, 0, 4294967295, window),
+        8 => no_mark(16, 100, 0, 0, 65535, window),
+        9 => one_mark(2, 1000, 0, 0, 3, RESERVED, 0, 0, window),
+        10 => one_mark(2, 1000, 0, 0, 3, RESERVED, 2, 3, window),
+        11 => no_mark(4, 1000, 0, 0, 15, window),
         12 => two_marks(
             8,
             1000,
@@ -46,24 +46,37 @@ fn cut_shaped(shape: usize, from: u32) -> Cut
             INVALID,
             255,
             255,
-            from,
+            window,
         ),
-        13 => one_mark(16, 1000, 0, 0, 65535, INVALID, 65535, 65535, from),
-        14 => no_mark(8, 1000, 0, 1, 255, from),
-        15 => one_mark(16, 1, 0, 0, 65535, INVALID, 65535, 65535, from),
-        17 => no_mark(8, 100, 0, 0, 50, from),
-        18 => no_mark(16, 1, 0, 0, 65535, from),
-        19 => one_mark(8, 1000, -40000, 0, 250, INVALID, 255, 255, from),
-        20 => no_mark(16, 1000, 0, 1, 65535, from),
-        21 => two_marks(4, 1000, 0, 0, 15, RESERVED, 10, 13, RESERVED, 15, 15, from),
-        22 => no_mark(8, 1000, 0, 0, 255, from),
-        23 => one_mark(8, 1000, 0, 0, 254, INVALID, 255, 255, from),
-        24 => no_mark(8, 1000, 1985000, 0, 250, from),
-        25 => no_mark(8, 250, 0, 0, 48, from),
-        26 => no_mark(8, 250, 0, 0, 124, from),
-        27 => two_marks(2, 1000, 0, 0, 3, RESERVED, 2, 2, INVALID, 3, 3, from),
-        28 => one_mark(3, 1000, 0, 0, 7, INVALID, 2, 7, from),
-        29 => one_mark(3, 1000, 0, 0, 7, RESERVED, 4, 7, from),
+        13 => one_mark(16, 1000, 0, 0, 65535, INVALID, 65535, 65535, window),
+        14 => no_mark(8, 1000, 0, 1, 255, window),
+        15 => one_mark(16, 1, 0, 0, 65535, INVALID, 65535, 65535, window),
+        17 => no_mark(8, 100, 0, 0, 50, window),
+        18 => no_mark(16, 1, 0, 0, 65535, window),
+        19 => one_mark(8, 1000, -40000, 0, 250, INVALID, 255, 255, window),
+        20 => no_mark(16, 1000, 0, 1, 65535, window),
+        21 => two_marks(
+            4,
+            1000,
+            0,
+            0,
+            15,
+            RESERVED,
+            10,
+            13,
+            RESERVED,
+            15,
+            15,
+            window,
+        ),
+        22 => no_mark(8, 1000, 0, 0, 255, window),
+        23 => one_mark(8, 1000, 0, 0, 254, INVALID, 255, 255, window),
+        24 => no_mark(8, 1000, 1985000, 0, 250, window),
+        25 => no_mark(8, 250, 0, 0, 48, window),
+        26 => no_mark(8, 250, 0, 0, 124, window),
+        27 => two_marks(2, 1000, 0, 0, 3, RESERVED, 2, 2, INVALID, 3, 3, window),
+        28 => one_mark(3, 1000, 0, 0, 7, INVALID, 2, 7, window),
+        29 => one_mark(3, 1000, 0, 0, 7, RESERVED, 4, 7, window),
         30 => three_marks(
             8,
             1000,
@@ -79,30 +92,30 @@ fn cut_shaped(shape: usize, from: u32) -> Cut
             INVALID,
             255,
             255,
-            from,
+            window,
         ),
-        31 => one_mark(2, 1000, 0, 0, 3, INVALID, 2, 3, from),
-        32 => one_mark(16, 1000, 0, 0, 1000, INVALID, 65535, 65535, from),
-        33 => two_marks(2, 1000, 0, 0, 3, ERROR, 2, 2, INVALID, 3, 3, from),
-        34 => no_mark(16, 100, 0, 0, 10000, from),
-        35 => no_mark(6, 1000, 0, 0, 63, from),
-        36 => no_mark(5, 1000, 0, 0, 31, from),
+        31 => one_mark(2, 1000, 0, 0, 3, INVALID, 2, 3, window),
+        32 => one_mark(16, 1000, 0, 0, 1000, INVALID, 65535, 65535, window),
+        33 => two_marks(2, 1000, 0, 0, 3, ERROR, 2, 2, INVALID, 3, 3, window),
+        34 => no_mark(16, 100, 0, 0, 10000, window),
+        35 => no_mark(6, 1000, 0, 0, 63, window),
+        36 => no_mark(5, 1000, 0, 0, 31, window),
         _ => Cut {
             bits: 0,
-            raw: Raw(from),
+            raw: Raw(window),
             class: Class::NotInCatalogue,
         },
     }
 }
 
-// Of the bits that begin with a signal, as many as there are: its bits, its count, and the class of that.
-pub fn cut_of(number: u32, from: u32) -> Cut
-    ensures { λ r. ⌜ r ≡ cutOf number from ⌝ }
+// Of the window of bits that begins with a signal: how many are its own, its count, and the class of that.
+pub fn cut_of(number: u32, window: u32) -> Cut
+    ensures { λ r. ⌜ r ≡ cutOf number window ⌝ }
 {
-    cut_shaped(shape_of(number), from)
+    cut_shaped(shape_of(number), window)
 }
 
-// The class of a raw count of the signal with a number. One that is more than the signal's bits is too wide.
+// The class of a raw count of the signal with a number. A number that is more than the count cut from it is too wide.
 pub fn class_of(number: u32, raw: Raw) -> Class
     ensures { λ r. ⌜ r ≡ classOf number raw ⌝ }
 {

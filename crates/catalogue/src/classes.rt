@@ -1,5 +1,5 @@
-// A signal's count in a row, cut from the bits that begin with it, and its class: a mark wins over the range; then it is a value if it
-// lies within the raw limits; else it is outside. For `by_shape`, which has the constants of each shape.
+// A signal's count in a row, cut from the window of bits that begins with it, and its class: a mark wins over the range; then it is a
+// value if it lies within the raw limits; else it is outside. For `by_shape`, which has the constants of each shape.
 use crate::Class;
 use crate::Cut;
 use crate::Raw;
@@ -24,12 +24,12 @@ fn is_between(first: u32, last: u32, count: u32) -> bool
     first <= count && count <= last
 }
 
-// The lowest `bits` bits of a number.
-fn lowest_bits(from: u32, bits: u32) -> u32
+// The lowest `bits` bits of a window.
+fn low_bits(window: u32, bits: u32) -> u32
     requires { ⌜ bits ≤ mostBits ⌝ }
-    ensures { λ r. ⌜ r ≡ from % 2 ^ bits ⌝ }
+    ensures { λ r. ⌜ r ≡ window % 2 ^ bits ⌝ }
 {
-    (from as u64 % (1 << bits)) as u32
+    (window as u64 % (1 << bits)) as u32
 }
 
 // The class that a mark gives, by its kind.
@@ -92,8 +92,8 @@ fn class_in(
     Class::Outside(raw)
 }
 
-// The count of so many bits that begins with these, and its class, in a row with these numbers and three marks; below, with two, one
-// and none.
+// The count of so many bits that a window begins with, and its class, in a row with these numbers and three marks; below, with two,
+// one and none.
 pub fn three_marks(
     bits: u32,
     resolution: u16,
@@ -109,12 +109,12 @@ pub fn three_marks(
     kind3: u8,
     first3: u32,
     last3: u32,
-    from: u32,
+    window: u32,
 ) -> Cut
     requires { ⌜ (bits ≤ mostBits) × Kinded (mark kind1 first1 last1) × Kinded (mark kind2 first2 last2) × Kinded (mark kind3 first3 last3) ⌝ }
-    ensures { λ r. ⌜ r ≡ cutFor (some (row 0 bits resolution offset lowest highest (mark kind1 first1 last1) (mark kind2 first2 last2) (mark kind3 first3 last3))) from ⌝ }
+    ensures { λ r. ⌜ r ≡ cutFor (some (row 0 bits resolution offset lowest highest (mark kind1 first1 last1) (mark kind2 first2 last2) (mark kind3 first3 last3))) window ⌝ }
 {
-    let raw = Raw(lowest_bits(from, bits));
+    let raw = Raw(low_bits(window, bits));
     let class = class_in(
         resolution,
         offset,
@@ -146,10 +146,10 @@ pub fn two_marks(
     kind2: u8,
     first2: u32,
     last2: u32,
-    from: u32,
+    window: u32,
 ) -> Cut
     requires { ⌜ (bits ≤ mostBits) × Kinded (mark kind1 first1 last1) × Kinded (mark kind2 first2 last2) ⌝ }
-    ensures { λ r. ⌜ r ≡ cutFor (some (row 0 bits resolution offset lowest highest (mark kind1 first1 last1) (mark kind2 first2 last2) unmarked)) from ⌝ }
+    ensures { λ r. ⌜ r ≡ cutFor (some (row 0 bits resolution offset lowest highest (mark kind1 first1 last1) (mark kind2 first2 last2) unmarked)) window ⌝ }
 {
     three_marks(
         bits,
@@ -166,7 +166,7 @@ pub fn two_marks(
         UNMARKED,
         1,
         0,
-        from,
+        window,
     )
 }
 
@@ -179,10 +179,10 @@ pub fn one_mark(
     kind: u8,
     first: u32,
     last: u32,
-    from: u32,
+    window: u32,
 ) -> Cut
     requires { ⌜ (bits ≤ mostBits) × Kinded (mark kind first last) ⌝ }
-    ensures { λ r. ⌜ r ≡ cutFor (some (row 0 bits resolution offset lowest highest (mark kind first last) unmarked unmarked)) from ⌝ }
+    ensures { λ r. ⌜ r ≡ cutFor (some (row 0 bits resolution offset lowest highest (mark kind first last) unmarked unmarked)) window ⌝ }
 {
     two_marks(
         bits,
@@ -196,13 +196,20 @@ pub fn one_mark(
         UNMARKED,
         1,
         0,
-        from,
+        window,
     )
 }
 
-pub fn no_mark(bits: u32, resolution: u16, offset: i32, lowest: u32, highest: u32, from: u32) -> Cut
+pub fn no_mark(
+    bits: u32,
+    resolution: u16,
+    offset: i32,
+    lowest: u32,
+    highest: u32,
+    window: u32,
+) -> Cut
     requires { ⌜ bits ≤ mostBits ⌝ }
-    ensures { λ r. ⌜ r ≡ cutFor (some (row 0 bits resolution offset lowest highest unmarked unmarked unmarked)) from ⌝ }
+    ensures { λ r. ⌜ r ≡ cutFor (some (row 0 bits resolution offset lowest highest unmarked unmarked unmarked)) window ⌝ }
 {
     one_mark(
         bits,
@@ -213,6 +220,6 @@ pub fn no_mark(bits: u32, resolution: u16, offset: i32, lowest: u32, highest: u3
         UNMARKED,
         1,
         0,
-        from,
+        window,
     )
 }

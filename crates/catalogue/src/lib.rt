@@ -1,7 +1,7 @@
 // The signal catalogue of the 199 signals of QC/T 1201.5-2023: by a signal's number, how many bits it has and what a raw
 // count of it stands for. A number that no signal has is answered too. The bits come from the constant table's column, by the signal's
-// place in it: who asks for those of many signals, as every call on a book or a frame does, binds the column once and lends it. The
-// class goes by the signal's shape, and so does a signal's count where the bits that begin with it are at hand, as in a frame. Of the
+// place in it: who asks for those of many signals, as the reader of a text does, binds the column once and lends it. The class goes by
+// the signal's shape, and so do its bits and its count where the window of bits that begins with it is at hand, as in a frame. Of the
 // public functions only `place_of` and `bits_at`, which are lent columns, have a `requires`.
 mod by_shape;
 mod classes;
@@ -25,7 +25,7 @@ pub use widths::bits_of;
 // A raw count, as a frame carries it.
 pub struct Raw(pub u32);
 
-// What the bits that begin with a signal have of it: how many bits it has, its count, and the class of that.
+// What the window of bits that begins with a signal has of it: how many bits are its own, its count, and the class of that.
 pub struct Cut {
     pub bits: u32,
     pub raw: Raw,

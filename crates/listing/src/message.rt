@@ -31,7 +31,7 @@ fn put_signals(
     let mut i: usize = 0;
     while i < numbers.len() {
         let number = numbers[i];
-        let cut = catalogue::cut_of(number, bits::onward(word, starts[i]));
+        let cut = catalogue::cut_of(number, bits::window(word, starts[i]));
         let class = cut.class;
         next = put_reading(&mut *out, next, identifier, number, class, figures);
         i += 1;

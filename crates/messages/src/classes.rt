@@ -40,13 +40,13 @@ fn thousandths_of(class: Class) -> i64
     }
 }
 
-// What the bits that begin with a signal have of it, in numbers: how many bits it has, its count and the code of its class go where they
-// are lent, and the answer is the thousandths. Whoever reads, packs or classes a count asks here, so that the class itself, which is no
-// number, never goes through memory, and the jump to a signal's shape is there once.
-pub fn cut_numbers(number: u32, from: u32, bits: &mut u32, count: &mut u32, code: &mut u8) -> i64
-    ensures { λ r. ⌜ _≡_ {A = ℤ × (ℕ × (ℕ × ℕ))} (r, (now (bits .exit), (now (count .exit), now (code .exit)))) (numbersOfCut (cutOf number from)) ⌝ }
+// What the window of bits that begins with a signal has of it, in numbers: how many bits are its own, its count and the code of its class
+// go where they are lent, and the answer is the thousandths. A frame is read and packed by it, and a count classed, so that the class
+// itself, which is no number, never goes through memory, and the jump to a signal's shape is there once.
+pub fn cut_numbers(number: u32, window: u32, bits: &mut u32, count: &mut u32, code: &mut u8) -> i64
+    ensures { λ r. ⌜ _≡_ {A = ℤ × (ℕ × (ℕ × ℕ))} (r, (now (bits .exit), (now (count .exit), now (code .exit)))) (numbersOfCut (cutOf number window)) ⌝ }
 {
-    let cut = catalogue::cut_of(number, from);
+    let cut = catalogue::cut_of(number, window);
     let raw = cut.raw;
     let class = cut.class;
     *bits = cut.bits;

@@ -31,8 +31,8 @@ pub fn read_signals(
     let mut code: u8 = 0;
     while left > 0 {
         let number = numbers[i];
-        let from = bits::onward(word, starts[i]);
-        let reading = cut_numbers(number, from, &mut bits, &mut raw, &mut code);
+        let window = bits::window(word, starts[i]);
+        let reading = cut_numbers(number, window, &mut bits, &mut raw, &mut code);
         raws[i] = raw;
         classes[i] = code;
         thousandths[i] = reading;

@@ -71,7 +71,10 @@ same-length-2 : tie.Need-same-length-2 Inv-loop μ-loop
 same-length-2 c = simp (c .before .before .before .before .before .before .before .before .before .before .loop .inv .0 .below .each, c .before .before .before .before .before .before .before .before .before .before .before .before .before .before .before .before .before .before .pre .3 .each)
 
 returns-2 : tie.Need-returns-2 Inv-loop μ-loop
-returns-2 c = refuse-over _ _ _ _ _ _ _ (c .before .before .before .before .before .before .before .before .before .before .before .before .before .before .before .before .before .before .pre .1) (c .before .before .before .before .before .before .before .before .before .before .loop .inv .0) (within (c .before .before .before .before .before .before .before .before .before .before .loop .inv .1) (c .before .before .before .before .before .before .before .before .before .loop-test .taken)) _ (at-place _ _ _ (c .before .before .before .before .before .before .place-of .ensures) (c .before .before .before .before .place .given .1)) _ (its-last _ _ _ (c .before .before .before .before .before .before .before .before .before .before .before .before .before .before .before .before .before .before .pre .2 .lasts) (at-place _ _ _ (c .before .before .before .before .before .before .place-of .ensures) (c .before .before .before .before .place .given .1)) _ (c .before .wide .ensures)) (c .if1 .taken)
+returns-2 c =
+    let last = its-last _ _ _ (c .before .before .before .before .before .before .before .before .before .before .before .before .before .before .before .before .before .before .pre .2 .lasts) (at-place _ _ _ (c .before .before .before .before .before .before .place-of .ensures) (c .before .before .before .before .place .given .1)) _ (c .before .wide .ensures) in
+    let below = last .0 in
+    refuse-over _ _ _ _ _ _ _ (c .before .before .before .before .before .before .before .before .before .before .before .before .before .before .before .before .before .before .pre .1) (c .before .before .before .before .before .before .before .before .before .before .loop .inv .0) (within (c .before .before .before .before .before .before .before .before .before .before .loop .inv .1) (c .before .before .before .before .before .before .before .before .before .loop-test .taken)) _ (at-place _ _ _ (c .before .before .before .before .before .before .place-of .ensures) (c .before .before .before .before .place .given .1)) _ last (omega (arith, c .if1 .taken, below))
 
 run-up-to-requires : tie.Need-run-up-to-requires Inv-loop μ-loop
 run-up-to-requires c κs = (c .if1 .left, (its-last _ _ _ (c .before .before .before .before .before .before .before .before .before .before .before .before .before .before .before .before .before .before .pre .2 .lasts) (at-place _ _ _ (c .before .before .before .before .before .before .place-of .ensures) (c .before .before .before .before .place .given .1)) _ (c .before .wide .ensures)) .0)
@@ -98,7 +101,7 @@ same-length-4 : tie.Need-same-length-4 Inv-loop μ-loop
 same-length-4 c = simp (c .before .before .before .before .before .before .before .before .before .before .before .before .before .before .before .before .before .loop .inv .0 .below .each, c .before .before .before .before .before .before .before .before .before .before .before .before .before .before .before .before .before .before .before .before .before .before .before .before .before .pre .3 .each)
 
 returns-4 : tie.Need-returns-4 Inv-loop μ-loop
-returns-4 c = refuse-again _ _ _ _ _ _ _ (c .before .before .before .before .before .before .before .before .before .before .before .before .before .before .before .before .before .before .before .before .before .before .before .before .before .pre .1) (c .before .before .before .before .before .before .before .before .before .before .before .before .before .before .before .before .before .loop .inv .0) (within (c .before .before .before .before .before .before .before .before .before .before .before .before .before .before .before .before .before .loop .inv .1) (c .before .before .before .before .before .before .before .before .before .before .before .before .before .before .before .before .loop-test .taken)) _ (at-place _ _ _ (c .before .before .before .before .before .before .before .before .before .before .before .before .before .place-of .ensures) (c .before .before .before .before .before .before .before .before .before .before .before .place .given .1)) _ (its-last _ _ _ (c .before .before .before .before .before .before .before .before .before .before .before .before .before .before .before .before .before .before .before .before .before .before .before .before .before .pre .2 .lasts) (at-place _ _ _ (c .before .before .before .before .before .before .before .before .before .before .before .before .before .place-of .ensures) (c .before .before .before .before .before .before .before .before .before .before .before .place .given .1)) _ (c .before .before .before .before .before .before .before .before .wide .ensures)) (c .before .before .before .before .before .before .before .if1 .left) (c .before .before .if3 .left) (sym (c .before .has-fixed-start .ensures) ∙ not-true _ (c .if4 .taken))
+returns-4 c = refuse-again _ _ _ _ _ _ _ (c .before .before .before .before .before .before .before .before .before .before .before .before .before .before .before .before .before .before .before .before .before .before .before .before .before .pre .1) (c .before .before .before .before .before .before .before .before .before .before .before .before .before .before .before .before .before .loop .inv .0) (within (c .before .before .before .before .before .before .before .before .before .before .before .before .before .before .before .before .before .loop .inv .1) (c .before .before .before .before .before .before .before .before .before .before .before .before .before .before .before .before .loop-test .taken)) _ (at-place _ _ _ (c .before .before .before .before .before .before .before .before .before .before .before .before .before .place-of .ensures) (c .before .before .before .before .before .before .before .before .before .before .before .place .given .1)) _ (its-last _ _ _ (c .before .before .before .before .before .before .before .before .before .before .before .before .before .before .before .before .before .before .before .before .before .before .before .before .before .pre .2 .lasts) (at-place _ _ _ (c .before .before .before .before .before .before .before .before .before .before .before .before .before .place-of .ensures) (c .before .before .before .before .before .before .before .before .before .before .before .place .given .1)) _ (c .before .before .before .before .before .before .before .before .wide .ensures)) (c .before .before .before .before .before .before .before .if1 .left) (omega (arith, c .before .before .if3 .left)) (sym (c .before .has-fixed-start .ensures) ∙ not-true _ (c .if4 .taken))
 
 either-requires : tie.Need-either-requires Inv-loop μ-loop
 either-requires c κs = search needs

@@ -3,7 +3,7 @@
 use mathlib.Core.Path.{sym, ap, _∙_}
 use borrow.Author.Needs.{needs}
 use Rattle.catalogue.specs.declared.Cut.{Cut}
-use Rattle.catalogue.proofs.Classing.{class-cut, too-wide}
+use Rattle.catalogue.proofs.Classing.{class-cut, cut-too-wide}
 use Rattle.catalogue.proofs.by_shape.class_of.Statement.{statement}
 use Rattle.catalogue.proofs.by_shape.class_of.Tie as tie
 
@@ -11,7 +11,7 @@ cut-of-requires : tie.Need-cut-of-requires
 cut-of-requires c κs = search needs
 
 returns : tie.Need-returns
-returns c = too-wide _ _ (λ e. c .if1 .taken (ap (λ (k : Cut). k .raw .0) (c .before .before .before .before .cut-of .ensures) ∙ e))
+returns c = cut-too-wide _ _ (λ e. c .if1 .taken (ap (λ (k : Cut). k .raw .0) (c .before .before .before .before .cut-of .ensures) ∙ e))
 
 returns-2 : tie.Need-returns-2
 returns-2 c = ap (λ (k : Cut). k .class) (c .before .before .before .before .cut-of .ensures) ∙ class-cut _ _ (sym (ap (λ (k : Cut). k .raw .0) (c .before .before .before .before .cut-of .ensures)) ∙ c .if1 .left)

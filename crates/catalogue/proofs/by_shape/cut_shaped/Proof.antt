@@ -15,8 +15,8 @@ use Rattle.catalogue.proofs.by_shape.cut_shaped.Statement.{statement}
 use Rattle.catalogue.proofs.by_shape.cut_shaped.Tie as tie
 
 -- what is cut in the row of the arm's shape is that in the row of the shape, which is the same
-arm : (k s from : ℕ) (r : Cut) → s ≡ k → r ≡ cutFor (rowShaped k) from → r ≡ cutFor (rowShaped s) from
-arm k s from r e h = subst (λ (m : ℕ). r ≡ cutFor (rowShaped m) from) (sym e) h
+arm : (k s window : ℕ) (r : Cut) → s ≡ k → r ≡ cutFor (rowShaped k) window → r ≡ cutFor (rowShaped s) window
+arm k s window r e h = subst (λ (m : ℕ). r ≡ cutFor (rowShaped m) window) (sym e) h
 
 pub cut-shaped-spec : {M : Type 1} → statement M
 cut-shaped-spec =
@@ -94,4 +94,4 @@ cut-shaped-spec =
     (λ c. search arm)
     (λ c. search arm)
     (λ c. search arm)
-    (λ c. ap (λ (o : Option Row). cutFor o (c .before .args .from)) (no-shape (c .before .args .shape) (c .match .rest))))
+    (λ c. ap (λ (o : Option Row). cutFor o (c .before .args .window)) (no-shape (c .before .args .shape) (c .match .rest))))

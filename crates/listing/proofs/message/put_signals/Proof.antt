@@ -27,14 +27,14 @@ mul-number c = omega arith
 shared-slice-read-number : tie.Need-shared-slice-read-number Inv-loop μ-loop
 shared-slice-read-number c = omega arith
 
-mul-onward : tie.Need-mul-onward Inv-loop μ-loop
-mul-onward c = omega arith
+mul-window : tie.Need-mul-window Inv-loop μ-loop
+mul-window c = omega arith
 
-shared-slice-read-onward : tie.Need-shared-slice-read-onward Inv-loop μ-loop
-shared-slice-read-onward c = omega (arith, c .before .before .before .before .before .before .before .pre .same)
+shared-slice-read-window : tie.Need-shared-slice-read-window Inv-loop μ-loop
+shared-slice-read-window c = omega (arith, c .before .before .before .before .before .before .before .pre .same)
 
-onward-requires : tie.Need-onward-requires Inv-loop μ-loop
-onward-requires c κs =
+window-requires : tie.Need-window-requires Inv-loop μ-loop
+window-requires c κs =
     let f = fits-next (c .before .before .before .loop .inv) (c .before .before .before .before .before .before .before .pre) (c .before .before .loop-test .taken) in
     omega (arith, f .some, f .inside)
 
@@ -46,7 +46,7 @@ put-reading-requires c κs =
     let w = c .before .before .before .before .before .before .loop .inv in
     let r = c .before .before .before .before .before .before .before .before .before .before .pre in
     let h = c .before .before .before .before .before .loop-test .taken in
-    let class = ap (λ (k : Cut). k .class) (c .before .cut-of .ensures) ∙ class-there _ _ (fits-next w r h) _ (c .before .before .onward .ensures) in
+    let class = ap (λ (k : Cut). k .class) (c .before .cut-of .ensures) ∙ class-there _ _ (fits-next w r h) _ (c .before .before .window .ensures) in
     (room-left w r h, subst⁻¹ SmallIfValue class (small-class _ _))
 
 add-i : tie.Need-add-i Inv-loop μ-loop
@@ -60,7 +60,7 @@ loop-again c =
     let w = c .before .before .before .before .before .before .before .before .before .loop .inv in
     let r = c .before .before .before .before .before .before .before .before .before .before .before .before .before .pre in
     let h = c .before .before .before .before .before .before .before .before .loop-test .taken in
-    let class = ap (λ (k : Cut). k .class) (c .before .before .before .before .cut-of .ensures) ∙ class-there _ _ (fits-next w r h) _ (c .before .before .before .before .before .onward .ensures) in
+    let class = ap (λ (k : Cut). k .class) (c .before .before .before .before .cut-of .ensures) ∙ class-there _ _ (fits-next w r h) _ (c .before .before .before .before .before .window .ensures) in
     signal-walked w r h class (c .before .before .put-reading .ensures)
 
 same-length : tie.Need-same-length Inv-loop μ-loop
@@ -78,9 +78,9 @@ put-signals-spec =
     loop-holds
     mul-number
     shared-slice-read-number
-    mul-onward
-    shared-slice-read-onward
-    onward-requires
+    mul-window
+    shared-slice-read-window
+    window-requires
     cut-of-requires
     put-reading-requires
     add-i

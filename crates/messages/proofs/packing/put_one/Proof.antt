@@ -2,13 +2,12 @@
 -- Assumes nothing.
 use mathlib.Core.Path.{sym, ap, _∙_, subst⁻¹}
 use Prim.Native.Nat.{ℕ, _^_, _<_}
-use lib.IntN.{ℤ}
 use Rattle.bits.specs.Word.{Fits, placed}
 use Rattle.catalogue.specs.Class.{classOf}
 use Rattle.catalogue.proofs.Classing.{class-cut, cut-bits}
 use Rattle.framing.specs.Reading.{classCode}
 use Rattle.messages.specs.declared.packing.PutWord.the-variants.{Word}
-use Rattle.messages.proofs.Cuts.{more-wide, count-narrow, not-wide}
+use Rattle.messages.proofs.Cuts.{more-wide, count-narrow, not-wide, its-bits, its-count, its-code}
 use Rattle.messages.proofs.Packs.{fine-code, barred-code, put-skips, put-wide, put-fine, put-barred}
 use borrow.Author.Needs.{needs}
 use Rattle.messages.proofs.packing.put_one.Statement.{statement}
@@ -29,7 +28,7 @@ returns-2 c =
     let cut = c .before .cut-numbers .ensures in
     let a = c .before .before .before .before .before .before .args in
     let some = c .before .before .before .before .before .before .pre .some in
-    let wide = more-wide (a .number) (a .value) some (λ e. c .if2 .taken (ap (λ (x : ℤ × (ℕ × (ℕ × ℕ))). x .1 .1 .0) cut ∙ e)) in
+    let wide = more-wide (a .number) (a .value) some (λ e. c .if2 .taken (its-count cut ∙ e)) in
     put-wide (a .word) (record { number = a .number; start = a .start }) (a .value) (c .before .before .before .before .before .if1 .left) wide
 
 returns-3 : tie.Need-returns-3
@@ -37,8 +36,8 @@ returns-3 c =
     let cut = c .before .before .cut-numbers .ensures in
     let a = c .before .before .before .before .before .before .before .args in
     let some = c .before .before .before .before .before .before .before .pre .some in
-    let whole = sym (ap (λ (x : ℤ × (ℕ × (ℕ × ℕ))). x .1 .1 .0) cut) ∙ c .before .if2 .left in
-    let code = ap (λ (x : ℤ × (ℕ × (ℕ × ℕ))). x .1 .1 .1) cut ∙ ap classCode (class-cut (a .number) (a .value) whole) in
+    let whole = sym (its-count cut) ∙ c .before .if2 .left in
+    let code = its-code cut ∙ ap classCode (class-cut (a .number) (a .value) whole) in
     put-barred (a .word) (record { number = a .number; start = a .start }) (a .value) (c .before .before .before .before .before .before .if1 .left) (not-wide (a .number) (a .value) some whole) (barred-code (classOf (a .number) (record { 0 = a .value })) code (c .if3 .taken))
 
 place-requires : tie.Need-place-requires
@@ -46,17 +45,17 @@ place-requires c κs =
     let cut = c .before .before .cut-numbers .ensures in
     let a = c .before .before .before .before .before .before .before .args in
     let some = c .before .before .before .before .before .before .before .pre .some in
-    let bits = ap (λ (x : ℤ × (ℕ × (ℕ × ℕ))). x .1 .0) cut ∙ cut-bits (a .number) (a .value) in
-    (subst⁻¹ (λ (b : ℕ). Fits (a .start) b) bits (c .before .before .before .before .before .before .before .pre), subst⁻¹ (λ (b : ℕ). a .value < 2 ^ b) bits (count-narrow (a .number) (a .value) some (sym (ap (λ (x : ℤ × (ℕ × (ℕ × ℕ))). x .1 .1 .0) cut) ∙ c .before .if2 .left)))
+    let bits = its-bits cut ∙ cut-bits (a .number) (a .value) in
+    (subst⁻¹ (λ (b : ℕ). Fits (a .start) b) bits (c .before .before .before .before .before .before .before .pre), subst⁻¹ (λ (b : ℕ). a .value < 2 ^ b) bits (count-narrow (a .number) (a .value) some (sym (its-count cut) ∙ c .before .if2 .left)))
 
 returns-4 : tie.Need-returns-4
 returns-4 c =
     let cut = c .before .before .before .cut-numbers .ensures in
     let a = c .before .before .before .before .before .before .before .before .args in
     let some = c .before .before .before .before .before .before .before .before .pre .some in
-    let bits = ap (λ (x : ℤ × (ℕ × (ℕ × ℕ))). x .1 .0) cut ∙ cut-bits (a .number) (a .value) in
-    let whole = sym (ap (λ (x : ℤ × (ℕ × (ℕ × ℕ))). x .1 .1 .0) cut) ∙ c .before .before .if2 .left in
-    let code = ap (λ (x : ℤ × (ℕ × (ℕ × ℕ))). x .1 .1 .1) cut ∙ ap classCode (class-cut (a .number) (a .value) whole) in
+    let bits = its-bits cut ∙ cut-bits (a .number) (a .value) in
+    let whole = sym (its-count cut) ∙ c .before .before .if2 .left in
+    let code = its-code cut ∙ ap classCode (class-cut (a .number) (a .value) whole) in
     ap Word (c .place .ensures ∙ ap (λ (b : ℕ). placed (a .word) (a .start) b (a .value)) bits)
     ∙ put-fine (a .word) (record { number = a .number; start = a .start }) (a .value) (c .before .before .before .before .before .before .before .if1 .left) (not-wide (a .number) (a .value) some whole) (fine-code (classOf (a .number) (record { 0 = a .value })) code (c .before .if3 .left))
 

@@ -12,13 +12,13 @@ use borrow.Author.Needs.{needs}
 use Rattle.columns.proofs.Counting.{within, past}
 use Rattle.framing.specs.Reading.{classCode, thousandthsOf}
 use Rattle.messages.specs.Signals.{AllFit, rawIn, codeIn, readingIn}
-use Rattle.messages.proofs.Cuts.{count-there, class-there}
+use Rattle.messages.proofs.Cuts.{count-there, class-there, its-reading, its-count, its-code}
 use Rattle.messages.proofs.Steps.{rest, placementAt, fits-at, fits-on, Writing, write-more, write-none, write-length}
 use Rattle.messages.proofs.reading.read_signals.Statement.{statement}
 use Rattle.messages.proofs.reading.read_signals.Tie as tie
 use Rattle.messages.proofs.reading.read_signals.Reads as reads
 use Rattle.messages.proofs.reading.read_signals.Lts as lts
-use Rattle.bits.proofs.onward.Reads as onward-reads
+use Rattle.bits.proofs.window.Reads as window-reads
 use Rattle.columns.proofs.length_of.Reads as length-of-reads
 use Rattle.messages.proofs.classes.cut_numbers.Reads as cut-numbers-reads
 
@@ -47,14 +47,14 @@ mul-number c = omega (arith, c .before .loop .inv .counted, c .before .before .b
 shared-slice-read-number : tie.Need-shared-slice-read-number Inv-loop μ-loop
 shared-slice-read-number c = omega (arith, c .before .before .loop .inv .counted, c .before .before .before .before .before .before .before .before .pre .same)
 
-mul-onward : tie.Need-mul-onward Inv-loop μ-loop
-mul-onward c = omega (arith, c .before .before .loop .inv .counted, c .before .before .before .before .before .before .before .before .pre .same)
+mul-window : tie.Need-mul-window Inv-loop μ-loop
+mul-window c = omega (arith, c .before .before .loop .inv .counted, c .before .before .before .before .before .before .before .before .pre .same)
 
-shared-slice-read-onward : tie.Need-shared-slice-read-onward Inv-loop μ-loop
-shared-slice-read-onward c = omega (arith, c .before .before .before .loop .inv .counted, c .before .before .before .before .before .before .before .before .before .pre .same)
+shared-slice-read-window : tie.Need-shared-slice-read-window Inv-loop μ-loop
+shared-slice-read-window c = omega (arith, c .before .before .before .loop .inv .counted, c .before .before .before .before .before .before .before .before .before .pre .same)
 
-onward-requires : tie.Need-onward-requires Inv-loop μ-loop
-onward-requires c κs =
+window-requires : tie.Need-window-requires Inv-loop μ-loop
+window-requires c κs =
     let f = fits-at (c .before .before .before .before .before .before .before .before .before .args .numbers .now) (c .before .before .before .before .before .before .before .before .before .args .starts .now) (c .before .before .before .loop .i) (within (c .before .before .before .loop .inv .counted) (c .before .before .loop-test .taken)) (c .before .before .before .before .before .before .before .before .before .pre .same) (c .before .before .before .loop .inv .fit) in
     omega (arith, f .some, f .inside)
 
@@ -94,12 +94,12 @@ loop-again c = let a = c .before .before .before .before .before .before .before
     let e = c .before .before .before .before .before .before .before .before .before .before .before .before .before .before .pre .same in
     let p = placementAt ns ss (l .i) in
     let f = fits-at ns ss (l .i) h e (l .inv .fit) in
-    let there = c .before .before .before .before .onward .ensures in
+    let there = c .before .before .before .before .window .ensures in
     let cut = c .cut-numbers .ensures in
-    let raw = ap (λ (x : ℤ × (ℕ × (ℕ × ℕ))). x .1 .1 .0) cut ∙ count-there (a .word) p f _ there in
+    let raw = its-count cut ∙ count-there (a .word) p f _ there in
     let class = class-there (a .word) p f _ there in
-    let code = ap (λ (x : ℤ × (ℕ × (ℕ × ℕ))). x .1 .1 .1) cut ∙ ap classCode class in
-    let reading = toZ-ofZ w64 (c .cut-numbers .result) (search needs) ∙ ap (λ (x : ℤ × (ℕ × (ℕ × ℕ))). x .0) cut ∙ ap thousandthsOf class in
+    let code = its-code cut ∙ ap classCode class in
+    let reading = toZ-ofZ w64 (c .cut-numbers .result) (search needs) ∙ its-reading cut ∙ ap thousandthsOf class in
     record {
       counted = omega (arith, l .inv .counted, c .before .before .before .before .before .before .before .loop-test .taken);
       fit = fits-on ns ss (l .i) h e (l .inv .fit);
@@ -134,9 +134,9 @@ read-signals-spec =
     loop-holds
     mul-number
     shared-slice-read-number
-    mul-onward
-    shared-slice-read-onward
-    onward-requires
+    mul-window
+    shared-slice-read-window
+    window-requires
     cut-numbers-requires
     mul-raws
     slice-write-raws

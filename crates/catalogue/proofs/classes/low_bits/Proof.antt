@@ -1,4 +1,4 @@
--- `catalogue::classes::lowest_bits` meets its contract: 2 ^ bits fits 64 bits, and what is left of 32 fits those.
+-- `catalogue::classes::low_bits` meets its contract: 2 ^ bits fits 64 bits, and what is left of 32 fits those.
 -- Assumes nothing.
 use mathlib.Core.Path.{_≡_, ap, _∙_}
 use Prim.Native.Nat.{ℕ, _+_, _*_, _^_, _%_, _≤_}
@@ -6,8 +6,8 @@ use native.Mathlib.Nat.{one-mul, mod-le}
 use native.Mathlib.Omega.{arith}
 use borrow.Author.Needs.{needs}
 use lib.Pow.{shl-exact, pow-pos}
-use Rattle.catalogue.proofs.classes.lowest_bits.Statement.{statement}
-use Rattle.catalogue.proofs.classes.lowest_bits.Tie as tie
+use Rattle.catalogue.proofs.classes.low_bits.Statement.{statement}
+use Rattle.catalogue.proofs.classes.low_bits.Tie as tie
 
 power : (bits : ℕ) → 1 + bits ≤ 64 → (1 * 2 ^ bits) % 2 ^ 64 ≡ 2 ^ bits
 power bits h = shl-exact 1 bits 64 (omega arith) h ∙ one-mul (2 ^ bits)
@@ -23,10 +23,10 @@ rem-result : tie.Need-rem-result
 rem-result c = omega (arith, whole c, pow-pos (c .args .bits))
 
 cast-result : tie.Need-cast-result
-cast-result c = omega (arith, mod-le (c .args .from) ((1 * 2 ^ c .args .bits) % 2 ^ 64), c .fits .from)
+cast-result c = omega (arith, mod-le (c .args .window) ((1 * 2 ^ c .args .bits) % 2 ^ 64), c .fits .window)
 
 returns : tie.Need-returns
-returns c = ap (λ (m : ℕ). c .args .from % m) (whole c)
+returns c = ap (λ (m : ℕ). c .args .window % m) (whole c)
 
-pub lowest-bits-spec : {M : Type 1} → statement M
-lowest-bits-spec = tie.close (tie.spec shl-result rem-result cast-result returns)
+pub low-bits-spec : {M : Type 1} → statement M
+low-bits-spec = tie.close (tie.spec shl-result rem-result cast-result returns)
