@@ -1,0 +1,7 @@
+pub mod Numbers
+pub mod Moving
+pub mod Next
+pub mod Answers
+pub mod Steps
+pub mod Ready
+pub mod OneOutcome

@@ -1,0 +1,16 @@
+-- `charging::widths::main_relays_fit` meets its contract: each of its calls answers for one count. Assumes nothing.
+use borrow.Author.Needs.{needs}
+use Rattle.charging.proofs.widths.main_relays_fit.Statement.{statement}
+use Rattle.charging.proofs.widths.main_relays_fit.Tie as tie
+
+fits-requires : tie.Need-fits-requires
+fits-requires c κs = search needs
+
+fits-requires-2 : tie.Need-fits-requires-2
+fits-requires-2 c κs = search needs
+
+returns : tie.Need-returns
+returns c = cc
+
+pub main-relays-fit-spec : {M : Type 1} → statement M
+main-relays-fit-spec = tie.close (tie.spec fits-requires fits-requires-2 returns)

@@ -1,0 +1,6 @@
+pub mod Observed
+pub mod Conditions
+pub mod States
+pub mod Rules
+pub mod Refusals
+pub mod Met

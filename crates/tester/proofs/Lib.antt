@@ -1,0 +1,3 @@
+pub mod ChargeNumbers
+pub mod Followed
+pub mod OneOutcome
