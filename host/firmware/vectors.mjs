@@ -1,13 +1,9 @@
 // node vectors.mjs MODULE SUBJECT: runs the cases of tools/SUBJECT_vectors.py from standard input by the proved module in WebAssembly and
 // prints what came out, as host/vectors.c does by an archive. The subjects are catalogue, dash, routes, spread, book,
 // writer, frames, packing, faults, power, sleep and record; for catalogue the input is signal numbers and raw counts, one pair a line.
-import fs from 'node:fs';
+import { bytes, bytesAt, calls, digits, endOfLine, lend, letter, nextIs, print, printText, refused, restOfLine, run, words } from './module_cases.mjs';
 
-const [path, subject] = process.argv.slice(2);
-const calls = new WebAssembly.Instance(new WebAssembly.Module(fs.readFileSync(path)), {}).exports;
-const input = fs.readFileSync(0);
-const printed = [];
-const print = (...fields) => printed.push(fields.join('\t') + '\n');
+const subject = process.argv[3];
 
 // ---- The header's numbers.
 const BOOK_WORDS = 771, FROM = 643, MOST_ROUTES = 64, FAULT_WORDS = 7, POWER_WORDS = 8, POWER_START = 0, FRAME_BYTES = 8;
@@ -16,31 +12,18 @@ const CLASSES = ['value', 'invalid', 'absent', 'error', 'reserved', 'outside'];
 const PLACES_IN_BOOK = { M: 0, S: 1, R: 2, I: 3, E: 67, N: 131, T: 387, F: FROM, G: 707 };
 const busOf = place => place >>> 29, identifierOf = place => place & 0x1FFFFFFF;
 
-// ---- Memory: pointers have 32 bits, lengths 64, which JavaScript passes as a BigInt.
-calls.memory.grow(32);
-let free = calls.__heap_base.value;
-const lend = bytes => { const at = (free + 7) & ~7; free = at + bytes; return at; };
-const words = (at, count) => new Uint32Array(calls.memory.buffer, at, count);
-const bytesAt = (at, count) => new Uint8Array(calls.memory.buffer, at, count);
+// ---- What is lent.
 const book = lend(4 * BOOK_WORDS), text = lend(65536), line = lend(4), count = lend(4), number = lend(8), list = lend(1024), more = lend(1024),
   small = lend(256), readings = lend(2048);
 
-// ---- The input.
-let at = 0;
-const letter = () => String.fromCharCode(input[at++]);
-const digits = many => { const value = parseInt(input.toString('latin1', at, at + many), 16) >>> 0; at += many; return value; };
-const endOfLine = () => { if (input[at++] !== 10) throw new Error(`byte ${at - 1} of the input ends no line`); };
-const refused = refusal => print('no', refusal);
-
-const readText = bytes => {
-  bytesAt(text, bytes.length).set(bytes);
-  return calls.pc_book_read(text, BigInt(bytes.length), book, line);
+const readText = given => {
+  bytesAt(text, given.length).set(given);
+  return calls.pc_book_read(text, BigInt(given.length), book, line);
 };
 const readBook = () => {
   const length = digits(8);
   endOfLine();
-  const refusal = readText(input.subarray(at, at + length));
-  at += length;
+  const refusal = readText(bytes(length));
   endOfLine();
   return refusal;
 };
@@ -54,9 +37,8 @@ const printSpread = (bus, identifier, room, word) => {
 
 const cases = {
   catalogue() {
-    const end = input.indexOf(10, at);
-    const [signal, raw] = input.toString('latin1', at, end).split('\t').map(Number);
-    at = end + 1;
+    const [signal, raw] = restOfLine().split('\t').map(Number);
+    endOfLine();
     const refusal = calls.pc_class(signal, raw, count, number);
     const kind = CLASSES[words(count, 1)[0]];
     if (refusal) print(signal, raw, 'no', refusal);
@@ -96,7 +78,7 @@ const cases = {
     else print('sum', ...words(small, FAULT_WORDS));
   },
   power() {
-    words(count, 1)[0] = String.fromCharCode(input[at]) === 'N' ? (at++, POWER_START) : digits(1);
+    words(count, 1)[0] = nextIs('N') ? (letter(), POWER_START) : digits(1);
     for (let i = 0; i < POWER_WORDS; i++) words(small, POWER_WORDS)[i] = digits(8);
     endOfLine();
     const refusal = calls.pc_power_step(count, small);
@@ -145,7 +127,7 @@ const lentBook = {
     const refusal = calls.pc_book_write(book, text, BigInt(room), count);
     const many = refusal ? 0 : words(count, 1)[0], stayed = bytesAt(text + many, room - many).filter(byte => byte === FILLING).length;
     print(...refusal ? ['no', refusal, stayed] : ['text', many, stayed]);
-    printed.push(Buffer.from(bytesAt(text, many)).toString('latin1'));
+    printText(Buffer.from(bytesAt(text, many)).toString('latin1'));
   },
   X() {
     const column = letter(), index = digits(2), value = digits(8);
@@ -156,5 +138,4 @@ const lentBook = {
 cases.spread = cases.writer = cases.frames = cases.packing = cases.record = () => lentBook[letter()]();
 
 if (!(subject in cases)) throw new Error(`there is no subject '${subject}'`);
-while (at < input.length) cases[subject]();
-process.stdout.write(printed.join(''));
+run(cases[subject]);
