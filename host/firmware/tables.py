@@ -107,7 +107,7 @@ def on_aarch64(programs, archives, work, counter):
     sources = said("bash", "-c", 'host=$0; . "$0/../$1/sources"; printf "%s\\n" "${bench_sources[@]}" "${plain_sources[@]}"', HOST, programs).splitlines()
     made = []
     for archive in archives:
-        made.append(work / f"a64-{len(made)}")
+        made.append(work / f"a64-{archive.parent.name.rpartition('-')[2]}")  # the length of the name moves the stack, as host/measuring says
         said("aarch64-linux-gnu-gcc", "-std=c99", "-O2", "-static", f"-I{ROOT}/include", *sources, archive, "-o", made[-1])
     emulator = shutil.which("qemu-aarch64")
     return lambda program, *words: counted([emulator, "-plugin", counter, program, *words], {}), made[0], made
