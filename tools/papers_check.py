@@ -2,7 +2,7 @@
 """Holds the papers against the tree: every definition, theorem, function and must-fail edit that they name is there, every link
 leads somewhere, and docs/PROMISES.md names every must-fail edit. What it lists as the working side is just what no promise rests on:
 the files of specs/ that no definition named there uses, however far down. And each public function has its law of one outcome, but
-for the parts of programs that it names. The header, CHANGELOG.md and README.md name one version. The text that an edit changes is there.
+for the parts of programs that it names. Of each product the header, CHANGELOG.md and its paper name one version. The text that an edit changes is there.
 
 A reference is in backquotes: `crate: File name, name` (specs/ or proofs/), `crate: function()` (src/), `crate/edit` (must-fail/)."""
 
@@ -30,7 +30,7 @@ def missing(reference):
     """What a reference in backquotes names and the tree does not have."""
     if edit := re.fullmatch(r"([a-z_]+)/(\w+)", reference):
         crate, name = edit.groups()
-        if crate in CRATES and not (ROOT / f"crates/{crate}/must-fail/{name}.edit").exists():
+        if crate in CRATES and not (ROOT / f"crates/{crate}/must-fail/{name}.edit").exists() and not (ROOT / reference).exists():
             yield name
     if not (found := re.fullmatch(r"([a-z_]+): (.+)", reference)) or found[1] not in CRATES:
         return
@@ -80,7 +80,7 @@ def public_functions(crate):
     names = re.findall(r"(?m)^pub fn (\w+)", root) + re.findall(r"(?m)^pub use \w+::([a-z]\w*);", root)
     for path in (crate / "src").glob("*.rt"):
         text = path.read_text()
-        names += re.findall(r'pub extern "C" fn pc_(\w+)', text)
+        names += re.findall(r'pub extern "C" fn pct?_(\w+)', text)
         names += [name for body in re.findall(r"(?ms)^impl \w+.*?\{$(.*?)^\}", text) for name in re.findall(r"pub fn (\w+)", body)]
     return names
 
@@ -103,16 +103,18 @@ def lost_edits():
             yield f"{edit.relative_to(ROOT)}: its first old: does not stand just once in {file}"
 
 
+VERSIONS = {
+    "library": {"include/punnetcrest.h": r'#define PC_VERSION "(.+)"', "CHANGELOG.md": r"(?m)^## (\d\S*)", "README.md": r"This is version (\S+)"},
+    "tester": {"include/punnetcrest_tester.h": r'#define PCT_VERSION "(.+)"', "CHANGELOG.md": r"(?m)^### The tester (\d\S*)", "docs/TESTER.md": r"This is version (\S+)"},
+}
+
+
 def versions():
-    """The versions that the header, the top of CHANGELOG.md and README.md name, where they are not one."""
-    named = {
-        "include/punnetcrest.h": r'#define PC_VERSION "(.+)"',
-        "CHANGELOG.md": r"(?m)^## (\d\S*)",
-        "README.md": r"This is version (\S+)",
-    }
-    found = {file: match[1] if (match := re.search(pattern, (ROOT / file).read_text())) else "none" for file, pattern in named.items()}
-    if len(set(found.values())) > 1:
-        yield f"versions: {found}"
+    """The versions that a product's header, the top of CHANGELOG.md and its paper name, where they are not one."""
+    for product, named in VERSIONS.items():
+        found = {file: match[1] if (match := re.search(pattern, (ROOT / file).read_text())) else "none" for file, pattern in named.items()}
+        if len(set(found.values())) > 1:
+            yield f"versions of the {product}: {found}"
 
 
 def main():
