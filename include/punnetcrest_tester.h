@@ -44,7 +44,7 @@ enum pct_charge {
     PCT_CHARGE_MAIN_CLOSED = 4,   /* and 301 and 302 are 2 */
     PCT_CHARGE_ALLOWED = 5,       /* and 1709 is 1 */
     PCT_CHARGE_READY = 6,         /* and 304 and 306 are 2 */
-    PCT_CHARGE_FAULT = 7          /* a relay was welded, and since then not yet none welded with the plug out */
+    PCT_CHARGE_FAULT = 7          /* a relay was seen welded; left where none is and the plug is out */
 };
 enum {                            /* what an observation has, as raw counts: where each of them stands */
     PCT_SEEN_PLUG = 0,                    /* 1708: 0 none, 1 port A, 2 port B, 3 both */
