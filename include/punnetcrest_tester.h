@@ -28,7 +28,7 @@
 extern "C" {
 #endif
 
-/* What the call refuses: the first that applies. */
+/* What the call refuses: 93 before 81. */
 enum pct_refusal {
     PCT_DONE = 0,
     PCT_COUNT_TOO_WIDE = 81,      /* a count has more bits than its signal */
@@ -40,7 +40,7 @@ enum pct_charge {
     PCT_CHARGE_START = 0,         /* a new monitor's: no condition is met */
     PCT_CHARGE_PLUG_SEEN = 1,     /* 1708 is 1, 2 or 3 */
     PCT_CHARGE_SELF_CHECKED = 2,  /* and 1605 is 0 */
-    PCT_CHARGE_NO_WELD = 3,       /* and 311, 313, 325 and 327 are 0 */
+    PCT_CHARGE_NO_WELD = 3,       /* and 311, 313, 325 and 327 are 0: of welds it sees these four alone */
     PCT_CHARGE_MAIN_CLOSED = 4,   /* and 301 and 302 are 2 */
     PCT_CHARGE_ALLOWED = 5,       /* and 1709 is 1 */
     PCT_CHARGE_READY = 6,         /* and 304 and 306 are 2 */
@@ -56,16 +56,16 @@ enum {                            /* what an observation has, as raw counts: whe
     PCT_SEEN_MAIN_POSITIVE = 6,           /* 301: 1 open, 2 closed */
     PCT_SEEN_MAIN_NEGATIVE = 7,           /* 302 */
     PCT_SEEN_ALLOWED = 8,                 /* 1709: 1 charging allowed */
-    PCT_SEEN_CHARGE_POSITIVE = 9,         /* 304: 1 open, 2 closed */
-    PCT_SEEN_CHARGE_NEGATIVE = 10,        /* 306 */
+    PCT_SEEN_CHARGE_POSITIVE = 9,         /* 304, of the first pair: 1 open, 2 closed */
+    PCT_SEEN_CHARGE_NEGATIVE = 10,        /* 306, of the first pair */
     PCT_CHARGE_WORDS = 11
 };
 
 /* One observation. The state is one number, kept by the caller, who sets it to PCT_CHARGE_START at first. A welded fault gives
    fault, from any state; fault is left where none is set and 1708 is 0, to the start. Otherwise, where a condition that was met is
    lost, the state is the last one before the first that is lost; else it goes one on where the next condition holds too, and stays
-   where it does not. Where the call gives 0 and *state is PCT_CHARGE_READY, every condition holds in what was seen in this call.
-   Refusals 93, 81. */
+   where it does not. Where the call gives 0 and *state is PCT_CHARGE_READY, every condition holds in what was seen in this call; a
+   state that a refused call kept says nothing of what was seen in it. Refusals 93, 81. */
 uint32_t pct_charge_step(uint32_t *state, const uint32_t seen[PCT_CHARGE_WORDS]);
 
 #ifdef __cplusplus

@@ -17,8 +17,8 @@ static uint32_t no_charge_step(uint32_t *state, const uint32_t *seen) {
 /* The one that is measured. */
 static charge_step *step;
 
-/* Up to ready, and down by a lost condition each time; without a weld no condition is the third that is lost. A turn of each case goes
-   through as many observations. */
+/* Up to ready, and down by a lost condition each time; without a weld the third is never lost. A turn of each case goes through
+   as many observations. */
 enum { TURN = 11 };
 static const uint32_t walk[TURN][PCT_CHARGE_WORDS] = {
     { 1, 1, 0, 0, 0, 0, 1, 1, 0, 1, 1 }, /* plug seen */

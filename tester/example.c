@@ -87,8 +87,8 @@ static uint32_t read_frame(const struct frame *frame) {
     return PC_DONE;
 }
 
-/* One observation. A count that comes out of a frame fits its signal, so 81 is never met here; a state that is none (93) would be memory gone
-   wrong. */
+/* One observation. What is refused says nothing of the charge, and the state that was kept is not shown for it. A count that comes out of a
+   frame fits its signal, so 81 is never met here; a state that is none (93) would be memory gone wrong. */
 static void observe(void) {
     static const char *const words[] = {
         "start: waits for the plug (1708)",
@@ -101,11 +101,12 @@ static void observe(void) {
         "fault: waits until no relay is welded and the plug is out",
     };
     uint32_t refusal = pct_charge_step(&state, seen);
-    if (refusal)
-        printf("pct_charge_step refused: %" PRIu32 "\n", refusal);
     if (refusal == PCT_NOT_A_CHARGE_STATE)
         state = PCT_CHARGE_START;
-    printf("%s\n", words[state]);
+    if (refusal)
+        printf("pct_charge_step refused: %" PRIu32 "\n", refusal);
+    else
+        printf("%s\n", words[state]);
 }
 
 int main(void) {

@@ -1,5 +1,5 @@
-/* The tester's rule once more, in plain C, written from the paper that has it and not from the Rattle source: what the proved call is
-   compared with, for its answers and for its speed. */
+/* The tester's rule once more, in plain C, written from docs/RULES.md, P5, and not from the Rattle source: what the proved call is compared
+   with, for its answers and for its speed. */
 #ifndef PLAIN_H
 #define PLAIN_H
 

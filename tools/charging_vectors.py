@@ -58,7 +58,7 @@ def walks():
 
 
 def held_and_lost(chance):
-    """Every state, and every choice of conditions that hold, twice with chosen counts; outside a weld, and in fault too."""
+    """Every state, fault too, and every choice of conditions that hold, the one about welds too, twice with counts by chance."""
     for state, lost in product(STATES, product((False, True), repeat=6)):
         for _ in range(2):
             yield state, seen({1708: chance.choice((1, 2, 3))}, *(chance.choice(LOST[i]) for i in range(6) if lost[i]))

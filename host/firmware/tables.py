@@ -1,5 +1,5 @@
-"""What host/firmware/figures and tester/figures share: the archives of a product, their bytes, the stack of their calls, instructions by the
-emulator, and where a table stands in a paper."""
+"""What host/firmware/figures and tester/figures are made of: the archives of a product, their bytes, the stack of their calls, instructions by
+the emulator, and where a table stands in a paper."""
 
 import os, re, shutil, subprocess, sys, tempfile
 from concurrent.futures import ThreadPoolExecutor

@@ -61,6 +61,16 @@ module _ (seen : ChargeObservation) where
       go true ih held = suc-le-suc (ih held)
       go false ih held = absurd (false≢true held)
 
+  -- the one after them does not
+  pub next-lost : (list : List Condition) → beforeLost list seen < length list → nextHolds list (beforeLost list seen) seen ≡ false
+  next-lost [] h = absurd (not-suc-le-zero h)
+  next-lost (c ∷ more) h = go (c seen) refl (next-lost more) h
+    where
+      go : (holds : Bool) → c seen ≡ holds → (beforeLost more seen < length more → nextHolds more (beforeLost more seen) seen ≡ false)
+          → cond holds (suc (beforeLost more seen)) 0 < suc (length more) → nextHolds (c ∷ more) (cond holds (suc (beforeLost more seen)) 0) seen ≡ false
+      go true e ih h = ih (le-of-suc-le-suc h)
+      go false e ih h = e
+
   -- and the one after those that hold is the first that does not, where it does not
   pub first-not : (list : List Condition) (n : ℕ) → n < length list → eachHolds (take n list) seen ≡ true → nextHolds list n seen ≡ false → beforeLost list seen ≡ n
   first-not [] n h before lost = absurd (not-suc-le-zero h)

@@ -24,6 +24,10 @@ step-below s h = go (chargeNumber s) (few s) (λ e. h (number-tells s Fault e))
     go : (n : ℕ) → n ≤ 7 → (n ≡ 7 → ⊥) → n < 7
     go n h e = omega (arith, h, e)
 
+-- and fault where it is not
+pub is-fault : (s : ChargeState) {number : ℕ} → number ≡ chargeNumber s → 7 ≤ number → s ≡ Fault
+is-fault s n h = number-tells s Fault (omega (arith, n, h, few s))
+
 pub six : length conditions ≡ 6
 unfolding conditions
 six = refl
@@ -56,4 +60,4 @@ module _ (seen : ChargeObservation) where
         e ∙ ap stepWith (l ∙ ap (λ (k : ℕ). min (suc k) held) n ∙ ap (min (suc (chargeNumber s))) b) ∙ sym (of-step s (subst (λ (k : ℕ). k < 7) n h))
 
     pub as-fault : (s : ChargeState) {number : ℕ} → number ≡ chargeNumber s → 7 ≤ number → nextCharge s seen ≡ cond (countIs 1708 0 seen) Start Fault
-    as-fault s n h = ap (λ (t : ChargeState). nextCharge t seen) (number-tells s Fault (omega (arith, n, h, few s))) ∙ of-fault
+    as-fault s n h = ap (λ (t : ChargeState). nextCharge t seen) (is-fault s n h) ∙ of-fault

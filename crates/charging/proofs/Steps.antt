@@ -1,13 +1,13 @@
 -- What one observation may do to a charge, over the answers of a step: it moves one step on at most, a lost condition leads back before
 -- it, and fault is where a weld is set or the plug is still in. Assumes nothing.
 use mathlib.Core.Path.{_≡_, refl, sym, ap, _∙_, subst}
-use mathlib.Core.Bool.{Bool, true, false, cond}
+use mathlib.Core.Bool.{Bool, true, false, cond, true≢false}
 use mathlib.Core.Logic.{_⊎_, inl, inr}
 use Prim.Native.Nat.{ℕ, suc, min, _≤_, _<_}
 use native.Mathlib.Nat.{min-le-left, min-le-right, min-eq-left, min-eq-right}
 use native.Mathlib.Omega.{arith}
-use borrow.Author.Tests.{eqb-true, eqb-false, eq-eqb, ne-eqb}
-use lib.Dec.{eqb}
+use borrow.Author.Tests.{eqb-true, eqb-false, eq-eqb, ne-eqb, ltb-true, ltb-false}
+use lib.Dec.{eqb, ltb}
 use lib.ListN.{length, take}
 use Rattle.charging.specs.declared.ChargeObservation.{ChargeObservation}
 use Rattle.charging.specs.declared.ChargeState.{ChargeState}
@@ -19,7 +19,7 @@ use Rattle.charging.specs.Rules.{eachHolds, beforeLost, nextCharge}
 use Rattle.charging.specs.Refusals.{chargeRefusal, countsFit, chargeStepOf}
 use Rattle.charging.specs.Met.{FirstLost}
 use Rattle.charging.proofs.Numbers.{number-tells, step-number}
-use Rattle.charging.proofs.Moving.{each-before, held-within, first-not}
+use Rattle.charging.proofs.Moving.{each-before, held-within, next-lost, first-not}
 use Rattle.charging.proofs.Next.{six, step-below, welded, held-few, of-fault, of-step}
 use Rattle.charging.proofs.Answers.{kept-or-next, taken}
 
@@ -52,6 +52,20 @@ module _ (s : ChargeState) (seen : ChargeObservation) where
       go false w = absurd (h (welded seen s w))
       go true w = rw (of-step seen w s (step-below s f)) (rw lesser-number (min-le-left (suc (chargeNumber s)) (beforeLost conditions seen)))
 
+-- where one of the conditions met so far is lost, one of them is the first
+pub first-lost : (met : ℕ) (seen : ChargeObservation) → met ≤ 6 → eachHolds (take met conditions) seen ≡ false → FirstLost met (beforeLost conditions seen) seen
+first-lost met seen few-met lost =
+    let before : beforeLost conditions seen < met = go (ltb (beforeLost conditions seen) met) refl in
+    record {
+      met-so-far = before;
+      lost = next-lost seen conditions (omega (arith, before, few-met, six));
+      first = each-before seen conditions (beforeLost conditions seen) (omega arith);
+    }
+  where
+    go : (b : Bool) → ltb (beforeLost conditions seen) met ≡ b → beforeLost conditions seen < met
+    go true e = ltb-true (beforeLost conditions seen) met e
+    go false e = absurd (true≢false (sym (each-before seen conditions met (ltb-false (beforeLost conditions seen) met e)) ∙ lost))
+
 -- ---- of a step's answer
 
 module _ (s : ChargeState) (seen : ChargeObservation) where
@@ -60,7 +74,7 @@ module _ (s : ChargeState) (seen : ChargeObservation) where
     pub own-conditions : (chargeStepOf s seen .state ≡ Fault → ⊥) → eachHolds (take (chargeNumber (chargeStepOf s seen .state)) conditions) seen ≡ true
     own-conditions h = each-before seen conditions _ (subst (λ (t : ChargeState). chargeNumber t ≤ beforeLost conditions seen) (sym (taken s seen not-refused)) (within s seen (λ e. h (taken s seen not-refused ∙ e))))
 
-    -- (3) outside fault and with no weld set, a lost condition leads to the last step before the first lost one
+    -- (3) outside fault and with no weld set, a lost condition leads to the last step before the first lost one, which there is
     pub back-before : (s ≡ Fault → ⊥) → noWeldedFault seen ≡ true → {before : ℕ} → FirstLost (chargeNumber s) before seen → chargeStepOf s seen .state ≡ stepWith before
     back-before f w {before} lost =
         taken s seen not-refused

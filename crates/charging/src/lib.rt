@@ -4,7 +4,7 @@
 // For a tester that keeps a `ChargeState`, at first `ChargeState::start()`, and calls `step` with each observation. No public
 // function has a `requires`: an observation with a count too wide for its signal is refused, and the state is kept.
 // `specs/Rules.antt` has the rule, over the six conditions of `specs/Conditions.antt`. The tester stands above the library: of it
-// this crate knows the catalogue's entry points alone.
+// this crate calls one entry point, `catalogue::class_of`.
 mod conditions;
 mod widths;
 
@@ -108,7 +108,7 @@ impl ChargeState {
     }
 }
 
-// The step with so many conditions met.
+// The step with so many conditions met; past the last one, fault.
 fn step_with(n: u32) -> ChargeState
     ensures { λ r. ⌜ r ≡ stepWith n ⌝ }
 {
@@ -130,7 +130,8 @@ fn lesser(a: u32, b: u32) -> u32
     if a < b { a } else { b }
 }
 
-// The state that follows an observation whose counts fit.
+// The state that follows an observation whose counts fit. Of a step, the lesser of one more condition and as many as hold from the
+// first on is what the rule says (`Moving lesser-of`): one on where all of them hold, back before the first that is lost.
 fn next_charge(state: ChargeState, seen: ChargeObservation) -> ChargeState
     ensures { λ r. ⌜ r ≡ nextCharge state seen ⌝ }
 {
@@ -144,7 +145,7 @@ fn next_charge(state: ChargeState, seen: ChargeObservation) -> ChargeState
     if is_unplugged(seen) {
         return ChargeState::Start;
     }
-    ChargeState::Fault
+    state
 }
 
 // One step: the state that follows, or a refusal and the state kept.

@@ -12,6 +12,7 @@ use numerals::identifier_or_0;
 
 const MOST_LINES: u32 = 1000000;
 
+// What is no digit is no state's.
 fn digit(byte: u8) -> u32 {
     if byte < b'0' {
         return 9;

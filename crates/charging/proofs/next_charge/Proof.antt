@@ -6,7 +6,7 @@ use native.Mathlib.Numerals.{unary-clauses}
 use native.Mathlib.Omega.{arith}
 use borrow.Author.Tests.{not-true, not-false}
 use Rattle.charging.specs.declared.ChargeState.the-variants.{Start, Fault}
-use Rattle.charging.proofs.Next.{welded, as-step, as-fault}
+use Rattle.charging.proofs.Next.{welded, is-fault, as-step, as-fault}
 use borrow.Author.Needs.{needs}
 use Rattle.charging.proofs.next_charge.Statement.{statement}
 use Rattle.charging.proofs.next_charge.Tie as tie
@@ -47,7 +47,8 @@ returns-3 c =
 
 returns-4 : tie.Need-returns-4
 returns-4 c =
-    ap (λ (out : Bool). cond out Start Fault) (sym (c .if3 .left) ∙ c .before .is-unplugged .ensures)
+    is-fault (c .before .before .before .before .before .before .args .state) (c .before .before .before .number .ensures) (c .before .before .if2 .left)
+    ∙ ap (λ (out : Bool). cond out Start Fault) (sym (c .if3 .left) ∙ c .before .is-unplugged .ensures)
     ∙ sym (as-fault _ (sym (c .before .before .before .before .before .none-welded .ensures) ∙ not-false _ (c .before .before .before .before .if1 .left)) (c .before .before .before .before .before .before .args .state) (c .before .before .before .number .ensures) (c .before .before .if2 .left))
 
 pub next-charge-spec : {M : Type 1} → statement M
