@@ -2,7 +2,7 @@
 """Holds the papers against the tree: every definition, theorem, function and must-fail edit that they name is there, every link
 leads somewhere, and docs/PROMISES.md names every must-fail edit. What it lists as the working side is just what no promise rests on:
 the files of specs/ that no definition named there uses, however far down. And each public function has its law of one outcome, but
-for the parts of programs that it names. Of each product the header, CHANGELOG.md and its paper name one version. The text that an edit changes is there.
+for the parts of programs that it names; no entry point has a `requires`, and every call of C is one. Of each product the header, CHANGELOG.md and its paper name one version. The text that an edit changes is there.
 
 A reference is in backquotes: `crate: File name, name` (specs/ or proofs/), `crate: function()` (src/), `crate/edit` (must-fail/)."""
 
@@ -95,6 +95,19 @@ def without_law(promises):
                 yield f"{crate.name}::{name}: no law {law}, and docs/PROMISES.md does not name it as part of a program"
 
 
+def asking(promises):
+    """The entry points, by the table of docs/PROMISES.md, and the calls of C that have a `requires`, or are not there."""
+    table = promises.partition("### Entry points")[2].partition("### Wrong programs")[0]
+    named = [(crate, name.split("::")[-1]) for crate, calls in re.findall(r"(?m)^\| `(\w+)` \| ([^|]+) \|", table) for name in re.findall(r"`([\w:]+)\(", calls)]
+    for crate, name in named:
+        heads = re.findall(rf'(?ms)^ *pub (?:extern "C" )?fn {name}\(.*?^ *\{{$', source(crate))
+        if len(heads) != 1 or re.search(r"(?m)^ *requires ", heads[0]):
+            yield f"docs/PROMISES.md: the entry point {crate}: {name}() has a `requires`, or there is not just one of that name"
+    calls = {(path.parts[-3], name) for path in ROOT.glob("crates/*/src/*.rt") for name in re.findall(r'pub extern "C" fn (\w+)', path.read_text())}
+    for crate, name in sorted(calls - set(named)):
+        yield f"docs/PROMISES.md: {crate}: {name}() is not among the entry points"
+
+
 def lost_edits():
     """The must-fail edits whose first text does not stand just once in the file that they change, so that they would attack nothing."""
     for edit in sorted(ROOT.glob("crates/*/must-fail/*.edit")):
@@ -128,7 +141,7 @@ def main():
     for edit in sorted(ROOT.glob("crates/*/must-fail/*.edit")):
         if f"`{edit.parts[-3]}/{edit.stem}`" not in promises:
             faults.append(f"docs/PROMISES.md: {edit.parts[-3]}/{edit.stem} is not named")
-    faults += [*working_side(promises), *without_law(promises), *lost_edits(), *versions()]
+    faults += [*working_side(promises), *without_law(promises), *asking(promises), *lost_edits(), *versions()]
     print("\n".join(faults) if faults else "papers: all that they name is there")
     sys.exit(bool(faults))
 

@@ -7,7 +7,7 @@ use Rattle.charging.specs.declared.ChargeState.{ChargeState}
 use Rattle.charging.specs.declared.ChargeState.the-variants.{Start, PlugSeen, SelfChecked, NoWeld, MainClosed, ChargingAllowed, ReadyToCharge, Fault}
 use Rattle.charging.specs.States.{stepWith, chargeNumber}
 
-named-again : (s : ChargeState) → stepWith (chargeNumber s) ≡ s
+pub named-again : (s : ChargeState) → stepWith (chargeNumber s) ≡ s
 named-again Start = refl
 named-again PlugSeen = refl
 named-again SelfChecked = refl

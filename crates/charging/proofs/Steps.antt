@@ -15,10 +15,10 @@ use Rattle.charging.specs.declared.ChargeState.the-variants.{Start, Faul
 use Rattle.charging.specs.Observed.{countSeen, countIs}
 use Rattle.charging.specs.Conditions.{noWeldedFault, conditions}
 use Rattle.charging.specs.States.{stepWith, chargeNumber}
-use Rattle.charging.specs.Rules.{eachHolds, beforeLost, nextCharge}
+use Rattle.charging.specs.Rules.{eachHolds, beforeLost, nextHolds, nextCharge}
 use Rattle.charging.specs.Refusals.{chargeRefusal, countsFit, chargeStepOf}
 use Rattle.charging.specs.Met.{FirstLost}
-use Rattle.charging.proofs.Numbers.{number-tells, step-number}
+use Rattle.charging.proofs.Numbers.{named-again, number-tells, step-number}
 use Rattle.charging.proofs.Moving.{each-before, held-within, next-lost, first-not}
 use Rattle.charging.proofs.Next.{six, step-below, welded, held-few, of-fault, of-step}
 use Rattle.charging.proofs.Answers.{kept-or-next, taken}
@@ -68,6 +68,10 @@ first-lost met seen few-met lost =
 
 -- ---- of a step's answer
 
+-- fault is left to the start
+pub to-the-start : (seen : ChargeObservation) → chargeRefusal (chargeStepOf Fault seen .answer) ≡ 0 → noWeldedFault seen ≡ true → countSeen 1708 seen ≡ 0 → chargeStepOf Fault seen .state ≡ Start
+to-the-start seen not-refused w out = taken Fault seen not-refused ∙ of-fault seen w ∙ ap (λ (b : Bool). cond b Start Fault) (eq-eqb (countSeen 1708 seen) 0 out)
+
 module _ (s : ChargeState) (seen : ChargeObservation) where
   module _ (not-refused : chargeRefusal (chargeStepOf s seen .answer) ≡ 0) where
     -- (5) the state after an observation has all its own conditions met in that observation
@@ -91,6 +95,21 @@ module _ (s : ChargeState) (seen : ChargeObservation) where
         taken s seen not-refused
         ∙ of-step seen w s (omega (arith, h))
         ∙ ap stepWith (min-eq-left {n = suc (chargeNumber s)} {m = beforeLost conditions seen} (held-within seen conditions (suc (chargeNumber s)) (omega (arith, h, six)) held))
+
+    -- and it stays where all that was met holds and the next one does not, or there is none
+    pub stays-there : (s ≡ Fault → ⊥) → noWeldedFault seen ≡ true → eachHolds (take (chargeNumber s) conditions) seen ≡ true → nextHolds conditions (chargeNumber s) seen ≡ false → chargeStepOf s seen .state ≡ s
+    stays-there f w held lost =
+        taken s seen not-refused
+        ∙ of-step seen w s (step-below s f)
+        ∙ ap (λ (k : ℕ). stepWith (min (suc (chargeNumber s)) k)) (go (ltb (chargeNumber s) 6) refl)
+        ∙ ap stepWith (min-eq-right {n = chargeNumber s} {m = suc (chargeNumber s)} (omega arith))
+        ∙ named-again s
+      where
+        go : (before-last : Bool) → ltb (chargeNumber s) 6 ≡ before-last → beforeLost conditions seen ≡ chargeNumber s
+        go true e = first-not seen conditions (chargeNumber s) (omega (arith, ltb-true (chargeNumber s) 6 e, six)) held lost
+        go false e =
+            let within : chargeNumber s ≤ beforeLost conditions seen = held-within seen conditions (chargeNumber s) (omega (arith, step-below s f, six)) held in
+            omega (arith, ltb-false (chargeNumber s) 6 e, within, held-few seen)
 
     -- (4) the state after it is fault exactly when a weld is set, or it was fault and 1708 is not 0
     pub fault-when : (noWeldedFault seen ≡ false) ⊎ ((s ≡ Fault) × (countSeen 1708 seen ≡ 0 → ⊥)) → chargeStepOf s seen .state ≡ Fault
