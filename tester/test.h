@@ -13,8 +13,8 @@ struct count {
 };
 extern const struct count counts[PCT_CHARGE_WORDS];
 
-/* Numbers that are no state. */
-enum { NO_STATES = 8 };
+/* Numbers that are no state; how many bits those that are a state have. */
+enum { NO_STATES = 8, STATE_BITS = 3 };
 extern const uint32_t no_states[NO_STATES];
 
 /* What a call is given. */
@@ -47,7 +47,9 @@ int report_edges(enum way way);
 
 /* Every state with every observation whose counts fit, or one in so many of them. */
 void try_every_observation(uint32_t stride);
-void try_wide_counts(void);
+
+/* Each count too wide; pairs of counts, at every bit or at one in so many of them; every choice of counts. */
+void try_wide_counts(uint32_t stride);
 void try_no_states(void);
 
 /* Memory for what is lent in the walks, and what happens where a call is stopped there. 0 where there is none. */

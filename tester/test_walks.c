@@ -28,6 +28,30 @@ static uint32_t any_value(uint32_t i) {
     return below(1u << counts[i].bits);
 }
 
+/* A value over the count's width: by a few of the bits next to it, or any with one over it. */
+static uint32_t wide_value(uint32_t i) {
+    uint32_t bits = counts[i].bits, fitting = any_value(i), over = below(32 - bits), any = (uint32_t)chance_word(&chance);
+    return once_in(2) ? (1 + below(7)) << bits | fitting : any >> below(32 - bits) | (uint32_t)1 << (bits + over);
+}
+
+/* Makes a count too wide; now and then another one too, by the same bits or by others. Else, more often than not, another relay is welded. */
+static void widen(uint32_t *seen, uint32_t i) {
+    uint32_t other = (i + 1 + below(PCT_CHARGE_WORDS - 1)) % PCT_CHARGE_WORDS, relay;
+    do
+        relay = PCT_SEEN_MAIN_POSITIVE_WELDED + below(4);
+    while (relay == i);
+    seen[i] = wide_value(i);
+    if (once_in(4))
+        seen[other] = once_in(2) ? seen[i] : wide_value(other);
+    else if (!once_in(3))
+        seen[relay] = 1;
+}
+
+static uint32_t no_state(void) {
+    uint32_t low = below(STATES);
+    return once_in(2) ? no_states[below(NO_STATES)] : (uint32_t)1 << (STATE_BITS + below(32 - STATE_BITS)) | low;
+}
+
 /* An observation that mostly moves on: what was met holds, and the next condition; no relay is welded. Now and then a count is not good, a
    relay is welded, the plug is pulled, a count is too wide; a state is none. */
 static void draw(struct step *given) {
@@ -40,10 +64,10 @@ static void draw(struct step *given) {
         seen[PCT_SEEN_MAIN_POSITIVE_WELDED + below(4)] = 1;
     if (given->state == PCT_CHARGE_FAULT && once_in(2))
         seen[PCT_SEEN_PLUG] = once_in(2) ? 0 : any_value(PCT_SEEN_PLUG);
-    if (once_in(8))
-        seen[i] = once_in(2) ? (1 + below(7)) << counts[i].bits | any_value(i) : (uint32_t)chance_word(&chance);
-    if (once_in(32))
-        given->state = no_states[below(NO_STATES)];
+    if (once_in(5))
+        widen(seen, i);
+    if (once_in(16))
+        given->state = no_state();
 }
 
 static void judge_block(const struct lent *block, int must_stay) {

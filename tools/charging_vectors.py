@@ -9,7 +9,7 @@ refusal.
 """
 
 import random
-from itertools import product
+from itertools import combinations, product
 
 from cases import h8, tabbed, write
 from tester_rules import FAULT, SIGNALS, START, STATES, WELDS, charge_step, codes
@@ -99,6 +99,13 @@ def too_wide():
         yield state, {number: MOST for number in SIGNALS}
 
 
+def both_too_wide():
+    """81: each pair of counts, none else, by equal bits: by the first over the width of each, by the same one, by the highest; in a state by turns."""
+    pairs = ((one, other, over) for one, other in combinations(SIGNALS, 2) for over in (codes, lambda number: 8, lambda number: 2**31))
+    for turn, (one, other, over) in enumerate(pairs):
+        yield STATES[turn % len(STATES)], seen({number: over(number) + GOOD[number] for number in (one, other)})
+
+
 def new_monitors():
     """The first observation of a monitor."""
     for plug, self_check, allowed in product(range(8), range(4), range(4)):
@@ -107,7 +114,7 @@ def new_monitors():
 
 def main():
     chance = random.Random(5)
-    cases = [*walks(), *held_and_lost(chance), *codes_alone(), *leaving_fault(), *any_counts(chance), *too_wide(), *new_monitors()]
+    cases = [*walks(), *held_and_lost(chance), *codes_alone(), *leaving_fault(), *any_counts(chance), *too_wide(), *both_too_wide(), *new_monitors()]
     stdin, stdout = [], []
     for state, count in cases:
         stdin.append(str(state) + "".join(h8(count[number]) for number in SIGNALS) + "\n")
