@@ -52,8 +52,20 @@ static const struct frame {
 static uint32_t book[PC_BOOK_WORDS], seen[PCT_CHARGE_WORDS], state = PCT_CHARGE_START;
 static int has_come[PCT_CHARGE_WORDS];
 
-/* The signals of an observation, in the header's order. */
-static const uint32_t signals[PCT_CHARGE_WORDS] = { 1708, 1605, 311, 313, 325, 327, 301, 302, 1709, 304, 306 };
+/* The signals of an observation, each in its place. */
+static const uint32_t signals[PCT_CHARGE_WORDS] = {
+    [PCT_SEEN_PLUG] = 1708,
+    [PCT_SEEN_SELF_CHECK] = 1605,
+    [PCT_SEEN_MAIN_POSITIVE_WELDED] = 311,
+    [PCT_SEEN_MAIN_NEGATIVE_WELDED] = 313,
+    [PCT_SEEN_HEATING_POSITIVE_WELDED] = 325,
+    [PCT_SEEN_HEATING_NEGATIVE_WELDED] = 327,
+    [PCT_SEEN_MAIN_POSITIVE] = 301,
+    [PCT_SEEN_MAIN_NEGATIVE] = 302,
+    [PCT_SEEN_ALLOWED] = 1709,
+    [PCT_SEEN_CHARGE_POSITIVE] = 304,
+    [PCT_SEEN_CHARGE_NEGATIVE] = 306,
+};
 
 static void keep(uint32_t number, uint32_t raw) {
     for (int i = 0; i < PCT_CHARGE_WORDS; i++)
@@ -91,14 +103,14 @@ static uint32_t read_frame(const struct frame *frame) {
    frame fits its signal, so 81 is never met here; a state that is none (93) would be memory gone wrong. */
 static void observe(void) {
     static const char *const words[] = {
-        "start: waits for the plug (1708)",
-        "plug seen: waits for a good self-check (1605)",
-        "self-checked: waits until no relay is welded (311, 313, 325, 327)",
-        "no weld: waits for the main relays (301, 302)",
-        "main closed: waits until charging is allowed (1709)",
-        "allowed: waits for the charge relays (304, 306)",
-        "ready",
-        "fault: waits until no relay is welded and the plug is out",
+        [PCT_CHARGE_START] = "start: waits for the plug (1708)",
+        [PCT_CHARGE_PLUG_SEEN] = "plug seen: waits for a good self-check (1605)",
+        [PCT_CHARGE_SELF_CHECKED] = "self-checked: waits until no relay is welded (311, 313, 325, 327)",
+        [PCT_CHARGE_NO_WELD] = "no weld: waits for the main relays (301, 302)",
+        [PCT_CHARGE_MAIN_CLOSED] = "main closed: waits until charging is allowed (1709)",
+        [PCT_CHARGE_ALLOWED] = "allowed: waits for the charge relays (304, 306)",
+        [PCT_CHARGE_READY] = "ready",
+        [PCT_CHARGE_FAULT] = "fault: waits until no relay is welded and the plug is out",
     };
     uint32_t refusal = pct_charge_step(&state, seen);
     if (refusal == PCT_NOT_A_CHARGE_STATE)
