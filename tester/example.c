@@ -100,7 +100,8 @@ static uint32_t read_frame(const struct frame *frame) {
 }
 
 /* One observation. What is refused says nothing of the charge, and the state that was kept is not shown for it. A count that comes out of a
-   frame fits its signal, so 81 is never met here; a state that is none (93) would be memory gone wrong. */
+   frame fits its signal, so 81 is never met here; a state that is none (93) would be memory gone wrong. The state before it may have been
+   fault, so it goes on from there, until the plug is pulled. */
 static void observe(void) {
     static const char *const words[] = {
         [PCT_CHARGE_START] = "start: waits for the plug (1708)",
@@ -114,7 +115,7 @@ static void observe(void) {
     };
     uint32_t refusal = pct_charge_step(&state, seen);
     if (refusal == PCT_NOT_A_CHARGE_STATE)
-        state = PCT_CHARGE_START;
+        state = PCT_CHARGE_FAULT;
     if (refusal)
         printf("pct_charge_step refused: %" PRIu32 "\n", refusal);
     else

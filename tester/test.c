@@ -1,8 +1,9 @@
 /* test [SEED [GROUPS [STRIDE]]]: calls pct_charge_step and its plain twin on the same inputs and compares what they return and every byte of
    what was lent to them: every state with every observation whose counts fit, or one in STRIDE of them; counts too wide in every state, each
-   by itself, two at every bit or at one in STRIDE of them, and more; numbers that are no state; then GROUPS walks made by chance from the
-   seed. Prints how often each refusal and each edge was met; fails on the first difference, on a read or write past what was lent, if some
-   refusal was never met, or some edge: in order where STRIDE is 1, by chance in a run of 1000 groups or more. */
+   by itself, two at every two bits or at one in STRIDE of them, and more; numbers that are no state; memory that was never set; counts that
+   nobody can write; then GROUPS walks made by chance from the seed. Prints how often each refusal and each edge was met; fails on the first
+   difference, on a read or write past what was lent, if some refusal was never met, or some edge: in order where STRIDE is 1, by chance in a
+   run of 1000 groups or more. */
 #include "test.h"
 #include <inttypes.h>
 #include <stdio.h>
@@ -63,6 +64,8 @@ int main(int argc, char **argv) {
     try_every_observation(stride);
     try_wide_counts(stride);
     try_no_states();
+    try_unset_memory();
+    try_constant_counts();
     for (group = 1; group <= groups; group++)
         try_walk(seed * 0x100000001u + group * 0x9E3779B9u);
     int refusals_missed = report_refusals(), in_order_missed = report_edges(IN_ORDER), by_chance_missed = report_edges(BY_CHANCE);

@@ -43,7 +43,10 @@ int meet_edges(enum way way, const struct step *given, uint32_t refusal, uint32_
 /* Prints of each family how often its rarest edge was met that way. Gives how many edges never were. */
 int report_edges(enum way way);
 
-/* ---- The cases, in order (test_order.c) and by chance (test_walks.c). */
+/* ---- The cases, in order (test_order.c, test_refused.c) and by chance (test_walks.c). */
+
+/* Calls both on a step, and judges the numbers, the states and every word around them. */
+void compare_in_order(const struct step *given);
 
 /* Every state with every observation whose counts fit, or one in so many of them. */
 void try_every_observation(uint32_t stride);
@@ -51,6 +54,8 @@ void try_every_observation(uint32_t stride);
 /* Each count too wide; pairs of counts, at every bit or at one in so many of them; every choice of counts. */
 void try_wide_counts(uint32_t stride);
 void try_no_states(void);
+void try_unset_memory(void);
+void try_constant_counts(void);
 
 /* Memory for what is lent in the walks, and what happens where a call is stopped there. 0 where there is none. */
 int open_walks(void);

@@ -1,6 +1,6 @@
 """Document 02's rule of the workshop tester (P5) as plain Python: the second, independent way to every expected output.
 
-Written from the paragraph alone: it collects all counts that are too wide, all conditions that are lost, and takes the first."""
+Written from the paragraph alone: it collects all conditions that are lost, and takes the first."""
 
 from rules import CATALOGUE
 

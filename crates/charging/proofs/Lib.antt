@@ -1,3 +1,4 @@
+pub mod Counts
 pub mod Numbers
 pub mod Moving
 pub mod Next

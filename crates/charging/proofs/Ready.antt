@@ -3,40 +3,40 @@ use mathlib.Core.Path.{_≡_, refl, ap, subst}
 use mathlib.Core.Bool.{Bool, true, false, _&&_, _||_, and-eq-true-iff}
 use mathlib.Core.Logic.{_⊎_, inl, inr}
 use native.Mathlib.Omega.{arith}
-use borrow.Author.Tests.{eqb-true}
-use lib.Dec.{eqb}
+use mathlib.Core.Option.{Option, some}
 use lib.ListN.{take}
 use Prim.Native.Nat.{ℕ}
 use Rattle.charging.specs.declared.ChargeObservation.{ChargeObservation}
 use Rattle.charging.specs.declared.ChargeState.{ChargeState}
 use Rattle.charging.specs.declared.ChargeState.the-variants.{ReadyToCharge}
-use Rattle.charging.specs.Observed.{countSeen, countIs}
+use Rattle.charging.specs.Observed.{countSeen, isCount, countIs}
 use Rattle.charging.specs.Conditions.{plugSeen, selfCheckGood, noWeldedFault, mainRelaysClosed, chargingAllowed, chargeRelaysClosed, conditions}
 use Rattle.charging.specs.States.{chargeNumber}
 use Rattle.charging.specs.Rules.{eachHolds}
 use Rattle.charging.specs.Refusals.{chargeRefusal, chargeStepOf}
 use Rattle.charging.specs.Met.{EveryCondition}
+use Rattle.charging.proofs.Counts.{is-this}
 use Rattle.charging.proofs.Steps.{own-conditions}
 
 both : (a b : Bool) → a && b ≡ true → (a ≡ true) × (b ≡ true)
 both a b e = and-eq-true-iff a b .0 e
 
-one-of-three : (n a b c : ℕ) → eqb n a || eqb n b || eqb n c ≡ true → (n ≡ a) ⊎ ((n ≡ b) ⊎ (n ≡ c))
-one-of-three n a b c e = go (eqb n a) (eqb n b) refl refl e
+one-of-three : (n : Option ℕ) (a b c : ℕ) → isCount n a || isCount n b || isCount n c ≡ true → (n ≡ some a) ⊎ ((n ≡ some b) ⊎ (n ≡ some c))
+one-of-three n a b c e = go (isCount n a) (isCount n b) refl refl e
   where
-    go : (x y : Bool) → eqb n a ≡ x → eqb n b ≡ y → x || y || eqb n c ≡ true → (n ≡ a) ⊎ ((n ≡ b) ⊎ (n ≡ c))
-    go true y p q h = inl (eqb-true n a p)
-    go false true p q h = inr (inl (eqb-true n b q))
-    go false false p q h = inr (inr (eqb-true n c h))
+    go : (x y : Bool) → isCount n a ≡ x → isCount n b ≡ y → x || y || isCount n c ≡ true → (n ≡ some a) ⊎ ((n ≡ some b) ⊎ (n ≡ some c))
+    go true y p q h = inl (is-this n a p)
+    go false true p q h = inr (inl (is-this n b q))
+    go false false p q h = inr (inr (is-this n c h))
 
 module _ (seen : ChargeObservation) where
-  is : (number n : ℕ) → countIs number n seen ≡ true → countSeen number seen ≡ n
-  is number n e = eqb-true (countSeen number seen) n e
+  is : (number n : ℕ) → countIs number n seen ≡ true → countSeen number seen ≡ some n
+  is number n e = is-this (countSeen number seen) n e
 
-  two : (a b m n : ℕ) → countIs a m seen && countIs b n seen ≡ true → (countSeen a seen ≡ m) × (countSeen b seen ≡ n)
+  two : (a b m n : ℕ) → countIs a m seen && countIs b n seen ≡ true → (countSeen a seen ≡ some m) × (countSeen b seen ≡ some n)
   two a b m n e = let h = both (countIs a m seen) (countIs b n seen) e in (is a m (h .0), is b n (h .1))
 
-  four : countIs 311 0 seen && countIs 313 0 seen && countIs 325 0 seen && countIs 327 0 seen ≡ true → (countSeen 311 seen ≡ 0) × ((countSeen 313 seen ≡ 0) × ((countSeen 325 seen ≡ 0) × (countSeen 327 seen ≡ 0)))
+  four : countIs 311 0 seen && countIs 313 0 seen && countIs 325 0 seen && countIs 327 0 seen ≡ true → (countSeen 311 seen ≡ some 0) × ((countSeen 313 seen ≡ some 0) × ((countSeen 325 seen ≡ some 0) × (countSeen 327 seen ≡ some 0)))
   four e =
       let h = both (countIs 311 0 seen && countIs 313 0 seen && countIs 325 0 seen) (countIs 327 0 seen) e in
       let g = both (countIs 311 0 seen && countIs 313 0 seen) (countIs 325 0 seen) (h .0) in

@@ -3,10 +3,11 @@
 use mathlib.Core.Path.{_≡_, refl, sym, ap, _∙_, subst}
 use mathlib.Core.Bool.{Bool, true, false, cond, true≢false}
 use mathlib.Core.Logic.{_⊎_, inl, inr}
+use mathlib.Core.Option.{some}
 use Prim.Native.Nat.{ℕ, suc, min, _≤_, _<_}
 use native.Mathlib.Nat.{min-le-left, min-le-right, min-eq-left, min-eq-right}
 use native.Mathlib.Omega.{arith}
-use borrow.Author.Tests.{eqb-true, eqb-false, eq-eqb, ne-eqb, ltb-true, ltb-false}
+use borrow.Author.Tests.{eqb-true, eqb-false, ltb-true, ltb-false}
 use lib.Dec.{eqb, ltb}
 use lib.ListN.{length, take}
 use Rattle.charging.specs.declared.ChargeObservation.{ChargeObservation}
@@ -18,6 +19,7 @@ use Rattle.charging.specs.States.{stepWith, chargeNumber}
 use Rattle.charging.specs.Rules.{eachHolds, beforeLost, nextHolds, nextCharge}
 use Rattle.charging.specs.Refusals.{chargeRefusal, countsFit, chargeStepOf}
 use Rattle.charging.specs.Met.{FirstLost}
+use Rattle.charging.proofs.Counts.{this-is, not-this}
 use Rattle.charging.proofs.Numbers.{named-again, number-tells, step-number}
 use Rattle.charging.proofs.Moving.{each-before, held-within, next-lost, first-not}
 use Rattle.charging.proofs.Next.{six, step-below, welded, held-few, of-fault, of-step}
@@ -69,8 +71,8 @@ first-lost met seen few-met lost =
 -- ---- of a step's answer
 
 -- fault is left to the start
-pub to-the-start : (seen : ChargeObservation) → chargeRefusal (chargeStepOf Fault seen .answer) ≡ 0 → noWeldedFault seen ≡ true → countSeen 1708 seen ≡ 0 → chargeStepOf Fault seen .state ≡ Start
-to-the-start seen not-refused w out = taken Fault seen not-refused ∙ of-fault seen w ∙ ap (λ (b : Bool). cond b Start Fault) (eq-eqb (countSeen 1708 seen) 0 out)
+pub to-the-start : (seen : ChargeObservation) → chargeRefusal (chargeStepOf Fault seen .answer) ≡ 0 → noWeldedFault seen ≡ true → countSeen 1708 seen ≡ some 0 → chargeStepOf Fault seen .state ≡ Start
+to-the-start seen not-refused w out = taken Fault seen not-refused ∙ of-fault seen w ∙ ap (λ (b : Bool). cond b Start Fault) (this-is (countSeen 1708 seen) 0 out)
 
 module _ (s : ChargeState) (seen : ChargeObservation) where
   module _ (not-refused : chargeRefusal (chargeStepOf s seen .answer) ≡ 0) where
@@ -112,25 +114,25 @@ module _ (s : ChargeState) (seen : ChargeObservation) where
             omega (arith, ltb-false (chargeNumber s) 6 e, within, held-few seen)
 
     -- (4) the state after it is fault exactly when a weld is set, or it was fault and 1708 is not 0
-    pub fault-when : (noWeldedFault seen ≡ false) ⊎ ((s ≡ Fault) × (countSeen 1708 seen ≡ 0 → ⊥)) → chargeStepOf s seen .state ≡ Fault
+    pub fault-when : (noWeldedFault seen ≡ false) ⊎ ((s ≡ Fault) × (countSeen 1708 seen ≡ some 0 → ⊥)) → chargeStepOf s seen .state ≡ Fault
     fault-when (inl weld) = taken s seen not-refused ∙ welded seen s weld
     fault-when (inr (was, plugged)) = taken s seen not-refused ∙ ap (λ (t : ChargeState). nextCharge t seen) was ∙ stays (noWeldedFault seen) refl
       where
         stays : (unwelded : Bool) → noWeldedFault seen ≡ unwelded → nextCharge Fault seen ≡ Fault
         stays false w = welded seen Fault w
-        stays true w = of-fault seen w ∙ ap (λ (out : Bool). cond out Start Fault) (ne-eqb (countSeen 1708 seen) 0 plugged)
+        stays true w = of-fault seen w ∙ ap (λ (out : Bool). cond out Start Fault) (not-this (countSeen 1708 seen) 0 plugged)
 
-    pub when-fault : chargeStepOf s seen .state ≡ Fault → (noWeldedFault seen ≡ false) ⊎ ((s ≡ Fault) × (countSeen 1708 seen ≡ 0 → ⊥))
+    pub when-fault : chargeStepOf s seen .state ≡ Fault → (noWeldedFault seen ≡ false) ⊎ ((s ≡ Fault) × (countSeen 1708 seen ≡ some 0 → ⊥))
     when-fault e = go (noWeldedFault seen) (eqb (chargeNumber s) 7) refl refl
       where
         next : nextCharge s seen ≡ Fault
         next = sym (taken s seen not-refused) ∙ e
 
-        go : (unwelded fault : Bool) → noWeldedFault seen ≡ unwelded → eqb (chargeNumber s) 7 ≡ fault → (noWeldedFault seen ≡ false) ⊎ ((s ≡ Fault) × (countSeen 1708 seen ≡ 0 → ⊥))
+        go : (unwelded fault : Bool) → noWeldedFault seen ≡ unwelded → eqb (chargeNumber s) 7 ≡ fault → (noWeldedFault seen ≡ false) ⊎ ((s ≡ Fault) × (countSeen 1708 seen ≡ some 0 → ⊥))
         go false fault w f = inl w
         go true true w f =
             let was : s ≡ Fault = number-tells s Fault (eqb-true _ _ f) in
-            inr (was, λ out. omega (arith, ap chargeNumber (sym (of-fault seen w ∙ ap (λ (b : Bool). cond b Start Fault) (eq-eqb (countSeen 1708 seen) 0 out)) ∙ ap (λ (t : ChargeState). nextCharge t seen) (sym was) ∙ next)))
+            inr (was, λ out. omega (arith, ap chargeNumber (sym (of-fault seen w ∙ ap (λ (b : Bool). cond b Start Fault) (this-is (countSeen 1708 seen) 0 out)) ∙ ap (λ (t : ChargeState). nextCharge t seen) (sym was) ∙ next)))
         go true false w f =
             let below : chargeNumber s < 7 = step-below s (λ e. eqb-false (chargeNumber s) 7 f (ap chargeNumber e)) in
             absurd (omega (arith, ap chargeNumber (sym (of-step seen w s below) ∙ next), lesser-number s seen, min-le-right (suc (chargeNumber s)) (beforeLost conditions seen), held-few seen))

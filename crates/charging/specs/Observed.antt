@@ -1,7 +1,8 @@
 -- What an observation of a charge has: the raw counts of eleven signals. Assumes nothing.
 use Prim.Native.Nat.{ℕ}
-use mathlib.Core.Bool.{Bool, cond}
+use mathlib.Core.Bool.{Bool, false, cond}
 use mathlib.Core.List.{List, [], _∷_}
+use mathlib.Core.Option.{Option, none, some}
 use lib.Dec.{eqb}
 use Rattle.catalogue.specs.declared.Raw.{Raw}
 use Rattle.charging.specs.declared.ChargeObservation.{ChargeObservation}
@@ -22,15 +23,19 @@ countsSeen seen =
     ∷ (306, seen .«charge_negative»)
     ∷ []
 
--- the count that such a list has for a number
-abbrev pub countUnder : ℕ → List (ℕ × Raw) → ℕ
-countUnder number [] = 0
-countUnder number (c ∷ more) = cond (eqb (c .0) number) (c .1 .0) (countUnder number more)
+-- the count that such a list has for a number; there is none for a number that it does not have
+abbrev countUnder : ℕ → List (ℕ × Raw) → Option ℕ
+countUnder number [] = none
+countUnder number (c ∷ more) = cond (eqb (c .0) number) (some (c .1 .0)) (countUnder number more)
 
 -- the raw count of the signal with this number
-abbrev pub countSeen : ℕ → ChargeObservation → ℕ
+abbrev pub countSeen : ℕ → ChargeObservation → Option ℕ
 countSeen number seen = countUnder number (countsSeen seen)
+
+abbrev pub isCount : Option ℕ → ℕ → Bool
+isCount none n = false
+isCount (some count) n = eqb count n
 
 -- "1708 is 1", "1605 is 0" and so on
 abbrev pub countIs : ℕ → ℕ → ChargeObservation → Bool
-countIs number n seen = eqb (countSeen number seen) n
+countIs number n seen = isCount (countSeen number seen) n

@@ -23,7 +23,7 @@ abbrev pub fitsSignal : ℕ → Raw → Bool
 fitsSignal number raw = not (eqb (classNumber (classOf number raw)) 26)
 
 -- each count of a list fits the signal that it stands with
-abbrev pub eachFits : List (ℕ × Raw) → Bool
+abbrev eachFits : List (ℕ × Raw) → Bool
 eachFits [] = true
 eachFits (c ∷ more) = fitsSignal (c .0) (c .1) && eachFits more
 

@@ -33,7 +33,7 @@ chargeNumber ChargingAllowed = 5
 chargeNumber ReadyToCharge = 6
 chargeNumber Fault = 7
 
-abbrev pub faultNumber : ℕ
+abbrev faultNumber : ℕ
 faultNumber = chargeNumber Fault
 
 -- how many conditions are met in a state: in fault there is no such number

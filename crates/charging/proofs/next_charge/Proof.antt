@@ -40,15 +40,15 @@ returns-2 c =
 is-unplugged-requires : tie.Need-is-unplugged-requires
 is-unplugged-requires c κs = search needs
 
-returns-3 : tie.Need-returns-3
-returns-3 c =
-    ap (λ (out : Bool). cond out Start Fault) (sym (c .if3 .taken) ∙ c .before .is-unplugged .ensures)
-    ∙ sym (as-fault _ (sym (c .before .before .before .before .before .none-welded .ensures) ∙ not-false _ (c .before .before .before .before .if1 .left)) (c .before .before .before .before .before .before .args .state) (c .before .before .before .number .ensures) (c .before .before .if2 .left))
-
 returns-4 : tie.Need-returns-4
 returns-4 c =
     is-fault (c .before .before .before .before .before .before .args .state) (c .before .before .before .number .ensures) (c .before .before .if2 .left)
     ∙ ap (λ (out : Bool). cond out Start Fault) (sym (c .if3 .left) ∙ c .before .is-unplugged .ensures)
+    ∙ sym (as-fault _ (sym (c .before .before .before .before .before .none-welded .ensures) ∙ not-false _ (c .before .before .before .before .if1 .left)) (c .before .before .before .before .before .before .args .state) (c .before .before .before .number .ensures) (c .before .before .if2 .left))
+
+returns-3 : tie.Need-returns-3
+returns-3 c =
+    ap (λ (out : Bool). cond out Start Fault) (sym (c .if3 .taken) ∙ c .before .is-unplugged .ensures)
     ∙ sym (as-fault _ (sym (c .before .before .before .before .before .none-welded .ensures) ∙ not-false _ (c .before .before .before .before .if1 .left)) (c .before .before .before .before .before .before .args .state) (c .before .before .before .number .ensures) (c .before .before .if2 .left))
 
 pub next-charge-spec : {M : Type 1} → statement M

@@ -1,4 +1,5 @@
 -- `charging::ChargeState::numbered` meets its contract: a number over fault's is no state's, any other that of its step or of fault. Assumes nothing.
+use native.Mathlib.Omega.{arith}
 use borrow.Author.Needs.{needs}
 use borrow.Author.Tests.{le-leb, lt-leb}
 use Rattle.charging.specs.States.{chargeNumbered}
@@ -7,7 +8,7 @@ use Rattle.charging.proofs.ChargeState.numbered.Tie as tie
 
 returns : tie.Need-returns
 unfolding chargeNumbered
-returns c = simp (lt-leb (c .before .args .n) 7 (c .if1 .taken))
+returns c = simp (lt-leb (c .before .args .n) 7 (omega (arith, c .if1 .taken)))
 
 step-with-requires : tie.Need-step-with-requires
 step-with-requires c κs = search needs
