@@ -101,7 +101,7 @@ static uint32_t read_frame(const struct frame *frame) {
 
 /* One observation. What is refused says nothing of the charge, and the state that was kept is not shown for it. A count that comes out of a
    frame fits its signal, so 81 is never met here; a state that is none (93) would be memory gone wrong. The state before it may have been
-   fault, so it goes on from there, until the plug is pulled. */
+   fault, so it goes on from there, until an observation has the plug out and no relay welded. */
 static void observe(void) {
     static const char *const words[] = {
         [PCT_CHARGE_START] = "start: waits for the plug (1708)",

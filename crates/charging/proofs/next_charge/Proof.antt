@@ -40,6 +40,7 @@ returns-2 c =
 is-unplugged-requires : tie.Need-is-unplugged-requires
 is-unplugged-requires c κs = search needs
 
+-- the state kept comes before the start: where ready is taken for fault, this is the return that is wrong
 returns-4 : tie.Need-returns-4
 returns-4 c =
     is-fault (c .before .before .before .before .before .before .args .state) (c .before .before .before .number .ensures) (c .before .before .if2 .left)
