@@ -20,13 +20,14 @@ struct face {
     uint32_t (*spread)(const uint32_t *, uint32_t, uint32_t, uint32_t *, uint64_t, uint32_t *);
     uint32_t (*fault_sum)(const uint32_t *, uint64_t, uint32_t *);
     uint32_t (*power_step)(uint32_t *, const uint32_t *);
+    uint32_t (*power_step_by)(uint32_t *, const uint32_t *, uint32_t);
     uint32_t (*sleep_watch)(uint32_t *, uint32_t *, uint32_t, uint32_t);
 };
 
-static const struct face library = { pc_book_read, pc_book_write, pc_class, pc_dash, pc_frame_read, pc_frame_pack, pc_spread, pc_fault_sum, pc_power_step, pc_sleep_watch };
-static const struct face plain = { plain_book_read, plain_book_write, plain_class, plain_dash, plain_frame_read, plain_frame_pack, plain_spread, plain_fault_sum, plain_power_step, plain_sleep_watch };
+static const struct face library = { pc_book_read, pc_book_write, pc_class, pc_dash, pc_frame_read, pc_frame_pack, pc_spread, pc_fault_sum, pc_power_step, pc_power_step_by, pc_sleep_watch };
+static const struct face plain = { plain_book_read, plain_book_write, plain_class, plain_dash, plain_frame_read, plain_frame_pack, plain_spread, plain_fault_sum, plain_power_step, plain_power_step_by, plain_sleep_watch };
 
-static const struct face nothing = { no_book_read, no_book_write, no_class, no_dash, no_frame_read, no_frame_pack, no_spread, no_fault_sum, no_power_step, no_sleep_watch };
+static const struct face nothing = { no_book_read, no_book_write, no_class, no_dash, no_frame_read, no_frame_pack, no_spread, no_fault_sum, no_power_step, no_power_step_by, no_sleep_watch };
 
 /* The one that is measured. */
 static const struct face *face;
@@ -175,12 +176,20 @@ static uint32_t call_fault_sum(uint32_t turn) {
 }
 
 /* Up and down again, with each picture seen twice. */
+static const uint8_t walk[7][4] = { { 1, 1, 1, 1 }, { 2, 1, 1, 1 }, { 2, 2, 1, 1 }, { 2, 2, 2, 1 }, { 2, 1, 2, 1 }, { 2, 1, 1, 2 }, { 1, 1, 1, 2 } };
+
 static uint32_t call_power_step(uint32_t turn) {
     static uint32_t state;
-    static const uint8_t walk[7][4] = { { 1, 1, 1, 1 }, { 2, 1, 1, 1 }, { 2, 2, 1, 1 }, { 2, 2, 2, 1 }, { 2, 1, 2, 1 }, { 2, 1, 1, 2 }, { 1, 1, 1, 2 } };
     const uint8_t *now = walk[turn / 2 % 7];
     const uint32_t seen[PC_POWER_WORDS] = { now[0], now[1], now[2], now[3], 0, 20000, 6000, 5900 };
     return face->power_step(&state, seen);
+}
+
+static uint32_t call_power_step_by(uint32_t turn) {
+    static uint32_t state;
+    const uint8_t *now = walk[turn / 2 % 7];
+    const uint32_t seen[PC_POWER_WORDS] = { now[0], now[1], now[2], now[3], 0, 20000, 6000, 5900 };
+    return face->power_step_by(&state, seen, 95);
 }
 
 /* Ten seconds of calls with wake off, one with wake on. */
@@ -213,6 +222,7 @@ static const struct {
     { "spread-full", full_book, call_spread },
     { "fault-sum", some_faults, call_fault_sum },
     { "power-step", no_book, call_power_step },
+    { "power-step-by", no_book, call_power_step_by },
     { "sleep-watch", no_book, call_sleep_watch },
 };
 enum { CASES = sizeof cases / sizeof *cases };

@@ -54,6 +54,9 @@ static uint32_t books[2][PC_BOOK_WORDS], *book = books[0], damaged;
 static uint32_t seen[PC_POWER_WORDS] = { 1, 1, 1, 0, 0, 20000, 0, 0 }; /* all relays open, 0 A, 0 V */
 static uint32_t power = PC_POWER_START, last_wake, asleep;
 
+/* The share of the voltage inside, in hundredths, that ends precharge on this truck. pc_power_step without a share takes 90. */
+enum { SHARE = 95 };
+
 /* Counts a refusal; 12 says that the book's memory was damaged, and the main loop reads the text again. */
 static void count_refusal(const char *call, uint32_t refusal) {
     printf("%s refused: %" PRIu32 "\n", call, refusal);
@@ -198,9 +201,9 @@ static void turn(uint32_t now, uint32_t wake) {
     uint32_t refusal;
     if (damaged)
         read_book();
-    refusal = pc_power_step(&power, seen);
+    refusal = pc_power_step_by(&power, seen, SHARE);
     if (refusal)
-        count_refusal("pc_power_step", refusal);
+        count_refusal("pc_power_step_by", refusal);
     if (refusal == PC_NOT_A_POWER_STATE)
         power = PC_POWER_START;
     refusal = pc_sleep_watch(&last_wake, &asleep, now, wake);

@@ -40,6 +40,10 @@ static uint32_t no_power_step(uint32_t *a, const uint32_t *b) {
     (void)a, (void)b;
     return 0;
 }
+static uint32_t no_power_step_by(uint32_t *a, const uint32_t *b, uint32_t c) {
+    (void)a, (void)b, (void)c;
+    return 0;
+}
 static uint32_t no_sleep_watch(uint32_t *a, uint32_t *b, uint32_t c, uint32_t d) {
     (void)a, (void)b, (void)c, (void)d;
     return 0;

@@ -18,6 +18,7 @@ uint32_t plain_spread(const uint32_t book[PC_BOOK_WORDS], uint32_t bus, uint32_t
                       uint64_t places_length, uint32_t *count);
 uint32_t plain_fault_sum(const uint32_t *counts, uint64_t counts_length, uint32_t sum[PC_FAULT_WORDS]);
 uint32_t plain_power_step(uint32_t *state, const uint32_t seen[PC_POWER_WORDS]);
+uint32_t plain_power_step_by(uint32_t *state, const uint32_t seen[PC_POWER_WORDS], uint32_t share);
 uint32_t plain_sleep_start(uint32_t *last_wake, uint32_t *asleep, uint32_t now);
 uint32_t plain_sleep_watch(uint32_t *last_wake, uint32_t *asleep, uint32_t now, uint32_t wake);
 

@@ -75,9 +75,9 @@ static int shows_picture_of(uint32_t state, const uint32_t *seen) {
     }
 }
 
-static int precharge_complete(const uint32_t *seen) {
+static int precharge_complete(const uint32_t *seen, uint32_t share) {
     uint32_t inside = seen[PC_SEEN_INSIDE], outside = seen[PC_SEEN_OUTSIDE];
-    return inside != INVALID_VOLTAGE && outside != INVALID_VOLTAGE && inside > 0 && 100 * outside >= 95 * inside;
+    return inside != INVALID_VOLTAGE && outside != INVALID_VOLTAGE && inside > 0 && 100 * outside >= share * inside;
 }
 
 static int under_10_amps(const uint32_t *seen) {
@@ -85,7 +85,7 @@ static int under_10_amps(const uint32_t *seen) {
 }
 
 /* Rules 3 to 5: the step to a state that shows, where it is allowed; else fault. */
-static uint32_t step_from(uint32_t state, const uint32_t *seen, int urgent) {
+static uint32_t step_from(uint32_t state, const uint32_t *seen, uint32_t share, int urgent) {
     int up = seen[PC_SEEN_COMMAND] == UP, down = seen[PC_SEEN_COMMAND] == DOWN;
     switch (state) {
     case PC_POWER_OFF:
@@ -99,7 +99,7 @@ static uint32_t step_from(uint32_t state, const uint32_t *seen, int urgent) {
             return PC_POWER_OFF;
         break;
     case PC_POWER_PRECHARGE:
-        if (up && precharge_complete(seen) && shows_picture_of(PC_POWER_BOTH, seen))
+        if (up && precharge_complete(seen, share) && shows_picture_of(PC_POWER_BOTH, seen))
             return PC_POWER_BOTH;
         if ((down || urgent) && shows_picture_of(PC_POWER_FALLING, seen))
             return PC_POWER_FALLING;
@@ -120,7 +120,7 @@ static uint32_t step_from(uint32_t state, const uint32_t *seen, int urgent) {
     return PC_POWER_FAULT;
 }
 
-static uint32_t next_state(uint32_t state, const uint32_t *seen) {
+static uint32_t next_state(uint32_t state, const uint32_t *seen, uint32_t share) {
     uint32_t command = seen[PC_SEEN_COMMAND];
     int urgent = command == URGENT_DOWN || seen[PC_SEEN_EMERGENCY_OFF] == 1;
     int all_open = shows(seen, OPEN, OPEN, OPEN);
@@ -130,10 +130,10 @@ static uint32_t next_state(uint32_t state, const uint32_t *seen) {
         return state;
     if (urgent && all_open)
         return PC_POWER_OFF;
-    return step_from(state, seen, urgent);
+    return step_from(state, seen, share, urgent);
 }
 
-uint32_t plain_power_step(uint32_t *state, const uint32_t seen[PC_POWER_WORDS]) {
+uint32_t plain_power_step_by(uint32_t *state, const uint32_t seen[PC_POWER_WORDS], uint32_t share) {
     if (*state > PC_POWER_FAULT)
         return PC_NOT_A_POWER_STATE;
     if (!open_or_closed(seen[PC_SEEN_MAIN_NEGATIVE]) || !open_or_closed(seen[PC_SEEN_PRECHARGE]) || !open_or_closed(seen[PC_SEEN_MAIN_POSITIVE]))
@@ -142,8 +142,14 @@ uint32_t plain_power_step(uint32_t *state, const uint32_t seen[PC_POWER_WORDS]) 
         return PC_COMMAND_COUNT;
     if (seen[PC_SEEN_CURRENT] > 65535 || seen[PC_SEEN_INSIDE] > 65535 || seen[PC_SEEN_OUTSIDE] > 65535)
         return PC_READING_COUNT;
-    *state = next_state(*state, seen);
+    if (share < 50 || share > 100)
+        return PC_SHARE_OUT_OF_RANGE;
+    *state = next_state(*state, seen, share);
     return PC_DONE;
+}
+
+uint32_t plain_power_step(uint32_t *state, const uint32_t seen[PC_POWER_WORDS]) {
+    return plain_power_step_by(state, seen, 90);
 }
 
 /* ---- The sleep watch. */

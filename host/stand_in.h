@@ -9,6 +9,7 @@
 #define plain_spread pc_spread
 #define plain_fault_sum pc_fault_sum
 #define plain_power_step pc_power_step
+#define plain_power_step_by pc_power_step_by
 #define plain_sleep_start pc_sleep_start
 #define plain_sleep_watch pc_sleep_watch
 #define plain_frame_read_tested stand_in_frame_read_tested

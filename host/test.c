@@ -20,6 +20,7 @@ static const struct {
     { "pc_spread", { 0, 12, 61, 62, -1 } },
     { "pc_fault_sum", { 0, 31, 32, -1 } },
     { "pc_power_step", { 0, 41, 42, 43, 91, -1 } },
+    { "pc_power_step_by", { 0, 41, 42, 43, 44, 91, -1 } },
     { "pc_sleep_start", { 0, -1 } },
     { "pc_sleep_watch", { 0, 51, 92, -1 } },
 };

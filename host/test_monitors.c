@@ -42,38 +42,43 @@ void try_fault_sum(void) {
         meet_agreement(counts);
 }
 
-/* ---- The power step, of which every input is a number: the state, then what was seen, in the header's order. */
+/* ---- The power step, of which every input is a number: the state, then what was seen, in the header's order, then the share. */
 
-enum { STATE, NEGATIVE, PRECHARGE, POSITIVE, COMMAND, EMERGENCY_OFF, CURRENT, INSIDE, OUTSIDE, INPUTS };
-enum { OPEN = 1, CLOSED = 2, UP = 1, DOWN = 2, INVALID = 65535 };
+enum { STATE, NEGATIVE, PRECHARGE, POSITIVE, COMMAND, EMERGENCY_OFF, CURRENT, INSIDE, OUTSIDE, SHARE, INPUTS };
+enum { OPEN = 1, CLOSED = 2, UP = 1, DOWN = 2, INVALID = 65535, KINDS = 5 };
 
-/* Of each input, numbers around those allowed; which kind of refusal it has. */
+/* Of each input, the least and the most that are allowed, numbers around those, and which kind of refusal it has. */
 static const struct {
-    uint32_t around[4], refusal;
+    uint32_t least, most, around[4], refusal;
 } limits[INPUTS] = {
-    { { 0, 6, 7, 0xFFFFFFFFu }, 0 }, { { 0, 1, 2, 3 }, 1 }, { { 0, 1, 2, 3 }, 1 }, { { 0, 1, 2, 3 }, 1 },
-    { { 0, 3, 4, 0xFFFFFFFFu }, 2 }, { { 0, 3, 4, 0xFFFFFFFFu }, 2 },
-    { { 0, 65535, 65536, 0xFFFFFFFFu }, 3 }, { { 0, 65535, 65536, 0xFFFFFFFFu }, 3 }, { { 0, 65535, 65536, 0xFFFFFFFFu }, 3 },
+    { 0, 6, { 0, 6, 7, 0xFFFFFFFFu }, 0 },
+    { OPEN, CLOSED, { 0, 1, 2, 3 }, 1 }, { OPEN, CLOSED, { 0, 1, 2, 3 }, 1 }, { OPEN, CLOSED, { 0, 1, 2, 3 }, 1 },
+    { 0, 3, { 0, 3, 4, 0xFFFFFFFFu }, 2 }, { 0, 3, { 0, 3, 4, 0xFFFFFFFFu }, 2 },
+    { 0, 65535, { 0, 65535, 65536, 0xFFFFFFFFu }, 3 }, { 0, 65535, { 0, 65535, 65536, 0xFFFFFFFFu }, 3 }, { 0, 65535, { 0, 65535, 65536, 0xFFFFFFFFu }, 3 },
+    { 50, 100, { 49, 50, 100, 101 }, 4 },
 };
 
 static int allowed(uint32_t input, uint32_t number) {
-    return limits[input].refusal == 1 ? number == OPEN || number == CLOSED : number <= limits[input].around[1];
+    return limits[input].least <= number && number <= limits[input].most;
 }
 
 /* Where a damage of one to the 10 A either way would show. */
 static const uint32_t currents[6] = { 0, 19900, 19901, 20099, 20100, 65535 };
 
+/* The share of a call that names none. */
+enum { NONE_NAMED = 90 };
+
 /* A voltage inside, more often an end of the range or beside a multiple of 20, where 95 x inside is a whole hundred; and one
-   outside that mostly just completes the precharge or just not. */
-static void any_voltages(uint32_t *inside, uint32_t *outside) {
+   outside that mostly just completes the precharge with this share or just not. */
+static void any_voltages(uint32_t *inside, uint32_t *outside, uint32_t share) {
     static const uint32_t ends[5] = { 0, 1, 65533, 65534, INVALID }, around[4] = { 0, 1, 19, 20 };
     uint32_t twentieth = 20 * below(3276);
     *inside = once_in(4) ? ends[below(5)] : once_in(2) ? twentieth + around[below(4)] : below(65535);
-    *outside = once_in(8) ? ends[below(5)] : once_in(8) ? below(65536) : *inside * 95 / 100 + below(4) - (*inside > 1);
+    *outside = once_in(8) ? ends[below(5)] : once_in(8) ? below(65536) : *inside * share / 100 + below(4) - (*inside > 1);
 }
 
-/* Inputs that are allowed: one time in four those of each step that turns on a figure. */
-static void any_inputs(uint32_t inputs[INPUTS]) {
+/* Inputs that are allowed, with this share: one time in four those of each step that turns on a figure. */
+static void any_inputs(uint32_t inputs[INPUTS], uint32_t share) {
     uint32_t picture = below(8), step = below(4);
     inputs[STATE] = step == 0 ? PC_POWER_PRECHARGE : step == 1 ? PC_POWER_ON : below(7);
     if (step < 2)
@@ -84,12 +89,13 @@ static void any_inputs(uint32_t inputs[INPUTS]) {
     inputs[COMMAND] = step == 0 ? UP : step == 1 ? DOWN : below(4);
     inputs[EMERGENCY_OFF] = step < 2 && !once_in(4) ? 0 : below(4);
     inputs[CURRENT] = once_in(2) ? currents[below(6)] : once_in(2) ? 19700 + below(600) : below(65536);
-    any_voltages(&inputs[INSIDE], &inputs[OUTSIDE]);
+    any_voltages(&inputs[INSIDE], &inputs[OUTSIDE], share);
+    inputs[SHARE] = share;
 }
 
 /* On the step from precharge to both: by how much the voltages complete it or not, and the voltages that never do. */
-static void meet_voltages(uint32_t inside, uint32_t outside) {
-    int64_t over = 100 * (int64_t)outside - 95 * (int64_t)inside;
+static void meet_voltages(uint32_t inside, uint32_t outside, uint32_t share, int named) {
+    int64_t over = 100 * (int64_t)outside - (int64_t)share * inside;
     int valid = inside != INVALID && outside != INVALID;
     const int ends[8] = {
         inside == 0 && outside == 0, inside == 0 && outside > 0 && valid, inside == 1 && outside == 0, inside == 1 && outside == 1,
@@ -97,24 +103,30 @@ static void meet_voltages(uint32_t inside, uint32_t outside) {
         outside == INVALID && inside > 0 && inside != INVALID,
     };
     meet_each(POWER_VOLTAGES, ends, 8);
-    if (valid && inside > 0 && over >= -100 && over <= 100)
-        meet(POWER_HUNDREDTHS, (uint32_t)(over + 100) / 5);
+    if (!valid || inside == 0 || over < -100 || over > 100)
+        return;
+    if (!named)
+        meet(POWER_NONE, (uint32_t)(over + 100) / 10);
+    else
+        meet(POWER_HUNDREDTHS, (uint32_t)(over + 100));
+    if (named && over < 100)
+        meet(POWER_SHARES, 2 * (share - 50) + (over >= 0));
 }
 
 /* Every input is allowed. */
-static void meet_step(const uint32_t inputs[INPUTS]) {
+static void meet_step(const uint32_t inputs[INPUTS], int named) {
     uint32_t picture = 4 * (inputs[NEGATIVE] - OPEN) + 2 * (inputs[PRECHARGE] - OPEN) + (inputs[POSITIVE] - OPEN);
     uint32_t current_at = place_in(currents, 6, inputs[CURRENT]);
     meet(POWER_RULES, ((inputs[STATE] * 8 + picture) * 4 + inputs[COMMAND]) * 4 + inputs[EMERGENCY_OFF]);
     if (inputs[STATE] == PC_POWER_PRECHARGE && picture == 7 && inputs[COMMAND] == UP)
-        meet_voltages(inputs[INSIDE], inputs[OUTSIDE]);
+        meet_voltages(inputs[INSIDE], inputs[OUTSIDE], inputs[SHARE], named);
     if (inputs[STATE] == PC_POWER_ON && picture == 4 && inputs[COMMAND] == DOWN && inputs[EMERGENCY_OFF] != 1 && current_at < 6)
         meet(POWER_CURRENTS, current_at);
 }
 
 /* Each input at its limit while the others are allowed, and two refusals at once. */
-static void meet_inputs(const uint32_t inputs[INPUTS]) {
-    uint32_t wrong = 0, refused[4] = { 0, 0, 0, 0 };
+static void meet_inputs(const uint32_t inputs[INPUTS], int named) {
+    uint32_t wrong = 0, refused[KINDS] = { 0, 0, 0, 0, 0 };
     for (uint32_t i = 0; i < INPUTS; i++)
         if (!allowed(i, inputs[i])) {
             wrong++;
@@ -125,27 +137,28 @@ static void meet_inputs(const uint32_t inputs[INPUTS]) {
         if (at < 4 && wrong == (allowed(i, inputs[i]) ? 0 : 1))
             meet(POWER_LIMITS, 4 * i + at);
     }
-    for (uint32_t late = 1; late < 4; late++)
+    for (uint32_t late = 1; late < KINDS; late++)
         for (uint32_t early = 0; early < late; early++)
             if (refused[early] && refused[late])
                 meet(POWER_ORDER, late * (late - 1) / 2 + early);
     if (wrong == 0)
-        meet_step(inputs);
+        meet_step(inputs, named);
 }
 
 void try_power_step(void) {
-    uint32_t inputs[INPUTS];
-    any_inputs(inputs);
+    uint32_t inputs[INPUTS], share = 50 + below(51);
+    int named = !once_in(3);
+    any_inputs(inputs, named ? share : NONE_NAMED);
     for (uint32_t times = !once_in(8) ? 0 : once_in(4) ? 2 : 1; times > 0; times--) {
-        uint32_t i = below(INPUTS);
+        uint32_t i = below(named ? INPUTS : SHARE);
         inputs[i] = once_in(2) ? limits[i].around[below(4)] : any_number();
     }
-    begin_case(POWER_STEP);
+    begin_case(named ? POWER_STEP_BY : POWER_STEP);
     struct lent *seen = lend("seen", &inputs[NEGATIVE], 4 * PC_POWER_WORDS), *state = lend("state", &inputs[STATE], 4);
-    uint32_t library = pc_power_step(L(state, uint32_t), L(seen, uint32_t));
-    uint32_t plain = plain_power_step(P(state, uint32_t), P(seen, uint32_t));
+    uint32_t library = named ? pc_power_step_by(L(state, uint32_t), L(seen, uint32_t), inputs[SHARE]) : pc_power_step(L(state, uint32_t), L(seen, uint32_t));
+    uint32_t plain = named ? plain_power_step_by(P(state, uint32_t), P(seen, uint32_t), inputs[SHARE]) : plain_power_step(P(state, uint32_t), P(seen, uint32_t));
     judge(library, plain, 1);
-    meet_inputs(inputs);
+    meet_inputs(inputs, named);
 }
 
 /* ---- The sleep watch. */

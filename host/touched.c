@@ -110,6 +110,10 @@ static void call_power_step(void) {
     power = PC_POWER_PRECHARGE;
     refusal = ENTER(pc_power_step, &power, seen);
 }
+static void call_power_step_by(void) {
+    power = PC_POWER_PRECHARGE;
+    refusal = ENTER(pc_power_step_by, &power, seen, 95);
+}
 static void call_sleep_start(void) {
     refusal = ENTER(pc_sleep_start, &last_wake, &asleep, 0);
 }
@@ -148,6 +152,7 @@ int main(int argc, char **argv) {
         say("pc_frame_pack", touched(call_frame_pack));
         say("pc_frame_read", touched(call_frame_read));
         say("pc_power_step", touched(call_power_step));
+        say("pc_power_step_by", touched(call_power_step_by));
         say("pc_sleep_start", touched(call_sleep_start));
         say("pc_sleep_watch", touched(call_sleep_watch));
     }

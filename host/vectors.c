@@ -91,8 +91,10 @@ static void power_case(void) {
     uint32_t seen[PC_POWER_WORDS];
     for (int i = 0; i < PC_POWER_WORDS; i++)
         seen[i] = hex(8);
+    uint32_t named = input[at] != '-', share = named ? hex(8) : 0;
+    at += named ? 0 : 8;
     end_of_line();
-    uint32_t refusal = FACE(power_step)(&state, seen);
+    uint32_t refusal = named ? FACE(power_step_by)(&state, seen, share) : FACE(power_step)(&state, seen);
     if (refusal)
         print_refusal(refusal);
     else

@@ -24,7 +24,7 @@
 #endif
 
 /* The version of the library. CHANGELOG.md says what each version asks of callers. */
-#define PC_VERSION "0.4.1"
+#define PC_VERSION "0.5.0"
 
 #ifdef __cplusplus
 extern "C" {
@@ -57,6 +57,7 @@ enum pc_refusal {
     PC_RELAY_COUNT = 41,          /* neither 1 nor 2 */
     PC_COMMAND_COUNT = 42,        /* 1601 or 1604 over 3 */
     PC_READING_COUNT = 43,        /* current or voltage over 65,535 */
+    PC_SHARE_OUT_OF_RANGE = 44,   /* a share under 50 or over 100 */
     PC_CLOCK_WENT_BACK = 51,      /* while awake, the time is 2^31 ms (24 days) or more past the last wake, round the circle */
     PC_PLACE_OVER_LIMIT = 61,     /* bus over 7, or identifier of 2^29 or more */
     PC_ROOM_FOR_SPREAD = 62,      /* room for fewer places than the spread has */
@@ -154,7 +155,7 @@ enum {
 uint32_t pc_fault_sum(const uint32_t *counts, uint64_t counts_length, uint32_t sum[PC_FAULT_WORDS]);
 
 /* The power monitor. Its state is one number, kept by the caller, who sets it to PC_POWER_START at first. An observation
-   moves it as QC/T 1201.5-2023, 5.4.2, asks. Refusals 91, 41, 42, 43. */
+   moves it as QC/T 1201.5-2023, 5.4.2, asks. */
 enum pc_power {
     PC_POWER_OFF = 0,
     PC_POWER_RISING = 1,
@@ -176,7 +177,16 @@ enum {                            /* what an observation has, as raw counts: whe
     PC_SEEN_OUTSIDE = 7,          /* 202 */
     PC_POWER_WORDS = 8
 };
+
+/* Precharge is complete where both voltages are valid, the one inside is above 0 and the one outside has at least the share of
+   it, in hundredths: 100 x outside >= share x inside. pc_power_step gives no share, and it is then 90. Before 0.5.0 it was
+   95: whoever relied on that calls pc_power_step_by with 95, which gives every answer and state as before.
+   Refusals 91, 41, 42, 43. */
 uint32_t pc_power_step(uint32_t *state, const uint32_t seen[PC_POWER_WORDS]);
+
+/* The same with the share that the caller names, 50 to 100. Refusals 91, 41, 42, 43, 44: 44 too where the observation asks
+   nothing of the share. */
+uint32_t pc_power_step_by(uint32_t *state, const uint32_t seen[PC_POWER_WORDS], uint32_t share);
 
 /* The sleep watch. Its state is two numbers, kept by the caller. Times are in milliseconds and may run over.
    pc_sleep_start: awake at this time. It refuses nothing. */

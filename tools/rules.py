@@ -410,19 +410,26 @@ PICTURES = {OFF: "ooo", RISING: "coo", PRECHARGE: "cco", BOTH: "ccc", ON: "coc",
 RELAY = {1: "o", 2: "c"}
 
 
-def precharge_complete(inside, outside):
+SHARE_WHERE_NONE = 90
+
+
+def precharge_complete(inside, outside, share):
+    """The share is a number, or None where none is given."""
+    share = SHARE_WHERE_NONE if share is None else share
     valid = all(class_of(CATALOGUE, number, raw)[0] == "value" for number, raw in ((201, inside), (202, outside)))
-    return valid and inside > 0 and 100 * outside >= 95 * inside
+    return 50 <= share <= 100 and valid and inside > 0 and 100 * outside >= share * inside
 
 
-def power_step(state, relays, command, request, current, inside, outside):
-    """The next state, or ('no', refusal). `request` is 1604."""
+def power_step(state, relays, command, request, current, inside, outside, share):
+    """The next state, or ('no', refusal). `request` is 1604; `share` a number, or None where none is given."""
     if any(relay not in RELAY for relay in relays):
         return "no", 41
     if command > 3 or request > 3:
         return "no", 42
     if max(current, inside, outside) > 65535:
         return "no", 43
+    if share is not None and (share < 50 or share > 100):
+        return "no", 44
     picture = "".join(RELAY[relay] for relay in relays)
     urgent = command == 3 or request == 1
     if state == FAULT:
@@ -435,7 +442,7 @@ def power_step(state, relays, command, request, current, inside, outside):
     steps = [
         (OFF, RISING, command == 1),
         (RISING, PRECHARGE, command == 1),
-        (PRECHARGE, BOTH, command == 1 and precharge_complete(inside, outside)),
+        (PRECHARGE, BOTH, command == 1 and precharge_complete(inside, outside, share)),
         (BOTH, ON, True),
         (FALLING, OFF, True),
         (RISING, OFF, command == 2),

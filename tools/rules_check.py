@@ -86,8 +86,9 @@ def printed_examples():
         assert {class_of(CATALOGUE, number, raw) for number in CELL_NUMBERS} == {expected}, raw
     assert checksum(0x18FFFAF3, [0] * 8) == 4
     assert checksum(0x18FFFAF3, [0xFF] * 7 + [0x0F]) == 5
-    assert precharge_complete(6000, 5700) and not precharge_complete(6000, 5699)
-    assert not precharge_complete(0, 0)
+    assert precharge_complete(6000, 5700, 95) and not precharge_complete(6000, 5699, 95)
+    assert precharge_complete(6000, 5400, None) and not precharge_complete(6000, 5399, None)
+    assert not precharge_complete(0, 0, 50) and not precharge_complete(6000, 6000, 49) and not precharge_complete(6000, 6000, 101)
 
 
 def printed_books():

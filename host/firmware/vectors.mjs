@@ -80,8 +80,9 @@ const cases = {
   power() {
     words(count, 1)[0] = nextIs('N') ? (letter(), POWER_START) : digits(1);
     for (let i = 0; i < POWER_WORDS; i++) words(small, POWER_WORDS)[i] = digits(8);
+    const share = nextIs('-') ? (bytes(8), null) : digits(8);
     endOfLine();
-    const refusal = calls.pc_power_step(count, small);
+    const refusal = share === null ? calls.pc_power_step(count, small) : calls.pc_power_step_by(count, small, share);
     if (refusal) refused(refusal);
     else print(words(count, 1)[0]);
   },

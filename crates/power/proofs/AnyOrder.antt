@@ -13,6 +13,7 @@ use Rattle.power.specs.declared.State.the-variants.{Off, Rising, Prechar
 use Rattle.power.specs.Observed.{openRelay, closedRelay, shows, allOpen, commanded, urgent, prechargeComplete, under10A}
 use Rattle.power.specs.Pictures.{picture}
 use Rattle.power.specs.Rules.{rule3, rule4, steps, stepElse, firstStep, byRules}
+use Rattle.power.proofs.Ands.{left, right}
 
 -- of two cases that don't both hold, either may be asked for first
 either-first : (p q : Bool) (x y z : State) → (p ≡ true → q ≡ true → ⊥) → cond p x (cond q y z) ≡ cond q y (cond p x z)
@@ -21,28 +22,19 @@ either-first true false x y z never = refl
 either-first false true x y z never = refl
 either-first false false x y z never = refl
 
-left : (a b : Bool) → a && b ≡ true → a ≡ true
-left true b e = refl
-left false b e = e
-
-right : (a b : Bool) → a && b ≡ true → b ≡ true
-right true b e = e
-right false true e = refl
-right false false e = e
-
 module _ (seen : Observation) where
   -- what an observation that shows three relays has in the first two
   first-relay : (n p m : ℕ) → shows n p m seen ≡ true → seen .«main_negative» .0 ≡ n
   first-relay n p m e = eqb-true (seen .«main_negative» .0) n (left (eqb (seen .«main_negative» .0) n) (eqb (seen .precharge .0) p) (left (eqb (seen .«main_negative» .0) n && eqb (seen .precharge .0) p) (eqb (seen .«main_positive» .0) m) e))
 
-  second-relay : (n p m : ℕ) → shows n p m seen ≡ true → seen .precharge .0 ≡ p
+  pub second-relay : (n p m : ℕ) → shows n p m seen ≡ true → seen .precharge .0 ≡ p
   second-relay n p m e = eqb-true (seen .precharge .0) p (right (eqb (seen .«main_negative» .0) n) (eqb (seen .precharge .0) p) (left (eqb (seen .«main_negative» .0) n && eqb (seen .precharge .0) p) (eqb (seen .«main_positive» .0) m) e))
 
   third-relay : (n p m : ℕ) → shows n p m seen ≡ true → seen .«main_positive» .0 ≡ m
   third-relay n p m e = eqb-true (seen .«main_positive» .0) m (right (eqb (seen .«main_negative» .0) n && eqb (seen .precharge .0) p) (eqb (seen .«main_positive» .0) m) e)
 
   up : Bool
-  up = commanded 1 seen && prechargeComplete (seen .inside) (seen .outside)
+  up = commanded 1 seen && prechargeComplete (seen .inside) (seen .outside) (seen .share)
 
   down : Bool
   down = commanded 2 seen || urgent seen

@@ -1,9 +1,13 @@
 pub mod OneOutcome
 pub mod Numbers
+pub mod Ands
 pub mod Answers
 pub mod Leading
 pub mod Urgent
 pub mod AnyOrder
+pub mod Shared
+pub mod LowerShares
+pub mod AsBefore
 pub mod Readings
 pub mod Currents
 pub mod Worked

@@ -14,6 +14,7 @@ use Rattle.only.specs.Only.{Only, only-this}
 use Rattle.catalogue.specs.declared.Raw.{Raw}
 use Rattle.power.specs.declared.State.{State}
 use Rattle.power.specs.declared.Observation.{Observation}
+use Rattle.power.specs.declared.Share.{Share}
 use Rattle.power.specs.Observed.{prechargeComplete}
 use Rattle.power.specs.States.{stateNumber, stateNumbered}
 use Rattle.power.specs.Rules.{startsAs}
@@ -37,8 +38,9 @@ module _ {M : Type 1} (𝓤 : URA M) (H : Heap 𝓤) (A : Atoms 𝓤) (mem : Mem
   pub one-numbered : (n : ℕ) (e : AtExit numbered-fn.ended tt) → Only 𝓤 (λ r. numbered-fn.clauses 𝓤 H A mem run tt (n, tt) .ensures tt r e)
   one-numbered n e = only-this 𝓤 _ (StateOrNone.the-row .coded) (stateNumbered n) (λ r. refl)
 
-  pub one-precharge-complete : (inside outside : Raw) (e : AtExit precharge-complete.ended tt) → Only 𝓤 (λ r. precharge-complete.clauses 𝓤 H A mem run tt (inside, (outside, tt)) .ensures tt r e)
-  one-precharge-complete inside outside e = only-this 𝓤 _ codedBool (prechargeComplete inside outside) (λ r. refl)
+  pub one-precharge-complete : (inside outside : Raw) (share : Share) (e : AtExit precharge-complete.ended tt)
+      → Only 𝓤 (λ r. precharge-complete.clauses 𝓤 H A mem run tt (inside, (outside, (share, tt))) .ensures tt r e)
+  one-precharge-complete inside outside share e = only-this 𝓤 _ codedBool (prechargeComplete inside outside share) (λ r. refl)
 
   pub one-step : (state : State) (seen : Observation) (e : AtExit step.ended tt) → Only 𝓤 (λ r. step.clauses 𝓤 H A mem run tt (state, (seen, tt)) .ensures tt r e)
   one-step state seen e = only-this 𝓤 _ (Stepped.the-row .coded) (stepOf state seen) (λ r. refl)

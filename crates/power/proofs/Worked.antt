@@ -1,4 +1,4 @@
--- The worked precharges, and currents at their edges, -30 A among them. Assumes nothing.
+-- The worked precharges, each with its share, and currents at their edges, -30 A among them. Assumes nothing.
 use mathlib.Core.Path.{_≡_, refl}
 use mathlib.Core.Bool.{true, false}
 use mathlib.Core.List.{[], _∷_, map}
@@ -6,7 +6,7 @@ use Prim.Native.Nat.{ℕ}
 use Rattle.power.specs.Observed.{prechargeComplete, under10A}
 use Rattle.power.specs.Precharges.{Precharging, precharges}
 
-pub all-precharges : map (λ (w : Precharging). prechargeComplete (w .inside) (w .outside)) precharges ≡ map (λ (w : Precharging). w .complete) precharges
+pub all-precharges : map (λ (w : Precharging). prechargeComplete (w .inside) (w .outside) (w .share)) precharges ≡ map (λ (w : Precharging). w .complete) precharges
 unfolding precharges prechargeComplete
 all-precharges = refl
 

@@ -1,6 +1,9 @@
+pub mod Shares
 pub mod Observed
 pub mod Pictures
 pub mod States
 pub mod Rules
 pub mod Refusals
 pub mod Precharges
+pub mod Before
+pub mod Sooner

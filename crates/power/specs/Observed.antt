@@ -4,6 +4,8 @@ use mathlib.Core.Bool.{Bool, _&&_, _||_, cond, false}
 use lib.Dec.{eqb, leb, ltb}
 use Rattle.catalogue.specs.declared.Raw.{Raw}
 use Rattle.power.specs.declared.Observation.{Observation}
+use Rattle.power.specs.declared.Share.{Share}
+use Rattle.power.specs.Shares.{hundredths, shareFits}
 use lib.IntN.{ℤ, pos, _+ℤ_, negℤ}
 use Rattle.catalogue.specs.declared.Class.{Class}
 use Rattle.catalogue.specs.declared.Class.the-variants.{Value, Invalid, TooWide, Absent, Error, Reserved, Outside, NotInCatalogue}
@@ -47,13 +49,10 @@ invalidVoltage = highestReading
 abbrev pub valid : Raw → Bool
 valid voltage = ltb (voltage .0) invalidVoltage
 
--- how many hundredths of the inside: a "house figure"
-abbrev pub share : ℕ
-share = 95
-
--- "Precharge complete: both voltages valid, inside above 0, and 100 x outside >= 95 x inside"
-unfoldable pub prechargeComplete : Raw → Raw → Bool
-prechargeComplete inside outside = valid inside && valid outside && ltb 0 (inside .0) && leb (share * inside .0) (100 * outside .0)
+-- "Precharge complete: both voltages valid, inside above 0", and "100 x outside >= share x inside"; with a share outside 50 to 100 never
+unfoldable pub prechargeComplete : Raw → Raw → Share → Bool
+prechargeComplete inside outside share =
+    shareFits share && valid inside && valid outside && ltb 0 (inside .0) && leb (hundredths share * inside .0) (100 * outside .0)
 
 -- "current raw 19,901 to 20,099 (under 10 A either way)"
 abbrev pub under10A : Raw → Bool

@@ -32,7 +32,7 @@ unfoldable pub rule3 : List PowerStep
 rule3 =
     fromTo Off Rising (commanded 1)
     ∷ fromTo Rising Precharge (commanded 1)
-    ∷ fromTo Precharge Both (λ seen. commanded 1 seen && prechargeComplete (seen .inside) (seen .outside))
+    ∷ fromTo Precharge Both (λ seen. commanded 1 seen && prechargeComplete (seen .inside) (seen .outside) (seen .share))
     ∷ fromTo Both On always
     ∷ fromTo Falling Off always
     ∷ []

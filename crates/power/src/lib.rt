@@ -1,14 +1,17 @@
-// The power monitor: one step for each observation of a pack's relays, commands, current and voltages.
+// The power monitor: one step for each observation of a pack's relays, commands, current and voltages, and of the share that
+// precharge has to reach.
 //
 // For a gateway that keeps a `State`, at first `State::start()`, and calls `step` with each observation. No public function
-// has a `requires`: an observation with a relay that is neither open nor closed, or with another count over its highest,
-// is refused, and the state is kept. `specs/Rules.antt` has document 01's rules 1 to 5.
+// has a `requires`: an observation with a relay that is neither open nor closed, with another count over its highest, or with
+// a share outside 50 to 100, is refused, and the state is kept. `specs/Rules.antt` has document 01's rules 1 to 5.
 mod observed;
 mod rules;
+mod shares;
 
 use catalogue::Raw;
 pub use observed::precharge_complete;
 use rules::next_state;
+use shares::share_fits;
 ghost use mathlib.Core.Path.{_≡_};
 ghost use Rattle.power.specs.States.{stateNumber, stateNumbered};
 ghost use Rattle.power.specs.Rules.{startsAs};
@@ -30,7 +33,14 @@ pub enum StateOrNone {
     NoState,
 }
 
-// Raw counts, as read from frames.
+// The share of the voltage inside, in hundredths, that the one outside has to reach before precharge is complete: the one
+// that the caller names, or that none is given, which is a case of its own and no number.
+pub enum Share {
+    Named(u32),
+    NoneGiven,
+}
+
+// Raw counts, as read from frames, and the share that comes with them.
 pub struct Observation {
     // Relays: 1 open, 2 closed.
     pub main_negative: Raw,
@@ -45,6 +55,7 @@ pub struct Observation {
     // 201 and 202: the voltages on either side of the main positive relay.
     pub inside: Raw,
     pub outside: Raw,
+    pub share: Share,
 }
 
 pub enum PowerAnswer {
@@ -55,6 +66,8 @@ pub enum PowerAnswer {
     CommandTooHigh,
     // The current or a voltage is over 65,535.
     ReadingTooHigh,
+    // The share is under 50 or over 100.
+    ShareOutOfRange,
 }
 
 // The state after a step, and what the step answered.
@@ -163,6 +176,13 @@ pub fn step(state: State, seen: Observation) -> Stepped
         return Stepped {
             state,
             answer: PowerAnswer::ReadingTooHigh,
+        };
+    }
+    let share = seen.share;
+    if !share_fits(share) {
+        return Stepped {
+            state,
+            answer: PowerAnswer::ShareOutOfRange,
         };
     }
     let next = next_state(state, seen);

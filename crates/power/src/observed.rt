@@ -3,7 +3,10 @@ use crate::CLOSED;
 use crate::HIGHEST_READING;
 use crate::OPEN;
 use crate::Observation;
+use crate::Share;
 use crate::State;
+use crate::shares::hundredths_of;
+use crate::shares::share_fits;
 use catalogue::Raw;
 ghost use mathlib.Core.Path.{_≡_};
 ghost use Rattle.power.specs.Observed.{shows, allOpen, urgent, prechargeComplete, under10A};
@@ -12,22 +15,20 @@ ghost use Rattle.power.specs.Pictures.{picture};
 // The mark invalid of both voltages.
 const INVALID: u32 = HIGHEST_READING;
 
-// Precharge is complete where the outside has this share, in hundredths, of the inside.
-const SHARE: u64 = 95;
-
 fn wide(x: u32) -> u64
     ensures { λ r. ⌜ r ≡ x ⌝ }
 {
     x as u64
 }
 
-// Whether precharge is complete, of the raw counts of 201 and 202.
-pub fn precharge_complete(inside: Raw, outside: Raw) -> bool
-    ensures { λ r. ⌜ r ≡ prechargeComplete inside outside ⌝ }
+// Whether precharge is complete, of the raw counts of 201 and 202 and the share; never with a share outside 50 to 100.
+pub fn precharge_complete(inside: Raw, outside: Raw, share: Share) -> bool
+    ensures { λ r. ⌜ r ≡ prechargeComplete inside outside share ⌝ }
 {
-    let needed = SHARE * wide(inside.0);
+    let fits = share_fits(share);
+    let needed = wide(hundredths_of(share)) * wide(inside.0);
     let there = 100 * wide(outside.0);
-    (inside.0 < INVALID) & (outside.0 < INVALID) & (0 < inside.0) & (needed <= there)
+    fits & (inside.0 < INVALID) & (outside.0 < INVALID) & (0 < inside.0) & (needed <= there)
 }
 
 pub fn is_under_10_amps(current: Raw) -> bool

@@ -39,7 +39,8 @@ fn from_rising(seen: Observation) -> State
 fn from_precharge(seen: Observation) -> State
     ensures { λ r. ⌜ r ≡ firstStep steps Precharge seen ⌝ }
 {
-    let complete = precharge_complete(seen.inside, seen.outside);
+    let share = seen.share;
+    let complete = precharge_complete(seen.inside, seen.outside, share);
     if shows_picture(State::Both, seen) & ((seen.command.0 == 1) & complete) {
         return State::Both;
     }

@@ -1,12 +1,13 @@
-// Runs the power monitor over the observations on standard input. A line is a state's digit, or N for a new monitor, and
-// the eight raw counts in eight hex digits each, in the order of `Observation`. Each gives a line: the next state's digit,
-// or `no` and the refusal.
+// Runs the power monitor over the observations on standard input. A line is a state's digit, or N for a new monitor, the
+// eight raw counts in eight hex digits each, in the order of `Observation`, and the share likewise, or eight hyphens where none
+// is given. Each gives a line: the next state's digit, or `no` and the refusal.
 use catalogue::Raw;
 use libc::STDIN_FILENO;
 use libc::STDOUT_FILENO;
 use numerals::identifier_or_0;
 use power::Observation;
 use power::PowerAnswer;
+use power::Share;
 use power::State;
 use power::StateOrNone;
 
@@ -31,7 +32,14 @@ fn raw_of(digits: &[u8]) -> Raw {
     Raw(identifier_or_0(digits))
 }
 
-fn observed(line: [u8; 66]) -> Observation {
+fn share_of(line: [u8; 74]) -> Share {
+    if line[65] == b'-' {
+        return Share::NoneGiven;
+    }
+    Share::Named(identifier_or_0(&line[65..73]))
+}
+
+fn observed(line: [u8; 74]) -> Observation {
     Observation {
         main_negative: raw_of(&line[1..9]),
         precharge: raw_of(&line[9..17]),
@@ -41,6 +49,7 @@ fn observed(line: [u8; 66]) -> Observation {
         current: raw_of(&line[41..49]),
         inside: raw_of(&line[49..57]),
         outside: raw_of(&line[57..65]),
+        share: share_of(line),
     }
 }
 
@@ -62,15 +71,18 @@ fn step(state: State, seen: Observation) {
         PowerAnswer::ReadingTooHigh => {
             io::write_all(STDOUT_FILENO, b"no\t43\n");
         }
+        PowerAnswer::ShareOutOfRange => {
+            io::write_all(STDOUT_FILENO, b"no\t44\n");
+        }
     }
 }
 
 fn main() {
-    let mut line = [0u8; 66];
+    let mut line = [0u8; 74];
     let mut lines: u32 = 0;
     while lines < MOST_LINES {
         lines += 1;
-        if io::read_full(STDIN_FILENO, &mut line) < 66 {
+        if io::read_full(STDIN_FILENO, &mut line) < 74 {
             return;
         }
         match state_of(line[0]) {

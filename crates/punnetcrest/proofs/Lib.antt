@@ -3,6 +3,7 @@ pub mod ClassNumbers
 pub mod DashNumbers
 pub mod OneOutcome
 pub mod PowerNumbers
+pub mod PowerShares
 pub mod SleepNumbers
 pub mod SpreadNumbers
 pub mod SumNumbers

@@ -16,6 +16,7 @@ use contract.Monad.{Fun}
 use denote.Ref.{RefT, now, at-last}
 use Rattle.only.specs.Only.{Only, only-this}
 use Rattle.framing.proofs.CodedSlices.{codedSlices}
+use Rattle.power.specs.declared.Share.the-variants.{Named, NoneGiven}
 use Rattle.punnetcrest.specs.Booking.{BookRead}
 use Rattle.punnetcrest.specs.BookText.{WriteCall}
 use Rattle.punnetcrest.specs.Classing.{classed}
@@ -35,6 +36,7 @@ use Rattle.punnetcrest.proofs.classing.pc_class as class-call
 use Rattle.punnetcrest.proofs.dashing.pc_dash as dash-call
 use Rattle.punnetcrest.proofs.packing.pc_frame_pack as frame-pack
 use Rattle.punnetcrest.proofs.powering.pc_power_step as power-step
+use Rattle.punnetcrest.proofs.powering.pc_power_step_by as power-step-by
 use Rattle.punnetcrest.proofs.sleeping.pc_sleep_start as sleep-start
 use Rattle.punnetcrest.proofs.sleeping.pc_sleep_watch as sleep-watch
 use Rattle.punnetcrest.proofs.spreading.pc_spread as spread
@@ -92,7 +94,11 @@ module _ {M : Type 1} (𝓤 : URA M) (H : Heap 𝓤) (A : Atoms 𝓤) (mem : Mem
 
   pub one-power-step : (κs : Lfts 2) (state : RefT ℕ) (seen : RefT (List ℕ))
       → Only 𝓤 (λ (x : ℕ × ℕ). power-step.clauses 𝓤 H A mem run κs (state, (seen, tt)) .ensures tt (x .0) (at-last state (x .1), (seen, tt)))
-  one-power-step κs state seen = only-this 𝓤 _ (coded× codedℕ codedℕ) (stepped (now state) (now seen)) (λ x. refl)
+  one-power-step κs state seen = only-this 𝓤 _ (coded× codedℕ codedℕ) (stepped (now state) (now seen) NoneGiven) (λ x. refl)
+
+  pub one-power-step-by : (κs : Lfts 2) (state : RefT ℕ) (seen : RefT (List ℕ)) (share : ℕ)
+      → Only 𝓤 (λ (x : ℕ × ℕ). power-step-by.clauses 𝓤 H A mem run κs (state, (seen, (share, tt))) .ensures tt (x .0) (at-last state (x .1), (seen, (share, tt))))
+  one-power-step-by κs state seen share = only-this 𝓤 _ (coded× codedℕ codedℕ) (stepped (now state) (now seen) (Named share)) (λ x. refl)
 
   pub one-sleep-start : (κs : Lfts 2) (last asleep : RefT ℕ) (time : ℕ)
       → Only 𝓤 (λ (x : ℕ × (ℕ × ℕ)). sleep-start.clauses 𝓤 H A mem run κs (last, (asleep, (time, tt))) .ensures tt (x .0) (at-last last (x .1 .0), (at-last asleep (x .1 .1), (time, tt))))

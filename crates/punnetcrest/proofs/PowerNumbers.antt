@@ -3,6 +3,7 @@ use Prim.Native.Nat.{ℕ}
 use mathlib.Core.List.{List}
 use mathlib.Core.Path.{_≡_, refl, sym, ap, _∙_}
 use Rattle.power.specs.declared.Observation.{Observation}
+use Rattle.power.specs.declared.Share.{Share}
 use Rattle.power.specs.declared.State as S
 use Rattle.power.specs.declared.StateOrNone.{StateOrNone}
 use Rattle.power.specs.declared.StateOrNone.the-variants.{State}
@@ -16,10 +17,11 @@ pub starts-at-0 : powerStart ≡ 0
 starts-at-0 = refl
 
 -- what the call does is told by the state that the number stands for
-pub told : (state : ℕ) (seen : List ℕ) {given from : StateOrNone} → given ≡ stateNumbered state → given ≡ from → steppedFrom from state seen ≡ stepped state seen
-told state seen e t = ap (λ (n : StateOrNone). steppedFrom n state seen) (sym t ∙ e)
+pub told : (state : ℕ) (seen : List ℕ) (share : Share) {given from : StateOrNone}
+    → given ≡ stateNumbered state → given ≡ from → steppedFrom from state seen share ≡ stepped state seen share
+told state seen share e t = ap (λ (n : StateOrNone). steppedFrom n state seen share) (sym t ∙ e)
 
-pub as-stepped : (state : ℕ) (seen : List ℕ) (s : Stepped) {given : StateOrNone} {from : S.State} {observed : Observation}
-    → given ≡ stateNumbered state → given ≡ State from → observed ≡ seenIn seen → s ≡ stepOf from observed
-    → (powerRefusal (s .answer), stateNumber (s .state)) ≡ stepped state seen
-as-stepped state seen s e t at stepped-so = ap steppedInNumbers (rw at at stepped-so) ∙ told state seen e t
+pub as-stepped : (state : ℕ) (seen : List ℕ) (share : Share) (s : Stepped) {given : StateOrNone} {from : S.State} {observed : Observation}
+    → given ≡ stateNumbered state → given ≡ State from → observed ≡ seenIn seen share → s ≡ stepOf from observed
+    → (powerRefusal (s .answer), stateNumber (s .state)) ≡ stepped state seen share
+as-stepped state seen share s e t at stepped-so = ap steppedInNumbers (rw at at stepped-so) ∙ told state seen share e t

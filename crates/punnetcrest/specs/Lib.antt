@@ -5,6 +5,7 @@ pub mod Counted
 pub mod Dashing
 pub mod Packing
 pub mod Powering
+pub mod PoweringBefore
 pub mod Sleeping
 pub mod Spreading
 pub mod Summing

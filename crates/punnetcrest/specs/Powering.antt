@@ -4,6 +4,7 @@ use mathlib.Core.List.{List}
 use lib.ListN.{getD}
 use Rattle.catalogue.specs.declared.Raw.{Raw}
 use Rattle.power.specs.declared.Observation.{Observation}
+use Rattle.power.specs.declared.Share.{Share}
 use Rattle.power.specs.declared.StateOrNone.{StateOrNone}
 use Rattle.power.specs.declared.StateOrNone.the-variants.{State, NoState}
 use Rattle.power.specs.declared.Stepped.{Stepped}
@@ -19,12 +20,12 @@ powerStart = stateNumber startsAs
 abbrev pub notAPowerState : ℕ
 notAPowerState = 91
 
--- the observation that is lent as eight raw counts: the relays 302, 303 and 301, then 1601, 1604, 203, 201 and 202
+-- the observation that is lent as eight raw counts: the relays 302, 303 and 301, then 1601, 1604, 203, 201 and 202; and the share with it
 abbrev seenAt : List ℕ → ℕ → Raw
 seenAt seen place = record { 0 = getD seen place 0 }
 
-abbrev pub seenIn : List ℕ → Observation
-seenIn seen =
+abbrev pub seenIn : List ℕ → Share → Observation
+seenIn seen share =
     record {
       «main_negative» = seenAt seen 0;
       precharge = seenAt seen 1;
@@ -34,16 +35,17 @@ seenIn seen =
       current = seenAt seen 5;
       inside = seenAt seen 6;
       outside = seenAt seen 7;
+      share = share;
     }
 
 abbrev pub steppedInNumbers : Stepped → ℕ × ℕ
 steppedInNumbers s = (powerRefusal (s .answer), stateNumber (s .state))
 
 -- the step from the state that a number stands for; a number that stands for none is kept
-abbrev pub steppedFrom : StateOrNone → ℕ → List ℕ → ℕ × ℕ
-steppedFrom (State from) kept seen = steppedInNumbers (stepOf from (seenIn seen))
-steppedFrom NoState kept seen = (notAPowerState, kept)
+abbrev pub steppedFrom : StateOrNone → ℕ → List ℕ → Share → ℕ × ℕ
+steppedFrom (State from) kept seen share = steppedInNumbers (stepOf from (seenIn seen share))
+steppedFrom NoState kept seen share = (notAPowerState, kept)
 
--- pc_power_step
-abbrev pub stepped : ℕ → List ℕ → ℕ × ℕ
-stepped state seen = steppedFrom (stateNumbered state) state seen
+-- pc_power_step_by with the share that it names, and pc_power_step with none given
+abbrev pub stepped : ℕ → List ℕ → Share → ℕ × ℕ
+stepped state seen share = steppedFrom (stateNumbered state) state seen share

@@ -1,6 +1,7 @@
-// The power monitor, its state as one number.
+// The power monitor, its state as one number: with the share of the call's own, or with none.
 use catalogue::Raw;
 ghost use mathlib.Core.Path.{_≡_};
+ghost use Rattle.power.specs.declared.Share.the-variants.{Named, NoneGiven};
 ghost use Rattle.power.specs.Refusals.{powerRefusal};
 ghost use Rattle.punnetcrest.specs.Powering.{seenIn, stepped};
 
@@ -25,8 +26,8 @@ const INSIDE: usize = 6;
 
 const OUTSIDE: usize = 7;
 
-fn observation_of(seen: &[u32; SEEN_WORDS]) -> power::Observation
-    ensures { λ r. ⌜ r ≡ seenIn (now (seen .entry)) ⌝ }
+fn observation_of(seen: &[u32; SEEN_WORDS], share: power::Share) -> power::Observation
+    ensures { λ r. ⌜ r ≡ seenIn (now (seen .entry)) share ⌝ }
 {
     power::Observation {
         main_negative: Raw(seen[MAIN_NEGATIVE]),
@@ -37,10 +38,11 @@ fn observation_of(seen: &[u32; SEEN_WORDS]) -> power::Observation
         current: Raw(seen[CURRENT]),
         inside: Raw(seen[INSIDE]),
         outside: Raw(seen[OUTSIDE]),
+        share,
     }
 }
 
-// Document 01's number of the monitor's answer.
+// The documents' number of the monitor's answer.
 fn number_of(answer: power::PowerAnswer) -> u32
     ensures { λ r. ⌜ r ≡ powerRefusal answer ⌝ }
 {
@@ -49,18 +51,18 @@ fn number_of(answer: power::PowerAnswer) -> u32
         power::PowerAnswer::NeitherOpenNorClosed => 41,
         power::PowerAnswer::CommandTooHigh => 42,
         power::PowerAnswer::ReadingTooHigh => 43,
+        power::PowerAnswer::ShareOutOfRange => 44,
     }
 }
 
-// One observation.
-#[no_mangle]
-pub extern "C" fn pc_power_step(state: &mut u32, seen: &[u32; SEEN_WORDS]) -> u32
-    ensures { λ r. ⌜ (r, now (state .exit)) ≡ stepped (now (state .entry)) (now (seen .entry)) ⌝ }
+// One observation, with the share that comes with it.
+fn step_with(state: &mut u32, seen: &[u32; SEEN_WORDS], share: power::Share) -> u32
+    ensures { λ r. ⌜ (r, now (state .exit)) ≡ stepped (now (state .entry)) (now (seen .entry)) share ⌝ }
 {
     let held = power::State::numbered(*state);
     match held {
         power::StateOrNone::State(from) => {
-            let next = power::step(from, observation_of(seen));
+            let next = power::step(from, observation_of(seen, share));
             let after = next.state;
             let answer = next.answer;
             *state = after.number();
@@ -68,4 +70,20 @@ pub extern "C" fn pc_power_step(state: &mut u32, seen: &[u32; SEEN_WORDS]) -> u3
         }
         power::StateOrNone::NoState => NOT_A_POWER_STATE,
     }
+}
+
+// One observation, and no share given.
+#[no_mangle]
+pub extern "C" fn pc_power_step(state: &mut u32, seen: &[u32; SEEN_WORDS]) -> u32
+    ensures { λ r. ⌜ (r, now (state .exit)) ≡ stepped (now (state .entry)) (now (seen .entry)) NoneGiven ⌝ }
+{
+    step_with(state, seen, power::Share::NoneGiven)
+}
+
+// One observation, and the share that the caller names.
+#[no_mangle]
+pub extern "C" fn pc_power_step_by(state: &mut u32, seen: &[u32; SEEN_WORDS], share: u32) -> u32
+    ensures { λ r. ⌜ (r, now (state .exit)) ≡ stepped (now (state .entry)) (now (seen .entry)) (Named share) ⌝ }
+{
+    step_with(state, seen, power::Share::Named(share))
 }

@@ -7,6 +7,7 @@ use Rattle.catalogue.specs.declared.Class.{Class}
 use Rattle.catalogue.specs.declared.Class.the-variants as class
 use Rattle.catalogue.specs.Class.{classOf}
 use Rattle.bits.specs.Checksum.{checksumOf}
+use Rattle.power.specs.declared.Share.the-variants.{Named}
 use Rattle.power.specs.Observed.{prechargeComplete}
 
 pub data Question : Type 0 where
@@ -14,8 +15,8 @@ pub data Question : Type 0 where
   count : ℕ → ℕ → Question
   -- the checksum under an identifier: bytes 0 to 6, and byte 7, whose low four bits are the counter
   checksum : ℕ → ℕ → ℕ → Question
-  -- precharge, by the voltages inside and outside
-  precharge : ℕ → ℕ → Question
+  -- precharge with the share named, by the voltages inside and outside
+  precharge : ℕ → ℕ → ℕ → Question
 
 pub data WorkedAnswer : Type 0 where
   value : ℤ → WorkedAnswer
@@ -44,7 +45,7 @@ frame byte last = byte ∷ byte ∷ byte ∷ byte ∷ byte ∷ byte ∷ byte ∷
 abbrev pub answer : Question → WorkedAnswer
 answer (count number raw) = named (classOf number (record { 0 = raw }))
 answer (checksum identifier byte last) = check (checksumOf identifier (frame byte last))
-answer (precharge volts beyond) = complete (prechargeComplete (record { 0 = volts }) (record { 0 = beyond }))
+answer (precharge share volts beyond) = complete (prechargeComplete (record { 0 = volts }) (record { 0 = beyond }) (Named share))
 
 pub record Worked : Type 0 where
   pub asked : Question
@@ -57,7 +58,7 @@ asks q a = record { asked = q; given = a }
 abbrev pub workedIdentifier : ℕ
 workedIdentifier = 419429107
 
--- the 15 of them
+-- the 15 of them; the two precharges, "inside 6000: 5700 complete, 5699 not", name the 95 that they relied on (document 02, P6)
 unfoldable pub worked : List Worked
 worked =
     asks (count 203 19999) (value (negℤ (pos 100)))
@@ -73,6 +74,6 @@ worked =
     ∷ asks (count 1705 2) invalid
     ∷ asks (checksum workedIdentifier 0 0) (check 4)
     ∷ asks (checksum workedIdentifier 255 15) (check 5)
-    ∷ asks (precharge 6000 5700) (complete true)
-    ∷ asks (precharge 6000 5699) (complete false)
+    ∷ asks (precharge 95 6000 5700) (complete true)
+    ∷ asks (precharge 95 6000 5699) (complete false)
     ∷ []

@@ -26,12 +26,19 @@ returns-3 : tie.Need-returns-3
 unfolding stepOf
 returns-3 c = simp (← c .before .before .before .before .before .relays-fit .ensures, not-false (c .before .before .before .before .before .relays-fit .result) (c .before .before .before .before .if1 .left), ← c .before .before .before .commands-fit .ensures, not-false (c .before .before .before .commands-fit .result) (c .before .before .if2 .left), ← c .before .readings-fit .ensures, not-true (c .before .readings-fit .result) (c .if3 .taken))
 
-next-state-requires : tie.Need-next-state-requires
-next-state-requires c κs = search needs
+share-fits-requires : tie.Need-share-fits-requires
+share-fits-requires c κs = search needs
 
 returns-4 : tie.Need-returns-4
 unfolding stepOf
-returns-4 c = simp (← c .before .before .before .before .before .before .relays-fit .ensures, not-false (c .before .before .before .before .before .before .relays-fit .result) (c .before .before .before .before .before .if1 .left), ← c .before .before .before .before .commands-fit .ensures, not-false (c .before .before .before .before .commands-fit .result) (c .before .before .before .if2 .left), ← c .before .before .readings-fit .ensures, not-false (c .before .before .readings-fit .result) (c .before .if3 .left), c .next-state .ensures)
+returns-4 c = simp (← c .before .before .before .before .before .before .before .relays-fit .ensures, not-false (c .before .before .before .before .before .before .before .relays-fit .result) (c .before .before .before .before .before .before .if1 .left), ← c .before .before .before .before .before .commands-fit .ensures, not-false (c .before .before .before .before .before .commands-fit .result) (c .before .before .before .before .if2 .left), ← c .before .before .before .readings-fit .ensures, not-false (c .before .before .before .readings-fit .result) (c .before .before .if3 .left), ← c .before .share-fits .ensures, not-true (c .before .share-fits .result) (c .if4 .taken))
+
+next-state-requires : tie.Need-next-state-requires
+next-state-requires c κs = search needs
+
+returns-5 : tie.Need-returns-5
+unfolding stepOf
+returns-5 c = simp (← c .before .before .before .before .before .before .before .before .relays-fit .ensures, not-false (c .before .before .before .before .before .before .before .before .relays-fit .result) (c .before .before .before .before .before .before .before .if1 .left), ← c .before .before .before .before .before .before .commands-fit .ensures, not-false (c .before .before .before .before .before .before .commands-fit .result) (c .before .before .before .before .before .if2 .left), ← c .before .before .before .before .readings-fit .ensures, not-false (c .before .before .before .before .readings-fit .result) (c .before .before .before .if3 .left), ← c .before .before .share-fits .ensures, not-false (c .before .before .share-fits .result) (c .before .if4 .left), c .next-state .ensures)
 
 pub step-spec : {M : Type 1} → statement M
 step-spec =
@@ -43,5 +50,7 @@ step-spec =
     returns-2
     readings-fit-requires
     returns-3
+    share-fits-requires
+    returns-4
     next-state-requires
-    returns-4)
+    returns-5)

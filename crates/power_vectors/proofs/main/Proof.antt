@@ -7,7 +7,7 @@ use Rattle.power_vectors.proofs.main.Statement.{statement}
 use Rattle.power_vectors.proofs.main.Tie as tie
 
 abbrev Inv-loop : tie.InvT-loop
-Inv-loop line₀ lines₀ line lines = (length line ≡ 66) × (lines ≤ 1000000)
+Inv-loop line₀ lines₀ line lines = (length line ≡ 74) × (lines ≤ 1000000)
 
 abbrev μ-loop : tie.MeasureT-loop
 μ-loop line₀ lines₀ line lines = 1000000 - lines

@@ -1,8 +1,8 @@
--- `punnetcrest::powering::pc_power_step` meets its contract: a number that stands for a state takes the library's own step, any other is kept. Assumes nothing.
+-- `punnetcrest::powering::step_with` meets its contract: a number that stands for a state takes the library's own step, any other is kept. Assumes nothing.
 use Rattle.punnetcrest.proofs.PowerNumbers.{told, as-stepped}
 use borrow.Author.Needs.{needs}
-use Rattle.punnetcrest.proofs.powering.pc_power_step.Statement.{statement}
-use Rattle.punnetcrest.proofs.powering.pc_power_step.Tie as tie
+use Rattle.punnetcrest.proofs.powering.step_with.Statement.{statement}
+use Rattle.punnetcrest.proofs.powering.step_with.Tie as tie
 
 numbered-requires : tie.Need-numbered-requires
 numbered-requires c κs = search needs
@@ -27,13 +27,13 @@ enum-told c = search needs
 
 returns : tie.Need-returns
 returns c = simp (c .number-of .ensures, c .before .number .ensures)
-    (as-stepped _ _ (c .before .before .step .result) (c .before .before .before .before .before .before .before .numbered .ensures) (c .before .before .before .before .before .held .given .1) (c .before .before .before .observation-of .ensures) (c .before .before .step .ensures))
+    (as-stepped _ _ _ (c .before .before .step .result) (c .before .before .before .before .before .before .before .numbered .ensures) (c .before .before .before .before .before .held .given .1) (c .before .before .before .observation-of .ensures) (c .before .before .step .ensures))
 
 returns-2 : tie.Need-returns-2
-returns-2 c = told _ _ (c .before .before .numbered .ensures) (c .enum-told .given .1)
+returns-2 c = told _ _ _ (c .before .before .numbered .ensures) (c .enum-told .given .1)
 
-pub pc-power-step-spec : {M : Type 1} → statement M
-pc-power-step-spec =
+pub step-with-spec : {M : Type 1} → statement M
+step-with-spec =
     tie.close
     (tie.spec
     numbered-requires
