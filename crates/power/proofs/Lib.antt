@@ -1,6 +1,7 @@
 pub mod OneOutcome
 pub mod Numbers
 pub mod Ands
+pub mod PictureNumbers
 pub mod Answers
 pub mod Leading
 pub mod Urgent

@@ -4,6 +4,7 @@ pub mod Pictures
 pub mod States
 pub mod Rules
 pub mod Refusals
+pub mod PictureNumbers
 pub mod Precharges
 pub mod Before
 pub mod Sooner

@@ -1,7 +1,6 @@
-// What an observation shows: the relays' pictures, the commands, the current, and whether precharge is complete.
-use crate::CLOSED;
+// What an observation shows: the relays' pictures, the commands, the current, and whether precharge is complete. Who asks for a
+// picture has seen that each relay is open or closed: the three are then one number, so that a picture is one comparison.
 use crate::HIGHEST_READING;
-use crate::OPEN;
 use crate::Observation;
 use crate::Share;
 use crate::State;
@@ -9,8 +8,11 @@ use crate::shares::hundredths_of;
 use crate::shares::share_fits;
 use catalogue::Raw;
 ghost use mathlib.Core.Path.{_≡_};
-ghost use Rattle.power.specs.Observed.{shows, allOpen, urgent, prechargeComplete, under10A};
+ghost use mathlib.Core.Bool.{true};
+ghost use Rattle.power.specs.Observed.{allOpen, urgent, prechargeComplete, under10A};
 ghost use Rattle.power.specs.Pictures.{picture};
+ghost use Rattle.power.specs.Refusals.{relaysFit};
+ghost use Rattle.power.specs.PictureNumbers.{relaysNumber};
 
 // The mark invalid of both voltages.
 const INVALID: u32 = HIGHEST_READING;
@@ -43,30 +45,45 @@ pub fn is_urgent(seen: Observation) -> bool
     (seen.command.0 == 3) | (seen.emergency_off.0 == 1)
 }
 
-fn shows_relays(seen: Observation, negative: u32, precharge: u32, positive: u32) -> bool
-    ensures { λ r. ⌜ r ≡ shows negative precharge positive seen ⌝ }
+// The three relays as one number: main negative counts 4, precharge 2 and main positive 1, once where it is open and twice where
+// it is closed.
+fn relays_shown(seen: Observation) -> u32
+    requires { ⌜ relaysFit seen ≡ true ⌝ }
+    ensures { λ r. ⌜ r ≡ relaysNumber seen ⌝ }
 {
-    (seen.main_negative.0 == negative)
-        & (seen.precharge.0 == precharge)
-        & (seen.main_positive.0 == positive)
+    4 * seen.main_negative.0 + 2 * seen.precharge.0 + seen.main_positive.0
 }
 
+// Pictures by that number, in the order main negative, precharge, main positive: o open, c closed.
+const OOO: u32 = 7;
+
+const COO: u32 = 11;
+
+const COC: u32 = 12;
+
+const CCO: u32 = 13;
+
+const CCC: u32 = 14;
+
 pub fn all_open(seen: Observation) -> bool
+    requires { ⌜ relaysFit seen ≡ true ⌝ }
     ensures { λ r. ⌜ r ≡ allOpen seen ⌝ }
 {
-    shows_relays(seen, OPEN, OPEN, OPEN)
+    relays_shown(seen) == OOO
 }
 
 pub fn shows_picture(state: State, seen: Observation) -> bool
+    requires { ⌜ relaysFit seen ≡ true ⌝ }
     ensures { λ r. ⌜ r ≡ picture state seen ⌝ }
 {
+    let shown = relays_shown(seen);
     match state {
-        State::Off => shows_relays(seen, OPEN, OPEN, OPEN),
-        State::Rising => shows_relays(seen, CLOSED, OPEN, OPEN),
-        State::Precharge => shows_relays(seen, CLOSED, CLOSED, OPEN),
-        State::Both => shows_relays(seen, CLOSED, CLOSED, CLOSED),
-        State::On => shows_relays(seen, CLOSED, OPEN, CLOSED),
-        State::Falling => shows_relays(seen, CLOSED, OPEN, OPEN),
+        State::Off => shown == OOO,
+        State::Rising => shown == COO,
+        State::Precharge => shown == CCO,
+        State::Both => shown == CCC,
+        State::On => shown == COC,
+        State::Falling => shown == COO,
         State::Fault => false,
     }
 }

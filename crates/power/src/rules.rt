@@ -1,4 +1,4 @@
-// Document 01's rules 1 to 5: the state that follows an observation.
+// Document 01's rules 1 to 5: the state that follows an observation whose relays are each open or closed.
 use crate::Observation;
 use crate::State;
 use crate::observed::all_open;
@@ -7,15 +7,17 @@ use crate::observed::is_urgent;
 use crate::observed::precharge_complete;
 use crate::observed::shows_picture;
 ghost use mathlib.Core.Path.{_≡_};
-ghost use mathlib.Core.Bool.{cond, _&&_};
+ghost use mathlib.Core.Bool.{true, cond, _&&_};
 ghost use Rattle.power.specs.Observed.{allOpen, urgent};
 ghost use Rattle.power.specs.Pictures.{picture};
+ghost use Rattle.power.specs.Refusals.{relaysFit};
 ghost use Rattle.power.specs.Rules.{steps, firstStep, fromFault, nextState};
 ghost use Rattle.power.specs.declared.State.the-variants.{Off, Rising, Precharge, Both, On, Falling};
 
 // Rules 3 to 5, from each state but fault.
 
 fn from_off(seen: Observation) -> State
+    requires { ⌜ relaysFit seen ≡ true ⌝ }
     ensures { λ r. ⌜ r ≡ firstStep steps Off seen ⌝ }
 {
     if shows_picture(State::Rising, seen) & (seen.command.0 == 1) {
@@ -25,6 +27,7 @@ fn from_off(seen: Observation) -> State
 }
 
 fn from_rising(seen: Observation) -> State
+    requires { ⌜ relaysFit seen ≡ true ⌝ }
     ensures { λ r. ⌜ r ≡ firstStep steps Rising seen ⌝ }
 {
     if shows_picture(State::Precharge, seen) & (seen.command.0 == 1) {
@@ -37,6 +40,7 @@ fn from_rising(seen: Observation) -> State
 }
 
 fn from_precharge(seen: Observation) -> State
+    requires { ⌜ relaysFit seen ≡ true ⌝ }
     ensures { λ r. ⌜ r ≡ firstStep steps Precharge seen ⌝ }
 {
     let share = seen.share;
@@ -52,6 +56,7 @@ fn from_precharge(seen: Observation) -> State
 }
 
 fn from_both(seen: Observation) -> State
+    requires { ⌜ relaysFit seen ≡ true ⌝ }
     ensures { λ r. ⌜ r ≡ firstStep steps Both seen ⌝ }
 {
     if shows_picture(State::On, seen) {
@@ -61,6 +66,7 @@ fn from_both(seen: Observation) -> State
 }
 
 fn from_on(seen: Observation) -> State
+    requires { ⌜ relaysFit seen ≡ true ⌝ }
     ensures { λ r. ⌜ r ≡ firstStep steps On seen ⌝ }
 {
     let calm = is_under_10_amps(seen.current);
@@ -72,6 +78,7 @@ fn from_on(seen: Observation) -> State
 }
 
 fn from_falling(seen: Observation) -> State
+    requires { ⌜ relaysFit seen ≡ true ⌝ }
     ensures { λ r. ⌜ r ≡ firstStep steps Falling seen ⌝ }
 {
     if shows_picture(State::Off, seen) {
@@ -81,6 +88,7 @@ fn from_falling(seen: Observation) -> State
 }
 
 fn from_fault(seen: Observation) -> State
+    requires { ⌜ relaysFit seen ≡ true ⌝ }
     ensures { λ r. ⌜ r ≡ fromFault seen ⌝ }
 {
     let left = (seen.command.0 == 0) | (seen.command.0 == 2);
@@ -92,6 +100,7 @@ fn from_fault(seen: Observation) -> State
 
 // Rules 1 and 2, and else where rules 3 to 5 lead.
 fn by_rules(state: State, seen: Observation, stepped: State) -> State
+    requires { ⌜ relaysFit seen ≡ true ⌝ }
     ensures { λ r. ⌜ r ≡ cond (picture state seen) state (cond (urgent seen && allOpen seen) Off stepped) ⌝ }
 {
     if shows_picture(state, seen) {
@@ -105,6 +114,7 @@ fn by_rules(state: State, seen: Observation, stepped: State) -> State
 }
 
 pub fn next_state(state: State, seen: Observation) -> State
+    requires { ⌜ relaysFit seen ≡ true ⌝ }
     ensures { λ r. ⌜ r ≡ nextState state seen ⌝ }
 {
     match state {

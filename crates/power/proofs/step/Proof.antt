@@ -34,7 +34,7 @@ unfolding stepOf
 returns-4 c = simp (← c .before .before .before .before .before .before .before .relays-fit .ensures, not-false (c .before .before .before .before .before .before .before .relays-fit .result) (c .before .before .before .before .before .before .if1 .left), ← c .before .before .before .before .before .commands-fit .ensures, not-false (c .before .before .before .before .before .commands-fit .result) (c .before .before .before .before .if2 .left), ← c .before .before .before .readings-fit .ensures, not-false (c .before .before .before .readings-fit .result) (c .before .before .if3 .left), ← c .before .share-fits .ensures, not-true (c .before .share-fits .result) (c .if4 .taken))
 
 next-state-requires : tie.Need-next-state-requires
-next-state-requires c κs = search needs
+next-state-requires c κs = simp (← c .before .before .before .before .before .before .before .relays-fit .ensures) (not-false (c .before .before .before .before .before .before .before .relays-fit .result) (c .before .before .before .before .before .before .if1 .left))
 
 returns-5 : tie.Need-returns-5
 unfolding stepOf
