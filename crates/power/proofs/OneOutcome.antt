@@ -15,10 +15,12 @@ use Rattle.catalogue.specs.declared.Raw.{Raw}
 use Rattle.power.specs.declared.State.{State}
 use Rattle.power.specs.declared.Observation.{Observation}
 use Rattle.power.specs.declared.Share.{Share}
+use Rattle.power.specs.Shares.{hundredths}
 use Rattle.power.specs.Observed.{prechargeComplete}
 use Rattle.power.specs.States.{stateNumber, stateNumbered}
 use Rattle.power.specs.Rules.{startsAs}
 use Rattle.power.specs.Refusals.{stepOf}
+use Rattle.power.proofs.Share.hundredths as hundredths-fn
 use Rattle.power.proofs.State as State-row
 use Rattle.power.proofs.Stepped as Stepped
 use Rattle.power.proofs.StateOrNone as StateOrNone
@@ -29,6 +31,9 @@ use Rattle.power.proofs.observed.precharge_complete as precharge-comple
 use Rattle.power.proofs.step as step
 
 module _ {M : Type 1} (𝓤 : URA M) (H : Heap 𝓤) (A : Atoms 𝓤) (mem : Memory → SProp 𝓤) (run : Routine → Fun 𝓤) where
+  pub one-hundredths : (share : Share) (e : AtExit hundredths-fn.ended tt) → Only 𝓤 (λ r. hundredths-fn.clauses 𝓤 H A mem run tt (share, tt) .ensures tt r e)
+  one-hundredths share e = only-this 𝓤 _ codedℕ (hundredths share) (λ r. refl)
+
   pub one-start : (e : AtExit start.ended tt) → Only 𝓤 (λ r. start.clauses 𝓤 H A mem run tt tt .ensures tt r e)
   one-start e = only-this 𝓤 _ (State-row.the-row .coded) startsAs (λ r. refl)
 

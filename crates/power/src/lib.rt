@@ -13,6 +13,7 @@ pub use observed::precharge_complete;
 use rules::next_state;
 use shares::share_fits;
 ghost use mathlib.Core.Path.{_≡_};
+ghost use Rattle.power.specs.Shares.{hundredths};
 ghost use Rattle.power.specs.States.{stateNumber, stateNumbered};
 ghost use Rattle.power.specs.Rules.{startsAs};
 ghost use Rattle.power.specs.Refusals.{openOrClosed, relaysFit, commandsFit, readingsFit, stepOf};
@@ -86,6 +87,21 @@ const HIGHEST_COMMAND: u32 = 3;
 
 // The highest current and voltage: all 16 bits set.
 const HIGHEST_READING: u32 = 65535;
+
+// The share where none is given.
+const SHARE_WHERE_NONE: u32 = 90;
+
+impl Share {
+    // How many hundredths are asked for.
+    pub fn hundredths(self) -> u32
+        ensures { λ r. ⌜ r ≡ hundredths self ⌝ }
+    {
+        match self {
+            Share::Named(named) => named,
+            Share::NoneGiven => SHARE_WHERE_NONE,
+        }
+    }
+}
 
 impl State {
     // The state that a monitor starts in.

@@ -4,7 +4,6 @@ use crate::HIGHEST_READING;
 use crate::Observation;
 use crate::Share;
 use crate::State;
-use crate::shares::hundredths_of;
 use crate::shares::share_fits;
 use catalogue::Raw;
 ghost use mathlib.Core.Path.{_≡_};
@@ -28,7 +27,7 @@ pub fn precharge_complete(inside: Raw, outside: Raw, share: Share) -> bool
     ensures { λ r. ⌜ r ≡ prechargeComplete inside outside share ⌝ }
 {
     let fits = share_fits(share);
-    let needed = wide(hundredths_of(share)) * wide(inside.0);
+    let needed = wide(share.hundredths()) * wide(inside.0);
     let there = 100 * wide(outside.0);
     fits & (inside.0 < INVALID) & (outside.0 < INVALID) & (0 < inside.0) & (needed <= there)
 }

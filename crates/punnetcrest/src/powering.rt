@@ -55,14 +55,15 @@ fn number_of(answer: power::PowerAnswer) -> u32
     }
 }
 
-// One observation, with the share that comes with it.
-fn step_with(state: &mut u32, seen: &[u32; SEEN_WORDS], share: power::Share) -> u32
-    ensures { λ r. ⌜ (r, now (state .exit)) ≡ stepped (now (state .entry)) (now (seen .entry)) share ⌝ }
+// One observation, and the share that the caller names.
+#[no_mangle]
+pub extern "C" fn pc_power_step_by(state: &mut u32, seen: &[u32; SEEN_WORDS], share: u32) -> u32
+    ensures { λ r. ⌜ (r, now (state .exit)) ≡ stepped (now (state .entry)) (now (seen .entry)) (Named share) ⌝ }
 {
     let held = power::State::numbered(*state);
     match held {
         power::StateOrNone::State(from) => {
-            let next = power::step(from, observation_of(seen, share));
+            let next = power::step(from, observation_of(seen, power::Share::Named(share)));
             let after = next.state;
             let answer = next.answer;
             *state = after.number();
@@ -77,13 +78,6 @@ fn step_with(state: &mut u32, seen: &[u32; SEEN_WORDS], share: power::Share) -> 
 pub extern "C" fn pc_power_step(state: &mut u32, seen: &[u32; SEEN_WORDS]) -> u32
     ensures { λ r. ⌜ (r, now (state .exit)) ≡ stepped (now (state .entry)) (now (seen .entry)) NoneGiven ⌝ }
 {
-    step_with(state, seen, power::Share::NoneGiven)
-}
-
-// One observation, and the share that the caller names.
-#[no_mangle]
-pub extern "C" fn pc_power_step_by(state: &mut u32, seen: &[u32; SEEN_WORDS], share: u32) -> u32
-    ensures { λ r. ⌜ (r, now (state .exit)) ≡ stepped (now (state .entry)) (now (seen .entry)) (Named share) ⌝ }
-{
-    step_with(state, seen, power::Share::Named(share))
+    let share = power::Share::NoneGiven;
+    pc_power_step_by(state, seen, share.hundredths())
 }

@@ -1,8 +1,8 @@
--- `punnetcrest::powering::step_with` meets its contract: a number that stands for a state takes the library's own step, any other is kept. Assumes nothing.
+-- `punnetcrest::powering::pc_power_step_by` meets its contract: a number that stands for a state takes the library's own step, any other is kept. Assumes nothing.
 use Rattle.punnetcrest.proofs.PowerNumbers.{told, as-stepped}
 use borrow.Author.Needs.{needs}
-use Rattle.punnetcrest.proofs.powering.step_with.Statement.{statement}
-use Rattle.punnetcrest.proofs.powering.step_with.Tie as tie
+use Rattle.punnetcrest.proofs.powering.pc_power_step_by.Statement.{statement}
+use Rattle.punnetcrest.proofs.powering.pc_power_step_by.Tie as tie
 
 numbered-requires : tie.Need-numbered-requires
 numbered-requires c κs = search needs
@@ -32,8 +32,8 @@ returns c = simp (c .number-of .ensures, c .before .number .ensures)
 returns-2 : tie.Need-returns-2
 returns-2 c = told _ _ _ (c .before .before .numbered .ensures) (c .enum-told .given .1)
 
-pub step-with-spec : {M : Type 1} → statement M
-step-with-spec =
+pub pc-power-step-by-spec : {M : Type 1} → statement M
+pc-power-step-by-spec =
     tie.close
     (tie.spec
     numbered-requires
