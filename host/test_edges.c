@@ -41,7 +41,7 @@ static const struct {
     [FAULT_AGREEMENT] = { "1901 beside the highest level", 3 },
     [POWER_RULES] = { "state, relays, command and 1604", 7 * 8 * 4 * 4 },
     [POWER_VOLTAGES] = { "precharge: voltages 0, highest and invalid", 8 },
-    [POWER_HUNDREDTHS] = { "precharge: 100 x outside by share x inside", 201 },
+    [POWER_HUNDREDTHS] = { "precharge: 100 x outside by share x inside", 21 },
     [POWER_NONE] = { "precharge: the same, no share given", 21 },
     [POWER_SHARES] = { "precharge: each share just missed, just met", 51 * 2 },
     [POWER_CURRENTS] = { "on: current around 10 A either way", 6 },

@@ -74,7 +74,16 @@ static void any_voltages(uint32_t *inside, uint32_t *outside, uint32_t share) {
     static const uint32_t ends[5] = { 0, 1, 65533, 65534, INVALID }, around[4] = { 0, 1, 19, 20 };
     uint32_t twentieth = 20 * below(3276);
     *inside = once_in(4) ? ends[below(5)] : once_in(2) ? twentieth + around[below(4)] : below(65535);
-    *outside = once_in(8) ? ends[below(5)] : once_in(8) ? below(65536) : *inside * share / 100 + below(4) - (*inside > 1);
+    *outside = once_in(8) ? ends[below(5)] : once_in(8) ? below(65536) : *inside * share / 100 + below(3) - (*inside > 1);
+}
+
+/* Moves the voltage inside up until some voltage outside has a chosen distance of at most 10 from share x inside, in hundredths, where
+   there is one: a share that is even, or a multiple of 5, does not have all of them. */
+static void near_share(uint32_t *inside, uint32_t *outside, uint32_t share) {
+    uint32_t over = below(21);
+    for (int tries = 0; tries < 100 && (*inside * share + over) % 100 != 10; tries++)
+        ++*inside;
+    *outside = (*inside * share + over - 10) / 100;
 }
 
 /* Inputs that are allowed, with this share: one time in four those of each step that turns on a figure. */
@@ -90,6 +99,8 @@ static void any_inputs(uint32_t inputs[INPUTS], uint32_t share) {
     inputs[EMERGENCY_OFF] = step < 2 && !once_in(4) ? 0 : below(4);
     inputs[CURRENT] = once_in(2) ? currents[below(6)] : once_in(2) ? 19700 + below(600) : below(65536);
     any_voltages(&inputs[INSIDE], &inputs[OUTSIDE], share);
+    if (once_in(4))
+        near_share(&inputs[INSIDE], &inputs[OUTSIDE], share);
     inputs[SHARE] = share;
 }
 
@@ -103,14 +114,14 @@ static void meet_voltages(uint32_t inside, uint32_t outside, uint32_t share, int
         outside == INVALID && inside > 0 && inside != INVALID,
     };
     meet_each(POWER_VOLTAGES, ends, 8);
-    if (!valid || inside == 0 || over < -100 || over > 100)
+    if (!valid || inside == 0)
         return;
-    if (!named)
-        meet(POWER_NONE, (uint32_t)(over + 100) / 10);
-    else
-        meet(POWER_HUNDREDTHS, (uint32_t)(over + 100));
-    if (named && over < 100)
+    if (named && over >= -10 && over <= 10)
+        meet(POWER_HUNDREDTHS, (uint32_t)(over + 10));
+    if (named && over >= -100 && over < 100)
         meet(POWER_SHARES, 2 * (share - 50) + (over >= 0));
+    if (!named && over >= -100 && over <= 100)
+        meet(POWER_NONE, (uint32_t)(over + 100) / 10);
 }
 
 /* Every input is allowed. */
