@@ -176,20 +176,20 @@ static uint32_t call_fault_sum(uint32_t turn) {
 }
 
 /* Up and down again, with each picture seen twice. */
-static const uint8_t walk[7][4] = { { 1, 1, 1, 1 }, { 2, 1, 1, 1 }, { 2, 2, 1, 1 }, { 2, 2, 2, 1 }, { 2, 1, 2, 1 }, { 2, 1, 1, 2 }, { 1, 1, 1, 2 } };
+static const uint32_t *power_seen(uint32_t turn) {
+    static const uint32_t walk[7][4] = { { 1, 1, 1, 1 }, { 2, 1, 1, 1 }, { 2, 2, 1, 1 }, { 2, 2, 2, 1 }, { 2, 1, 2, 1 }, { 2, 1, 1, 2 }, { 1, 1, 1, 2 } };
+    static uint32_t seen[PC_POWER_WORDS] = { 0, 0, 0, 0, 0, 20000, 6000, 5900 };
+    return memcpy(seen, walk[turn / 2 % 7], sizeof walk[0]);
+}
 
 static uint32_t call_power_step(uint32_t turn) {
     static uint32_t state;
-    const uint8_t *now = walk[turn / 2 % 7];
-    const uint32_t seen[PC_POWER_WORDS] = { now[0], now[1], now[2], now[3], 0, 20000, 6000, 5900 };
-    return face->power_step(&state, seen);
+    return face->power_step(&state, power_seen(turn));
 }
 
 static uint32_t call_power_step_by(uint32_t turn) {
     static uint32_t state;
-    const uint8_t *now = walk[turn / 2 % 7];
-    const uint32_t seen[PC_POWER_WORDS] = { now[0], now[1], now[2], now[3], 0, 20000, 6000, 5900 };
-    return face->power_step_by(&state, seen, 95);
+    return face->power_step_by(&state, power_seen(turn), 95);
 }
 
 /* Ten seconds of calls with wake off, one with wake on. */

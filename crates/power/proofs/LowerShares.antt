@@ -7,7 +7,6 @@ use native.Mathlib.Omega.{arith}
 use borrow.Author.Tests.{leb-true}
 use lib.Dec.{leb}
 use Rattle.power.specs.declared.Observation.{Observation}
-use Rattle.power.specs.declared.PowerAnswer.the-variants.{Taken}
 use Rattle.power.specs.declared.Share.{Share}
 use Rattle.power.specs.declared.State.{State}
 use Rattle.power.specs.declared.State.the-variants.{Off, Rising, Precharge, Both, On, Falling, Fault}
@@ -15,7 +14,7 @@ use Rattle.power.specs.Shares.{hundredths, shareFits, seenWith}
 use Rattle.power.specs.Observed.{shows, allOpen, commanded, urgent, prechargeComplete}
 use Rattle.power.specs.Pictures.{picture}
 use Rattle.power.specs.Rules.{rule3, rule4, stepElse, nextState}
-use Rattle.power.specs.Refusals.{relaysFit, commandsFit, readingsFit, stateAndAnswer, steppedIfFit, stepOf}
+use Rattle.power.specs.Refusals.{relaysFit, commandsFit, readingsFit, stepOf}
 use Rattle.power.specs.Sooner.{Sooner}
 use Rattle.power.proofs.Ands.{left}
 use Rattle.power.proofs.AnyOrder.{second-relay}
