@@ -44,6 +44,7 @@ static const struct {
     [POWER_HUNDREDTHS] = { "precharge: 100 x outside by share x inside", 21 },
     [POWER_NONE] = { "precharge: the same, no share given", 21 },
     [POWER_SHARES] = { "precharge: each share just missed, just met", 51 * 2 },
+    [POWER_WRONG_SHARES] = { "shares that are none", 10 },
     [POWER_CURRENTS] = { "on: current around 10 A either way", 6 },
     [POWER_LIMITS] = { "each number of a power step at its limit", 10 * 4 },
     [POWER_ORDER] = { "two refusals of a power step at once", 10 },

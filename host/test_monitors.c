@@ -68,8 +68,13 @@ static const uint32_t currents[6] = { 0, 19900, 19901, 20099, 20100, 65535 };
 /* The share of a call that names none. */
 enum { NONE_NAMED = 90 };
 
-/* A voltage inside, more often an end of the range or beside a multiple of 20, where 95 x inside is a whole hundred; and one
-   outside that mostly just completes the precharge with this share or just not. */
+/* Shares that are none: beside the limits, and 90 with a bit too many, which a number of 8, 16, 24 or 31 bits would lose. */
+enum { WRONG_SHARES = 10 };
+
+static const uint32_t wrong_shares[WRONG_SHARES] = { 0, 1, 49, 101, 255, 256 + 90, 65536 + 90, 0x1000000u + 90, 0x80000000u + 90, 0xFFFFFFFFu };
+
+/* A voltage inside, more often an end of the range or beside a multiple of 20, where a share that is a multiple of 5 makes a whole
+   hundred; and one outside that mostly just completes the precharge with this share or just not. */
 static void any_voltages(uint32_t *inside, uint32_t *outside, uint32_t share) {
     static const uint32_t ends[5] = { 0, 1, 65533, 65534, INVALID }, around[4] = { 0, 1, 19, 20 };
     uint32_t twentieth = 20 * below(3276);
@@ -148,6 +153,8 @@ static void meet_inputs(const uint32_t inputs[INPUTS], int named) {
         if (at < 4 && wrong == (allowed(i, inputs[i]) ? 0 : 1))
             meet(POWER_LIMITS, 4 * i + at);
     }
+    if (wrong == 1 && refused[KINDS - 1] && place_in(wrong_shares, WRONG_SHARES, inputs[SHARE]) < WRONG_SHARES)
+        meet(POWER_WRONG_SHARES, place_in(wrong_shares, WRONG_SHARES, inputs[SHARE]));
     for (uint32_t late = 1; late < KINDS; late++)
         for (uint32_t early = 0; early < late; early++)
             if (refused[early] && refused[late])
@@ -162,7 +169,7 @@ void try_power_step(void) {
     any_inputs(inputs, named ? share : NONE_NAMED);
     for (uint32_t times = !once_in(8) ? 0 : once_in(4) ? 2 : 1; times > 0; times--) {
         uint32_t i = below(named ? INPUTS : SHARE);
-        inputs[i] = once_in(2) ? limits[i].around[below(4)] : any_number();
+        inputs[i] = once_in(2) ? limits[i].around[below(4)] : i == SHARE ? wrong_shares[below(WRONG_SHARES)] : any_number();
     }
     begin_case(named ? POWER_STEP_BY : POWER_STEP);
     struct lent *seen = lend("seen", &inputs[NEGATIVE], 4 * PC_POWER_WORDS), *state = lend("state", &inputs[STATE], 4);

@@ -2,7 +2,9 @@
 """Holds the papers against the tree: every definition, theorem, function and must-fail edit that they name is there, every link
 leads somewhere, and docs/PROMISES.md names every must-fail edit. What it lists as the working side is just what no promise rests on:
 the files of specs/ that no definition named there uses, however far down. And each public function has its law of one outcome, but
-for the parts of programs that it names; no entry point has a `requires`, and every call of C is one. Of each product the header, CHANGELOG.md and its paper name one version. The text that an edit changes is there.
+for the parts of programs that it names; no entry point has a `requires`, and every call of C is one. Of each product the header, CHANGELOG.md
+and its paper name one version, and CMake is asked for it. The text that an edit changes is there. A rule as it was before a change
+request is used by no file but those that define and compare it.
 
 A reference is in backquotes: `crate: File name, name` (specs/ or proofs/), `crate: function()` (src/), `crate/edit` (must-fail/)."""
 
@@ -116,6 +118,13 @@ def lost_edits():
             yield f"{edit.relative_to(ROOT)}: its first old: does not stand just once in {file}"
 
 
+def resting_on_before():
+    """The files that use a rule as it was before a change request, ..BeforeP and its number, and are none that define or compare it."""
+    for path in sorted(path for kind in ("antt", "rt") for path in (ROOT / "crates").rglob(f"*.{kind}")):
+        if "Before" not in path.name and (found := re.search(r"\w+BeforeP\d+", path.read_text())):
+            yield f"{path.relative_to(ROOT)}: it rests on {found[0]}, which stands for a comparison alone"
+
+
 VERSIONS = {
     "library": {"include/punnetcrest.h": r'#define PC_VERSION "(.+)"', "CHANGELOG.md": r"(?m)^## (\d\S*)", "README.md": r"This is version (\S+)"},
     "tester": {"include/punnetcrest_tester.h": r'#define PCT_VERSION "(.+)"', "CHANGELOG.md": r"(?m)^### The tester (\d\S*)", "docs/TESTER.md": r"This is version (\S+)"},
@@ -128,6 +137,9 @@ def versions():
         found = {file: match[1] if (match := re.search(pattern, (ROOT / file).read_text())) else "none" for file, pattern in named.items()}
         if len(set(found.values())) > 1:
             yield f"versions of the {product}: {found}"
+    asked = re.search(r"find_package\(punnetcrest (\d+\.\d+) ", (ROOT / "docs/EMBEDDING.md").read_text())
+    if not asked or not re.search(rf'#define PC_VERSION "{re.escape(asked[1])}\.', (ROOT / "include/punnetcrest.h").read_text()):
+        yield f"docs/EMBEDDING.md: find_package asks for {asked[1] if asked else 'no version'}"
 
 
 def main():
@@ -141,7 +153,7 @@ def main():
     for edit in sorted(ROOT.glob("crates/*/must-fail/*.edit")):
         if f"`{edit.parts[-3]}/{edit.stem}`" not in promises:
             faults.append(f"docs/PROMISES.md: {edit.parts[-3]}/{edit.stem} is not named")
-    faults += [*working_side(promises), *without_law(promises), *asking(promises), *lost_edits(), *versions()]
+    faults += [*working_side(promises), *without_law(promises), *asking(promises), *lost_edits(), *resting_on_before(), *versions()]
     print("\n".join(faults) if faults else "papers: all that they name is there")
     sys.exit(bool(faults))
 

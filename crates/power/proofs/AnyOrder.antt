@@ -24,13 +24,13 @@ either-first false false x y z never = refl
 
 module _ (seen : Observation) where
   -- what an observation that shows three relays has in the first two
-  first-relay : (n p m : ℕ) → shows n p m seen ≡ true → seen .«main_negative» .0 ≡ n
+  pub first-relay : (n p m : ℕ) → shows n p m seen ≡ true → seen .«main_negative» .0 ≡ n
   first-relay n p m e = eqb-true (seen .«main_negative» .0) n (left (eqb (seen .«main_negative» .0) n) (eqb (seen .precharge .0) p) (left (eqb (seen .«main_negative» .0) n && eqb (seen .precharge .0) p) (eqb (seen .«main_positive» .0) m) e))
 
   pub second-relay : (n p m : ℕ) → shows n p m seen ≡ true → seen .precharge .0 ≡ p
   second-relay n p m e = eqb-true (seen .precharge .0) p (right (eqb (seen .«main_negative» .0) n) (eqb (seen .precharge .0) p) (left (eqb (seen .«main_negative» .0) n && eqb (seen .precharge .0) p) (eqb (seen .«main_positive» .0) m) e))
 
-  third-relay : (n p m : ℕ) → shows n p m seen ≡ true → seen .«main_positive» .0 ≡ m
+  pub third-relay : (n p m : ℕ) → shows n p m seen ≡ true → seen .«main_positive» .0 ≡ m
   third-relay n p m e = eqb-true (seen .«main_positive» .0) m (right (eqb (seen .«main_negative» .0) n && eqb (seen .precharge .0) p) (eqb (seen .«main_positive» .0) m) e)
 
   up : Bool

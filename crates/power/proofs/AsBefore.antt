@@ -1,6 +1,8 @@
--- "With 95 named, every answer is the one given before": so is every state, for every state and observation. Assumes nothing.
+-- "With 95 named, every answer is the one given before": that on two voltages, and the step's with its state, for every state and
+-- observation. Assumes nothing.
 use mathlib.Core.Path.{_≡_, refl}
 use mathlib.Core.Bool.{Bool, true, false, cond}
+use Rattle.catalogue.specs.declared.Raw.{Raw}
 use Rattle.power.specs.declared.Observation.{Observation}
 use Rattle.power.specs.declared.PowerAnswer.the-variants.{Taken, NeitherOpenNorClosed, CommandTooHigh, ReadingTooHigh}
 use Rattle.power.specs.declared.Share.the-variants.{Named}
@@ -11,11 +13,15 @@ use Rattle.power.specs.Observed.{prechargeComplete}
 use Rattle.power.specs.Pictures.{picture}
 use Rattle.power.specs.Rules.{rule3, rule4, stepElse, nextState}
 use Rattle.power.specs.Refusals.{relaysFit, commandsFit, readingsFit, stateAndAnswer, steppedIfFit, stepOf}
-use Rattle.power.specs.Before.{rule3BeforeP6, nextStateBeforeP6, stepBeforeP6}
+use Rattle.power.specs.Before.{completeBeforeP6, rule3BeforeP6, nextStateBeforeP6, stepBeforeP6}
+
+pub complete-as-before : (inside outside : Raw) → prechargeComplete inside outside (Named 95) ≡ completeBeforeP6 inside outside
+unfolding prechargeComplete completeBeforeP6
+complete-as-before inside outside = refl
 
 module _ (seen : Observation) where
   next-as-before : (state : State) → nextState state (seenWith (Named 95) seen) ≡ nextStateBeforeP6 state seen
-  unfolding nextState nextStateBeforeP6 stepElse rule3 rule3BeforeP6 rule4 picture prechargeComplete
+  unfolding nextState nextStateBeforeP6 stepElse rule3 rule3BeforeP6 rule4 picture prechargeComplete completeBeforeP6
   next-as-before Off = refl
   next-as-before Rising = refl
   next-as-before Precharge = refl

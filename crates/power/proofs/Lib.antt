@@ -7,6 +7,7 @@ pub mod Leading
 pub mod Urgent
 pub mod AnyOrder
 pub mod Shared
+pub mod Closing
 pub mod LowerShares
 pub mod AsBefore
 pub mod Readings

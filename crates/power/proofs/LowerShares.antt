@@ -3,7 +3,6 @@ use mathlib.Core.Path.{_≡_, refl}
 use mathlib.Core.Bool.{Bool, true, false, cond, _&&_, _||_}
 use mathlib.Core.Logic.{_⊎_, inl, inr}
 use Prim.Native.Nat.{_≤_}
-use native.Mathlib.Omega.{arith}
 use borrow.Author.Tests.{leb-true}
 use lib.Dec.{leb}
 use Rattle.power.specs.declared.Observation.{Observation}
@@ -17,7 +16,7 @@ use Rattle.power.specs.Rules.{rule3, rule4, stepElse, nextState}
 use Rattle.power.specs.Refusals.{relaysFit, commandsFit, readingsFit, stepOf}
 use Rattle.power.specs.Sooner.{Sooner}
 use Rattle.power.proofs.Ands.{left}
-use Rattle.power.proofs.AnyOrder.{second-relay}
+use Rattle.power.proofs.Closing.{not-falling}
 use Rattle.power.proofs.Shared.{less-is-complete}
 
 module _ (seen : Observation) (a b : Share) where
@@ -33,14 +32,6 @@ module _ (seen : Observation) (a b : Share) where
     met : complete b ≡ true
     by-the-higher : higher ≡ Fault
     by-the-lower : lower ≡ Both
-
-  -- closing main positive: the pictures of both and of falling never show at once
-  not-falling : (down : Bool) → shows 2 2 2 seen ≡ true → shows 2 1 1 seen && down ≡ false
-  not-falling down e = go (shows 2 1 1 seen) refl
-    where
-      go : (p : Bool) → shows 2 1 1 seen ≡ p → p && down ≡ false
-      go true f = absurd (omega (arith, second-relay seen 2 2 2 e, second-relay seen 2 1 1 f))
-      go false f = refl
 
   module _ (fits : shareFits b ≡ true) (less : hundredths b ≤ hundredths a) where
     from-precharge : (nextState Precharge (seenWith b seen) ≡ nextState Precharge (seenWith a seen)) ⊎ BothForFault Precharge (nextState Precharge (seenWith a seen)) (nextState Precharge (seenWith b seen))
@@ -63,7 +54,7 @@ module _ (seen : Observation) (a b : Share) where
         go false false true false high low c u x y h = inl refl
         go false false true true true low c u x y h = rw (h refl) (inl refl)
         go false false true true false true c u x y h =
-            inr (record { from = refl; closing = c; up = u; missed = x; met = y; by-the-higher = simp (not-falling (commanded 2 seen || urgent seen) c); by-the-lower = refl })
+            inr (record { from = refl; closing = c; up = u; missed = x; met = y; by-the-higher = simp (not-falling seen c); by-the-lower = refl })
         go false false true true false false c u x y h = inl refl
 
     next-state : (state : State) → (nextState state (seenWith b seen) ≡ nextState state (seenWith a seen)) ⊎ BothForFault state (nextState state (seenWith a seen)) (nextState state (seenWith b seen))

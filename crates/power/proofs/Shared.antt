@@ -21,28 +21,28 @@ use Rattle.power.proofs.Ands.{left, right}
 pub less-is-complete : (inside outside : Raw) (a b : Share) → 50 ≤ hundredths b → hundredths b ≤ hundredths a → prechargeComplete inside outside a ≡ true → prechargeComplete inside outside b ≡ true
 unfolding prechargeComplete
 less-is-complete inside outside a b low less e =
-    simp (le-leb 50 (hundredths b) low, le-leb (hundredths b) 100 (le-trans less few), right fits voltages first, right (fits && voltages) (valid outside) second, right (fits && voltages && valid outside) (ltb 0 (inside .0)) third, le-leb (hundredths b * inside .0) (100 * outside .0) (le-trans (mul-le-mul-right (inside .0) less) enough))
+    simp (le-leb 50 (hundredths b) low, le-leb (hundredths b) 100 (le-trans less few), right fits inside-valid first, right (fits && inside-valid) (valid outside) second, right (fits && inside-valid && valid outside) (ltb 0 (inside .0)) third, le-leb (hundredths b * inside .0) (100 * outside .0) (le-trans (mul-le-mul-right (inside .0) less) enough))
   where
     fits : Bool
     fits = shareFits a
 
-    voltages : Bool
-    voltages = valid inside
+    inside-valid : Bool
+    inside-valid = valid inside
 
-    third : fits && voltages && valid outside && ltb 0 (inside .0) ≡ true
-    third = left (fits && voltages && valid outside && ltb 0 (inside .0)) (leb (hundredths a * inside .0) (100 * outside .0)) e
+    third : fits && inside-valid && valid outside && ltb 0 (inside .0) ≡ true
+    third = left (fits && inside-valid && valid outside && ltb 0 (inside .0)) (leb (hundredths a * inside .0) (100 * outside .0)) e
 
-    second : fits && voltages && valid outside ≡ true
-    second = left (fits && voltages && valid outside) (ltb 0 (inside .0)) third
+    second : fits && inside-valid && valid outside ≡ true
+    second = left (fits && inside-valid && valid outside) (ltb 0 (inside .0)) third
 
-    first : fits && voltages ≡ true
-    first = left (fits && voltages) (valid outside) second
+    first : fits && inside-valid ≡ true
+    first = left (fits && inside-valid) (valid outside) second
 
     few : hundredths a ≤ 100
-    few = leb-true (hundredths a) 100 (right (leb 50 (hundredths a)) (leb (hundredths a) 100) (left fits voltages first))
+    few = leb-true (hundredths a) 100 (right (leb 50 (hundredths a)) (leb (hundredths a) 100) (left fits inside-valid first))
 
     enough : hundredths a * inside .0 ≤ 100 * outside .0
-    enough = leb-true (hundredths a * inside .0) (100 * outside .0) (right (fits && voltages && valid outside && ltb 0 (inside .0)) (leb (hundredths a * inside .0) (100 * outside .0)) e)
+    enough = leb-true (hundredths a * inside .0) (100 * outside .0) (right (fits && inside-valid && valid outside && ltb 0 (inside .0)) (leb (hundredths a * inside .0) (100 * outside .0)) e)
 
 pub complete-by-90 : (inside outside : Raw) → prechargeComplete inside outside NoneGiven ≡ prechargeComplete inside outside (Named 90)
 unfolding prechargeComplete

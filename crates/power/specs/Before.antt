@@ -4,6 +4,7 @@ use Prim.Native.Nat.{_*_}
 use mathlib.Core.Bool.{Bool, true, cond, _&&_}
 use mathlib.Core.List.{List, [], _∷_, _++_}
 use lib.Dec.{leb, ltb}
+use Rattle.catalogue.specs.declared.Raw.{Raw}
 use Rattle.power.specs.declared.Observation.{Observation}
 use Rattle.power.specs.declared.State.{State}
 use Rattle.power.specs.declared.State.the-variants.{Off, Rising, Precharge, Both, On, Falling, Fault}
@@ -15,15 +16,15 @@ use Rattle.power.specs.Rules.{PowerStep, fromTo, rule4, firstStep, fromF
 use Rattle.power.specs.Refusals.{relaysFit, commandsFit, readingsFit, stateAndAnswer}
 
 -- "Precharge complete: both voltages valid, inside above 0, and 100 x outside >= 95 x inside (house figure)"
-abbrev pub completeBeforeP6 : Observation → Bool
-completeBeforeP6 seen = valid (seen .inside) && valid (seen .outside) && ltb 0 (seen .inside .0) && leb (95 * seen .inside .0) (100 * seen .outside .0)
+unfoldable pub completeBeforeP6 : Raw → Raw → Bool
+completeBeforeP6 inside outside = valid inside && valid outside && ltb 0 (inside .0) && leb (95 * inside .0) (100 * outside .0)
 
 -- 3. "off to rising, rising to precharge: command 1; precharge to both: command 1 and precharge complete; both to on; falling to off"
 unfoldable pub rule3BeforeP6 : List PowerStep
 rule3BeforeP6 =
     fromTo Off Rising (commanded 1)
     ∷ fromTo Rising Precharge (commanded 1)
-    ∷ fromTo Precharge Both (λ seen. commanded 1 seen && completeBeforeP6 seen)
+    ∷ fromTo Precharge Both (λ seen. commanded 1 seen && completeBeforeP6 (seen .inside) (seen .outside))
     ∷ fromTo Both On (λ seen. true)
     ∷ fromTo Falling Off (λ seen. true)
     ∷ []

@@ -41,9 +41,9 @@ stateAndAnswer state answer = record { state = state; answer = answer }
 
 -- by whether the relays, the commands, the readings and the share fit: the first that doesn't is the refusal, with the "state kept"
 abbrev pub steppedIfFit : Bool → Bool → Bool → Bool → State → State → Stepped
-steppedIfFit false commands readings share kept next = stateAndAnswer kept NeitherOpenNorClosed
-steppedIfFit true false readings share kept next = stateAndAnswer kept CommandTooHigh
-steppedIfFit true true false share kept next = stateAndAnswer kept ReadingTooHigh
+steppedIfFit false commands readings fitting kept next = stateAndAnswer kept NeitherOpenNorClosed
+steppedIfFit true false readings fitting kept next = stateAndAnswer kept CommandTooHigh
+steppedIfFit true true false fitting kept next = stateAndAnswer kept ReadingTooHigh
 steppedIfFit true true true false kept next = stateAndAnswer kept ShareOutOfRange
 steppedIfFit true true true true kept next = stateAndAnswer next Taken
 

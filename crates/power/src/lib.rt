@@ -1,4 +1,4 @@
-// The power monitor: one step for each observation of a pack's relays, commands, current and voltages, and of the share that
+// The power monitor: one step for each observation of a pack's relays, commands, current and voltages, with the share that
 // precharge has to reach.
 //
 // For a gateway that keeps a `State`, at first `State::start()`, and calls `step` with each observation. No public function

@@ -2,6 +2,7 @@ pub mod BookNumbers
 pub mod ClassNumbers
 pub mod DashNumbers
 pub mod OneOutcome
+pub mod PowerBefore
 pub mod PowerNumbers
 pub mod PowerShares
 pub mod SleepNumbers

@@ -1,4 +1,4 @@
--- The power call in numbers as it was before P6 of document 02, for the law that compares (proofs/PowerShares.antt); nothing else rests on
+-- The power call in numbers as it was before P6 of document 02, for the law that compares (proofs/PowerBefore.antt); nothing else rests on
 -- it. Assumes nothing.
 use Prim.Native.Nat.{ℕ}
 use mathlib.Core.List.{List}
@@ -9,7 +9,7 @@ use Rattle.power.specs.States.{stateNumbered}
 use Rattle.power.specs.Before.{stepBeforeP6}
 use Rattle.punnetcrest.specs.Powering.{notAPowerState, seenIn, steppedInNumbers}
 
--- the step before P6 asks for no share
+-- the step before P6 looks at no share, so any may stand in the observation
 abbrev pub steppedFromBeforeP6 : StateOrNone → ℕ → List ℕ → ℕ × ℕ
 steppedFromBeforeP6 (State from) kept seen = steppedInNumbers (stepBeforeP6 from (seenIn seen NoneGiven))
 steppedFromBeforeP6 NoState kept seen = (notAPowerState, kept)
