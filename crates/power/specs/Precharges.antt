@@ -4,8 +4,13 @@ use mathlib.Core.Bool.{Bool, true, false}
 use mathlib.Core.List.{List, [], _∷_}
 use Prim.Native.Nat.{ℕ}
 use Rattle.catalogue.specs.declared.Raw.{Raw}
+use Rattle.power.specs.declared.Observation.{Observation}
+use Rattle.power.specs.declared.PowerAnswer.the-variants.{Taken, ShareOutOfRange}
 use Rattle.power.specs.declared.Share.{Share}
 use Rattle.power.specs.declared.Share.the-variants.{Named, NoneGiven}
+use Rattle.power.specs.declared.State.the-variants.{Precharge, Both, Fault}
+use Rattle.power.specs.declared.Stepped.{Stepped}
+use Rattle.power.specs.Refusals.{stateAndAnswer}
 
 -- the share, the raw counts of the two voltages, and whether precharge is complete by them
 pub record Precharging : Type 0 where
@@ -36,4 +41,41 @@ precharges =
     ∷ volts (Named 50) 65535 65534 false
     ∷ volts (Named 50) 1 65535 false
     ∷ volts (Named 100) 65534 65534 true
+    ∷ []
+
+-- main positive closes on command 1, at 0 A, with these voltages and this share
+abbrev pub closingWith : Precharging → Observation
+closingWith w =
+    record {
+      «main_negative» = record { 0 = 2 };
+      precharge = record { 0 = 2 };
+      «main_positive» = record { 0 = 2 };
+      command = record { 0 = 1 };
+      «emergency_off» = record { 0 = 0 };
+      current = record { 0 = 20000 };
+      inside = w .inside;
+      outside = w .outside;
+      share = w .share;
+    }
+
+abbrev toBoth : Stepped
+toBoth = stateAndAnswer Both Taken
+
+abbrev toFault : Stepped
+toFault = stateAndAnswer Fault Taken
+
+abbrev refused44 : Stepped
+refused44 = stateAndAnswer Precharge ShareOutOfRange
+
+-- what the step from precharge then leaves, of each of the list in its order
+unfoldable pub closings : List Stepped
+closings =
+    toBoth ∷ toFault
+    ∷ toBoth ∷ toFault
+    ∷ toBoth ∷ toFault
+    ∷ toBoth ∷ toFault
+    ∷ toBoth ∷ toFault
+    ∷ refused44 ∷ refused44
+    ∷ toFault ∷ toFault ∷ toFault ∷ toFault
+    ∷ toBoth
     ∷ []
