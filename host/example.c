@@ -54,7 +54,7 @@ static uint32_t books[2][PC_BOOK_WORDS], *book = books[0], damaged;
 static uint32_t seen[PC_POWER_WORDS] = { 1, 1, 1, 0, 0, 20000, 0, 0 }; /* all relays open, 0 A, 0 V */
 static uint32_t power = PC_POWER_START, last_wake, asleep;
 
-/* The share of the voltage inside, in hundredths, that ends precharge on this truck. pc_power_step without a share takes 90. */
+/* The share of the voltage inside, in hundredths, that precharge has to reach on this truck. pc_power_step gives none: 90. */
 enum { SHARE = 95 };
 
 /* Counts a refusal; 12 says that the book's memory was damaged, and the main loop reads the text again. */

@@ -176,26 +176,30 @@ fn readings_fit(seen: Observation) -> bool
 pub fn step(state: State, seen: Observation) -> Stepped
     ensures { λ r. ⌜ r ≡ stepOf state seen ⌝ }
 {
-    if !relays_fit(seen) {
+    let relays = relays_fit(seen);
+    let commands = commands_fit(seen);
+    let readings = readings_fit(seen);
+    let share = seen.share;
+    let fitting = share_fits(share);
+    if !relays {
         return Stepped {
             state,
             answer: PowerAnswer::NeitherOpenNorClosed,
         };
     }
-    if !commands_fit(seen) {
+    if !commands {
         return Stepped {
             state,
             answer: PowerAnswer::CommandTooHigh,
         };
     }
-    if !readings_fit(seen) {
+    if !readings {
         return Stepped {
             state,
             answer: PowerAnswer::ReadingTooHigh,
         };
     }
-    let share = seen.share;
-    if !share_fits(share) {
+    if !fitting {
         return Stepped {
             state,
             answer: PowerAnswer::ShareOutOfRange,
