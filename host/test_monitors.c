@@ -91,7 +91,8 @@ static void near_share(uint32_t *inside, uint32_t *outside, uint32_t share) {
     *outside = (*inside * share + over - 10) / 100;
 }
 
-/* Inputs that are allowed, with this share: one time in four those of each step that turns on a figure. */
+/* Inputs that are allowed, with this share, but for a voltage that was moved past its limit: one time in four those of each step
+   that turns on a figure. */
 static void any_inputs(uint32_t inputs[INPUTS], uint32_t share) {
     uint32_t picture = below(8), step = below(4);
     inputs[STATE] = step == 0 ? PC_POWER_PRECHARGE : step == 1 ? PC_POWER_ON : below(7);
@@ -153,8 +154,9 @@ static void meet_inputs(const uint32_t inputs[INPUTS], int named) {
         if (at < 4 && wrong == (allowed(i, inputs[i]) ? 0 : 1))
             meet(POWER_LIMITS, 4 * i + at);
     }
-    if (wrong == 1 && refused[KINDS - 1] && place_in(wrong_shares, WRONG_SHARES, inputs[SHARE]) < WRONG_SHARES)
-        meet(POWER_WRONG_SHARES, place_in(wrong_shares, WRONG_SHARES, inputs[SHARE]));
+    uint32_t share_at = place_in(wrong_shares, WRONG_SHARES, inputs[SHARE]);
+    if (wrong == 1 && share_at < WRONG_SHARES)
+        meet(POWER_WRONG_SHARES, share_at);
     for (uint32_t late = 1; late < KINDS; late++)
         for (uint32_t early = 0; early < late; early++)
             if (refused[early] && refused[late])
@@ -168,8 +170,8 @@ void try_power_step(void) {
     int named = !once_in(3);
     any_inputs(inputs, named ? share : NONE_NAMED);
     for (uint32_t times = !once_in(8) ? 0 : once_in(4) ? 2 : 1; times > 0; times--) {
-        uint32_t i = below(named ? INPUTS : SHARE);
-        inputs[i] = once_in(2) ? limits[i].around[below(4)] : i == SHARE ? wrong_shares[below(WRONG_SHARES)] : any_number();
+        uint32_t i = named && once_in(4) ? SHARE : below(named ? INPUTS : SHARE);
+        inputs[i] = once_in(2) ? limits[i].around[below(4)] : i == SHARE && once_in(2) ? wrong_shares[below(WRONG_SHARES)] : any_number();
     }
     begin_case(named ? POWER_STEP_BY : POWER_STEP);
     struct lent *seen = lend("seen", &inputs[NEGATIVE], 4 * PC_POWER_WORDS), *state = lend("state", &inputs[STATE], 4);

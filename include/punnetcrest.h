@@ -179,8 +179,8 @@ enum {                            /* what an observation has, as raw counts: whe
 };
 
 /* Precharge is complete where both voltages are valid (not 65,535), the one inside is above 0 and the one outside has at least
-   the share of it, in hundredths: 100 x outside >= share x inside. pc_power_step gives no share, and it is then 90. Before 0.5.0 it was
-   95: whoever relied on that calls pc_power_step_by with 95, which gives every answer and state as before.
+   the share of it, in hundredths: 100 x outside >= share x inside. pc_power_step gives no share, and it is then 90. Before
+   0.5.0 it was 95: whoever relied on that calls pc_power_step_by with 95, which gives every answer and state as before.
    Refusals 91, 41, 42, 43. */
 uint32_t pc_power_step(uint32_t *state, const uint32_t seen[PC_POWER_WORDS]);
 

@@ -118,10 +118,16 @@ def lost_edits():
             yield f"{edit.relative_to(ROOT)}: its first old: does not stand just once in {file}"
 
 
+# The files that define a rule as it was before a change request, and those that compare with it.
+BEFORE = {"power/specs/Before.antt", "power/proofs/AsBefore.antt", "punnetcrest/specs/PoweringBefore.antt", "punnetcrest/proofs/PowerBefore.antt"}
+MODULES = "|".join(sorted(Path(file).stem for file in BEFORE))
+
+
 def resting_on_before():
-    """The files that use a rule as it was before a change request, ..BeforeP and its number, and are none that define or compare it."""
+    """The other files that use such a rule, by its name (..BeforeP and the request's number), or one of those modules."""
     for path in sorted(path for kind in ("antt", "rt") for path in (ROOT / "crates").rglob(f"*.{kind}")):
-        if "Before" not in path.name and (found := re.search(r"\w+BeforeP\d+", path.read_text())):
+        found = re.search(rf"\w+BeforeP\d+|\.(?:{MODULES})\b", path.read_text())
+        if found and str(path.relative_to(ROOT / "crates")) not in BEFORE:
             yield f"{path.relative_to(ROOT)}: it rests on {found[0]}, which stands for a comparison alone"
 
 
@@ -137,9 +143,9 @@ def versions():
         found = {file: match[1] if (match := re.search(pattern, (ROOT / file).read_text())) else "none" for file, pattern in named.items()}
         if len(set(found.values())) > 1:
             yield f"versions of the {product}: {found}"
-    asked = re.search(r"find_package\(punnetcrest (\d+\.\d+) ", (ROOT / "docs/EMBEDDING.md").read_text())
-    if not asked or not re.search(rf'#define PC_VERSION "{re.escape(asked[1])}\.', (ROOT / "include/punnetcrest.h").read_text()):
-        yield f"docs/EMBEDDING.md: find_package asks for {asked[1] if asked else 'no version'}"
+    asked = re.search(r"find_package\(punnetcrest (\S+) REQUIRED", (ROOT / "docs/EMBEDDING.md").read_text())
+    if not asked or f'#define PC_VERSION "{asked[1]}.' not in (ROOT / "include/punnetcrest.h").read_text():
+        yield f"docs/EMBEDDING.md: find_package asks for {asked[1] if asked else 'no version'}, not for the version's first two numbers"
 
 
 def main():

@@ -92,7 +92,7 @@ def none_given():
 
 def refused_shares():
     """44 in every state, also where the share plays no part; and 41, 42 and 43 before it."""
-    for state, share in product((NEW, *STATES), (0, 1, 49, 101, 255, 2**8 + 90, 2**16 + 90, 2**24 + 90, 2**31 + 90, MOST)):
+    for state, share in product((NEW, *STATES), (0, 1, 10, 49, 101, 102, 200, 255, 2**8 + 90, 2**16 + 90, 2**24 + 90, 2**31 + 90, MOST)):
         yield state, (1, 1, 1), 0, 0, 20000, (0, 0), share
         yield state, (2, 2, 2), 1, 0, 20000, (6000, 6000), share
     for state, share in product(STATES, (49, 101)):

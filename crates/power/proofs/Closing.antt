@@ -1,5 +1,5 @@
--- The share reaches the step: where main positive closes on command 1, precharge is left to both exactly where it is complete with the
--- observation's share, and else to fault. Assumes nothing.
+-- The share reaches the step: where main positive closes on command 1 and nothing is refused, precharge is left to both exactly where it is
+-- complete with the observation's share, and else to fault. Assumes nothing.
 use mathlib.Core.Path.{_≡_, refl, _∙_}
 use mathlib.Core.Bool.{Bool, true, false, cond, _&&_}
 use native.Mathlib.Omega.{arith}

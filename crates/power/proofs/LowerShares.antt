@@ -1,4 +1,5 @@
--- A lower share leaves every step as it is, but for the one from precharge to both, which the higher one may call a fault. Assumes nothing.
+-- Of two shares that fit, the lower one leaves every step as it is, but for the one from precharge to both, which the higher one may call a
+-- fault. Assumes nothing.
 use mathlib.Core.Path.{_≡_, refl}
 use mathlib.Core.Bool.{Bool, true, false, cond, _&&_, _||_}
 use mathlib.Core.Logic.{_⊎_, inl, inr}
