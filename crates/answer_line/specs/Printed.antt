@@ -3,8 +3,8 @@
 use Rattle.std.specs.Prelude.{ℕ, suc, cond, List, [], ◌∷◌, ltb, length}
 use Rattle.std.proofs.lemmas.List.Edits.{sets}
 use Rattle.parts.specs.Parts.{tab}
-use Rattle.parts.specs.Joined.{join, textOfLines}
-use Rattle.printing.specs.Decimal.{naturalText, naturalRoom}
+use Rattle.parts.specs.Joined.{join, text_of_lines}
+use Rattle.printing.specs.Decimal.{natural_text, natural_room}
 use Rattle.answers.specs.Numbers.{Said, taken, refused}
 
 -- the words, in bytes
@@ -14,24 +14,24 @@ ok = 111 ∷ 107 ∷ []
 abbrev pub no : List ℕ
 no = 110 ∷ 111 ∷ []
 
-unfoldable pub takenLine : ℕ → ℕ → ℕ → List ℕ
-takenLine m s r = textOfLines (join tab (ok ∷ naturalText m ∷ naturalText s ∷ naturalText r ∷ []) ∷ [])
+unfoldable pub taken_line : ℕ → ℕ → ℕ → List ℕ
+taken_line m s r = text_of_lines (join tab (ok ∷ natural_text m ∷ natural_text s ∷ natural_text r ∷ []) ∷ [])
 
-unfoldable pub refusedLine : ℕ → ℕ → List ℕ
-refusedLine n line = textOfLines (join tab (no ∷ naturalText n ∷ naturalText line ∷ []) ∷ [])
+unfoldable pub refused_line : ℕ → ℕ → List ℕ
+refused_line n line = text_of_lines (join tab (no ∷ natural_text n ∷ natural_text line ∷ []) ∷ [])
 
-abbrev pub answerLine : Said → List ℕ
-answerLine (taken m s r) = takenLine m s r
-answerLine (refused n line) = refusedLine n line
+abbrev pub answer_line_spec : Said → List ℕ
+answer_line_spec (taken m s r) = taken_line m s r
+answer_line_spec (refused n line) = refused_line n line
 
 -- no tab with a number is longer
-abbrev pub fieldRoom : ℕ
-fieldRoom = suc naturalRoom
+abbrev pub field_room : ℕ
+field_room = suc natural_room
 
 -- no line of an answer is longer
-abbrev pub lineRoom : ℕ
-lineRoom = 80
+abbrev pub line_room : ℕ
+line_room = 80
 
 -- how many bytes are written, and the lent bytes then: a text at their front, or nothing where they are too few
 unfoldable pub printed : List ℕ → List ℕ → ℕ × List ℕ
-printed out text = cond (ltb (length out) lineRoom) (0, out) (length text, sets out 0 text)
+printed out text = cond (ltb (length out) line_room) (0, out) (length text, sets out 0 text)

@@ -3,9 +3,9 @@
 ghost use Rattle.std.specs.Prelude.{◌≡◌, ◌∷◌, ◌+◌, ◌≤◌, length};
 ghost use Rattle.parts.specs.Parts.{tab};
 ghost use Rattle.printing.specs.Put.{Put};
-ghost use Rattle.printing.specs.Decimal.{naturalText};
+ghost use Rattle.printing.specs.Decimal.{natural_text};
 ghost use Rattle.answers.specs.Numbers.{said};
-ghost use Rattle.answer_line.specs.Printed.{takenLine, refusedLine, answerLine, fieldRoom, lineRoom, printed};
+ghost use Rattle.answer_line.specs.Printed.{taken_line, refused_line, answer_line_spec, field_room, line_room, printed};
 
 use answers::Answer;
 use parts::{NEWLINE, TAB};
@@ -16,16 +16,16 @@ pub const LINE_ROOM: usize = 80;
 
 // A tab and a number.
 fn put_field(out: &mut [u8], at: usize, n: u32) -> usize
-    requires { at + fieldRoom ≤ length out.old }
-    ensures { Put out.old at (tab ∷ naturalText n) out.new result }
+    requires { at + field_room ≤ length out.old }
+    ensures { Put out.old at (tab ∷ natural_text n) out.new result }
 {
     let number = put_byte(&mut *out, at, TAB);
     put_natural(&mut *out, number, n as u64)
 }
 
 fn put_taken(out: &mut [u8], messages: u32, signals: u32, routes: u32) -> usize
-    requires { lineRoom ≤ length out.old }
-    ensures { Put out.old 0 (takenLine messages signals routes) out.new result }
+    requires { line_room ≤ length out.old }
+    ensures { Put out.old 0 (taken_line messages signals routes) out.new result }
 {
     let word = put_bytes(&mut *out, 0, b"ok");
     let first = put_field(&mut *out, word, messages);
@@ -35,8 +35,8 @@ fn put_taken(out: &mut [u8], messages: u32, signals: u32, routes: u32) -> usize
 }
 
 fn put_refused(out: &mut [u8], refusal: u32, line: u32) -> usize
-    requires { lineRoom ≤ length out.old }
-    ensures { Put out.old 0 (refusedLine refusal line) out.new result }
+    requires { line_room ≤ length out.old }
+    ensures { Put out.old 0 (refused_line refusal line) out.new result }
 {
     let word = put_bytes(&mut *out, 0, b"no");
     let first = put_field(&mut *out, word, refusal);
@@ -47,7 +47,7 @@ fn put_refused(out: &mut [u8], refusal: u32, line: u32) -> usize
 // The line of an answer, at the front of `out`; how many bytes it has. Where `out` has fewer than LINE_ROOM bytes, nothing is
 // written and the answer is 0.
 pub fn print(answer: Answer, out: &mut [u8]) -> usize
-    ensures { (result, out.new) ≡ printed out.old (answerLine (said answer)) }
+    ensures { (result, out.new) ≡ printed out.old (answer_line_spec (said answer)) }
 {
     if out.len() < LINE_ROOM {
         return 0;

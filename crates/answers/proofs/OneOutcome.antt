@@ -1,9 +1,9 @@
 -- `Refusal::number`'s contract allows one result and no other. Assumes nothing.
 use mathlib.Core.Path.{refl}
-use Rattle.only.specs.Outcomes.{OneResult, result-is}
+use Rattle.only.specs.Outcomes.{OneResult, result_is}
 use Rattle.answers.specs.Numbers.{number}
 use Rattle.answers.specs.contracts.Refusal.number as number-fn
 
 module _ (M : Type 1) where
   pub one_number : OneResult M number-fn.ended number-fn.clauses
-  one_number = result-is (λ c. number c.arguments.0) refl
+  one_number = result_is (λ c. number c.arguments.0) refl

@@ -12,8 +12,8 @@ use Rattle.bits.specs.Word.{field_of, placed}
 -- ---- a field
 
 -- what lies past a field of b bits is shifted out of a number of b + k
-shifted-out : (x b k : ℕ) → x % 2 ^ (b + k) * 2 ^ k % 2 ^ (b + k) / 2 ^ k ≡ x % 2 ^ b
-shifted-out x b k =
+shifted_out : (x b k : ℕ) → x % 2 ^ (b + k) * 2 ^ k % 2 ^ (b + k) / 2 ^ k ≡ x % 2 ^ b
+shifted_out x b k =
     field (x % 2 ^ (b + k) * 2 ^ k) b k
     ∙ ap (λ (m : ℕ). m % 2 ^ b) (shl-shr (x % 2 ^ (b + k)) k)
     ∙ ap (λ (m : ℕ). x % 2 ^ m % 2 ^ b) (add_comm b k)
@@ -35,7 +35,7 @@ taken_out w s b n h e =
     let whole : 32 ≡ b + (32 - b) = omega (arith, h) in
     ap (λ (m : ℕ). m * 2 ^ (32 - b) % 2 ^ 32 / 2 ^ (32 - b)) e
     ∙ ap (λ (m : ℕ). w / 2 ^ s % 2 ^ m * 2 ^ (32 - b) % 2 ^ m / 2 ^ (32 - b)) whole
-    ∙ shifted-out (w / 2 ^ s) b (32 - b)
+    ∙ shifted_out (w / 2 ^ s) b (32 - b)
 
 pub field_lt : (w s b : ℕ) → field_of w s b < 2 ^ b
 unfolding field_of
@@ -50,28 +50,28 @@ parts w s b = sym (ap (λ (m : ℕ). w / 2 ^ (b + s) * 2 ^ (b + s) + m) (sym (mo
 swap : (w H F L X : ℕ) → w ≡ H + (F + L) → w - F + X ≡ H + (X + L)
 swap w H F L X e = omega arith
 
-placed-is : (w s b v : ℕ) → placed w s b v ≡ w / 2 ^ (b + s) * 2 ^ (b + s) + (v * 2 ^ s + w % 2 ^ s)
+placed_is : (w s b v : ℕ) → placed w s b v ≡ w / 2 ^ (b + s) * 2 ^ (b + s) + (v * 2 ^ s + w % 2 ^ s)
 unfolding placed field_of
-placed-is w s b v = swap w (w / 2 ^ (b + s) * 2 ^ (b + s)) (w / 2 ^ s % 2 ^ b * 2 ^ s) (w % 2 ^ s) (v * 2 ^ s) (parts w s b)
+placed_is w s b v = swap w (w / 2 ^ (b + s) * 2 ^ (b + s)) (w / 2 ^ s % 2 ^ b * 2 ^ s) (w % 2 ^ s) (v * 2 ^ s) (parts w s b)
 
 -- the parts a placement does not touch, and the one that it puts
 module _ (w s b v : ℕ) (small : v < 2 ^ b) where
   rest_lt : v * 2 ^ s + w % 2 ^ s < 2 ^ (b + s)
   rest_lt = rw pow-add (digits_lt small (mod-lt w (pow_pos s)))
 
-  placed-high : placed w s b v / 2 ^ (b + s) ≡ w / 2 ^ (b + s)
-  placed-high = ap (λ (m : ℕ). m / 2 ^ (b + s)) (placed-is w s b v) ∙ high (w / 2 ^ (b + s)) (b + s) rest_lt
+  placed_high : placed w s b v / 2 ^ (b + s) ≡ w / 2 ^ (b + s)
+  placed_high = ap (λ (m : ℕ). m / 2 ^ (b + s)) (placed_is w s b v) ∙ high (w / 2 ^ (b + s)) (b + s) rest_lt
 
   regroup : placed w s b v ≡ (w / 2 ^ (b + s) * 2 ^ b + v) * 2 ^ s + w % 2 ^ s
   regroup =
-      placed-is w s b v
+      placed_is w s b v
       ∙ ap (λ (m : ℕ). w / 2 ^ (b + s) * m + (v * 2 ^ s + w % 2 ^ s)) (pow-add 2 b s)
       ∙ sym (add_assoc (w / 2 ^ (b + s) * (2 ^ b * 2 ^ s)) (v * 2 ^ s) (w % 2 ^ s))
       ∙ ap (λ (m : ℕ). m + v * 2 ^ s + w % 2 ^ s) (sym (mul_assoc (w / 2 ^ (b + s)) (2 ^ b) (2 ^ s)))
       ∙ ap (λ (m : ℕ). m + w % 2 ^ s) (sym (add-mul (w / 2 ^ (b + s) * 2 ^ b) v (2 ^ s)))
 
-  placed-low : placed w s b v % 2 ^ s ≡ w % 2 ^ s
-  placed-low = ap (λ (m : ℕ). m % 2 ^ s) regroup ∙ low (w / 2 ^ (b + s) * 2 ^ b + v) s (mod-lt w (pow_pos s))
+  placed_low : placed w s b v % 2 ^ s ≡ w % 2 ^ s
+  placed_low = ap (λ (m : ℕ). m % 2 ^ s) regroup ∙ low (w / 2 ^ (b + s) * 2 ^ b + v) s (mod-lt w (pow_pos s))
 
   -- what is placed is read back
   pub read_back : field_of (placed w s b v) s b ≡ v
@@ -87,7 +87,7 @@ module _ (w s b v : ℕ) (small : v < 2 ^ b) where
       let d = t - (b + s) in
       let e : t ≡ b + s + d = omega arith in
       let at : (n : ℕ) → n / 2 ^ t ≡ n / 2 ^ (b + s) / 2 ^ d = λ n. ap (λ (k : ℕ). n / 2 ^ k) e ∙ sym (shr-shr n (b + s) d) in
-      ap (λ (m : ℕ). m % 2 ^ c) (at (placed w s b v) ∙ ap (λ (m : ℕ). m / 2 ^ d) placed-high ∙ sym (at w))
+      ap (λ (m : ℕ). m % 2 ^ c) (at (placed w s b v) ∙ ap (λ (m : ℕ). m / 2 ^ d) placed_high ∙ sym (at w))
 
   below : (t c : ℕ) → t + c ≤ s → field_of (placed w s b v) t c ≡ field_of w t c
   unfolding field_of
@@ -95,7 +95,7 @@ module _ (w s b v : ℕ) (small : v < 2 ^ b) where
       let d = s - (c + t) in
       let e : s ≡ d + (c + t) = omega arith in
       let at : (n : ℕ) → n / 2 ^ t % 2 ^ c ≡ n % 2 ^ s % 2 ^ (c + t) / 2 ^ t = λ n. sym (field n c t) ∙ ap (λ (m : ℕ). m / 2 ^ t) (sym (ap (λ (k : ℕ). n % 2 ^ k % 2 ^ (c + t)) e ∙ mod-mod-pow n d (c + t))) in
-      at (placed w s b v) ∙ ap (λ (m : ℕ). m % 2 ^ (c + t) / 2 ^ t) placed-low ∙ sym (at w)
+      at (placed w s b v) ∙ ap (λ (m : ℕ). m % 2 ^ (c + t) / 2 ^ t) placed_low ∙ sym (at w)
 
   -- and a field beside it stays
   pub beside : (t c : ℕ) → (s + b ≤ t) ⊎ (t + c ≤ s) → field_of (placed w s b v) t c ≡ field_of w t c
@@ -103,18 +103,18 @@ module _ (w s b v : ℕ) (small : v < 2 ^ b) where
   beside t c (inr h) = below t c h
 
   -- a placement within k bits keeps a number within k bits
-  pub placed-lt : (k : ℕ) → s + b ≤ k → w < 2 ^ k → placed w s b v < 2 ^ k
-  placed-lt k h hw =
+  pub placed_lt : (k : ℕ) → s + b ≤ k → w < 2 ^ k → placed w s b v < 2 ^ k
+  placed_lt k h hw =
       let d = k - (b + s) in
       let e : k ≡ d + (b + s) = omega arith in
       let hi : w / 2 ^ (b + s) < 2 ^ d = shr_lt d (b + s) (subst (λ (m : ℕ). w < 2 ^ m) e hw) in
-      rw (placed-is w s b v) (subst⁻¹ (λ (m : ℕ). w / 2 ^ (b + s) * 2 ^ (b + s) + (v * 2 ^ s + w % 2 ^ s) < m) (ap (λ (m : ℕ). 2 ^ m) e ∙ pow-add 2 d (b + s)) (digits_lt hi rest_lt))
+      rw (placed_is w s b v) (subst⁻¹ (λ (m : ℕ). w / 2 ^ (b + s) * 2 ^ (b + s) + (v * 2 ^ s + w % 2 ^ s) < m) (ap (λ (m : ℕ). 2 ^ m) e ∙ pow-add 2 d (b + s)) (digits_lt hi rest_lt))
 
 -- ---- what the code's shifts are
 
-pub field-le : (w s b : ℕ) → field_of w s b * 2 ^ s ≤ w
+pub field_le : (w s b : ℕ) → field_of w s b * 2 ^ s ≤ w
 unfolding field_of
-field-le w s b = let e = parts w s b in omega arith
+field_le w s b = let e = parts w s b in omega arith
 
 -- ---- all ones
 pub ones : (t c : ℕ) → t + c ≤ 64 → field_of (2 ^ 64 - 1) t c ≡ 2 ^ c - 1

@@ -5,9 +5,9 @@
 // back, a place beside it stays.
 // These functions serve the crates of this repository; a start and a width that lie within the frame are required.
 ghost use Rattle.std.specs.Prelude.{◌≡◌, ◌+◌, ◌%◌, ◌^◌, ◌<◌, length};
-ghost use Rattle.bits.specs.Frame.{frameBytes, frameBits};
+ghost use Rattle.bits.specs.Frame.{frame_bytes, frame_bits};
 ghost use Rattle.bits.specs.Word.{Fits, word_of, bytes_of, field_of, placed};
-ghost use Rattle.bits.specs.Checksum.{checksumOf, bytesAdded, identifierAdded, folded};
+ghost use Rattle.bits.specs.Checksum.{checksum_of, bytes_added_spec, identifier_added_spec, folded};
 
 fn wide(x: u8) -> u64
     ensures { (result ≡ x) × (result < 256) }
@@ -17,7 +17,7 @@ fn wide(x: u8) -> u64
 
 // Eight bytes as one number, byte 0 lowest.
 pub fn load(frame: &[u8]) -> u64
-    requires { length frame.now ≡ frameBytes }
+    requires { length frame.now ≡ frame_bytes }
     ensures { result ≡ word_of frame.now }
 {
     wide(frame[0])
@@ -50,7 +50,7 @@ fn low_half(word: u64) -> u32
 
 // The window of 32 bits that begins at `start`; those past the frame are 0.
 pub fn window(word: u64, start: u32) -> u32
-    requires { start < frameBits }
+    requires { start < frame_bits }
     ensures { result ≡ field_of word start 32 }
 {
     low_half(word >> start)
@@ -82,7 +82,7 @@ pub fn place(word: u64, start: u32, bits: u32, count: u32) -> u64
 
 // The eight bytes of a number into a lent frame, the lowest first.
 pub fn store(word: u64, frame: &mut [u8])
-    requires { length frame.old ≡ frameBytes }
+    requires { length frame.old ≡ frame_bytes }
     ensures { frame.new ≡ bytes_of word }
 {
     let w1 = word / 256;
@@ -104,7 +104,7 @@ pub fn store(word: u64, frame: &mut [u8])
 
 // Bytes 0 to 6 and the low four bits of byte 7, added up.
 fn bytes_added(word: u64) -> u64
-    ensures { (result ≡ bytesAdded (bytes_of word)) × (result < 2 ^ 11) }
+    ensures { (result ≡ bytes_added_spec (bytes_of word)) × (result < 2 ^ 11) }
 {
     let w1 = word / 256;
     let w2 = w1 / 256;
@@ -125,7 +125,7 @@ fn bytes_added(word: u64) -> u64
 
 // The four bytes of an identifier, added up.
 fn identifier_added(identifier: u32) -> u64
-    ensures { (result ≡ identifierAdded identifier) × (result < 2 ^ 10) }
+    ensures { (result ≡ identifier_added_spec identifier) × (result < 2 ^ 10) }
 {
     let i = identifier as u64;
     (i >> 24) % 256 + (i >> 16) % 256 + (i >> 8) % 256 + i % 256
@@ -140,7 +140,7 @@ fn fold(sum: u64) -> u32
 
 // The checksum of a frame, given as its word, under an identifier. It is at most 7.
 pub fn checksum(identifier: u32, word: u64) -> u32
-    ensures { (result ≡ checksumOf identifier (bytes_of word)) × (result < 8) }
+    ensures { (result ≡ checksum_of identifier (bytes_of word)) × (result < 8) }
 {
     fold(bytes_added(word) + identifier_added(identifier))
 }

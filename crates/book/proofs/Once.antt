@@ -7,45 +7,45 @@ use native.Mathlib.Omega.{arith}
 use lib.Dec.{ltb}
 use lib.ListN.{length, get_or}
 use borrow.Author.Tests.{ltb-true, ltb-false}
-use Rattle.record.specs.Limits.{textLimit}
-use Rattle.record.specs.Columns.{emptyBook}
+use Rattle.record.specs.Limits.{text_limit}
+use Rattle.record.specs.Columns.{empty_book}
 use Rattle.verdict.specs.Verdicts.{Judged}
 use Rattle.verdict.specs.declared.Verdict.{Verdict}
 use Rattle.verdict.specs.declared.Verdict.TheVariants as verdict
-use Rattle.verdict.proofs.Once.{judged, judged-once}
+use Rattle.verdict.proofs.Once.{judged, judged_once}
 use Rattle.answers.specs.declared.Refusal.TheVariants as refusal
 use Rattle.answers.specs.declared.Answer.{Answer}
 use Rattle.answers.specs.declared.Answer.TheVariants as answer
 use Rattle.answers.specs.Numbers.{number, Said, taken, refused, said}
-use Rattle.answers.proofs.Numbered.{number-once}
-use Rattle.books.specs.Book.{Book, allPlacements}
+use Rattle.answers.proofs.Numbered.{number_once}
+use Rattle.books.specs.Book.{Book, all_placements}
 use Rattle.books.specs.Words.{words_of}
 use Rattle.reading.specs.Reading.{Outcome, passed, lines_read}
 use Rattle.reading.specs.Reading as lines
 use Rattle.reading.specs.Taken.{froms, tos}
-use Rattle.taking.proofs.Named.{Named, text-named}
-use Rattle.book.specs.Answered.{Passes, Answered, too_long, bad-line, closed-chain, two-chains, taken-with}
+use Rattle.taking.proofs.Named.{Named, text_named}
+use Rattle.book.specs.Answered.{Passes, Answered, too_long, bad_line, closed_chain, two_chains, taken_with}
 
 -- what a verdict on the routes of a book comes to
-unfoldable pub ofVerdict : Book → List ℕ → Verdict → Said × List ℕ
-ofVerdict b at (verdict.Loop i) = (refused 10 (get_or at i 0), emptyBook)
-ofVerdict b at (verdict.Doubling i) = (refused 11 (get_or at i 0), emptyBook)
-ofVerdict b at verdict.Sound =
-    (taken (length b.messages) (length (allPlacements b.messages)) (length b.routes), words_of b)
+unfoldable pub of_verdict : Book → List ℕ → Verdict → Said × List ℕ
+of_verdict b at (verdict.Loop i) = (refused 10 (get_or at i 0), empty_book)
+of_verdict b at (verdict.Doubling i) = (refused 11 (get_or at i 0), empty_book)
+of_verdict b at verdict.Sound =
+    (taken (length b.messages) (length (all_placements b.messages)) (length b.routes), words_of b)
 
 -- an answer comes about in one of three ways
 pub data Way (text : List ℕ) (x : Said × List ℕ) : Type 0 where
-  long : textLimit < length text → x ≡ (refused 1 0, emptyBook) → Way text x
-  bad : (why n : ℕ) → length text ≤ textLimit → lines_read text ≡ lines.refused why n → x ≡ (refused why n, emptyBook) → Way text x
-  by : (b : Book) (at : List ℕ) (v : Verdict) → Passes text b at → Judged (froms b.routes) (tos b.routes) v → x ≡ ofVerdict b at v → Way text x
+  long : text_limit < length text → x ≡ (refused 1 0, empty_book) → Way text x
+  bad : (why n : ℕ) → length text ≤ text_limit → lines_read text ≡ lines.refused why n → x ≡ (refused why n, empty_book) → Way text x
+  by : (b : Book) (at : List ℕ) (v : Verdict) → Passes text b at → Judged (froms b.routes) (tos b.routes) v → x ≡ of_verdict b at v → Way text x
 
 pub way : {text : List ℕ} {p : Said} {w : List ℕ} → Answered text p w → Way text (p, w)
-unfolding ofVerdict
+unfolding of_verdict
 way (too_long h) = long h refl
-way (bad-line h e) = bad _ _ h e refl
-way (closed-chain {b} {at} {i} p l) = by b at (verdict.Loop i) p l refl
-way (two-chains {b} {at} {i} p f l) = by b at (verdict.Doubling i) p (f, l) refl
-way (taken-with {b} t) = by b t.at verdict.Sound (record { short = t.short; read = t.read }) (record { loop-free = t.sound.loop-free; single = t.sound.single }) refl
+way (bad_line h e) = bad _ _ h e refl
+way (closed_chain {b} {at} {i} p l) = by b at (verdict.Loop i) p l refl
+way (two_chains {b} {at} {i} p f l) = by b at (verdict.Doubling i) p (f, l) refl
+way (taken_with {b} t) = by b t.at verdict.Sound (record { short = t.short; read = t.read }) (record { loop_free = t.sound.loop_free; single = t.sound.single }) refl
 
 never : {A : Type 0} {why n : ℕ} {b : Book} {at : List ℕ} {o : Outcome} → o ≡ lines.refused why n → o ≡ passed b at → A
 never e f = absurd (let z : ◌≡◌ {A = ℕ} 0 1 = cc in omega arith)
@@ -57,18 +57,18 @@ ways (long h e) (by b at v p j f) = absurd (omega (arith, p.short))
 ways (bad why n g r e) (long h f) = absurd (omega arith)
 ways (bad why n g r e) (bad why' n' g' r' f) =
     let z : ◌≡◌ {A = Said} (refused why n) (refused why' n') = (let a : why ≡ why' = cc in let b : n ≡ n' = cc in cc) in
-    e ∙ ap (λ (s : Said). (s, emptyBook)) z ∙ sym f
+    e ∙ ap (λ (s : Said). (s, empty_book)) z ∙ sym f
 ways (bad why n g r e) (by b at v p j f) = never r p.read
 ways (by b at v p j e) (long h f) = absurd (omega (arith, p.short))
 ways (by b at v p j e) (bad why n g r f) = never r p.read
 ways (by b at v p j e) (by b' at' v' p' j' f) =
     let a : b ≡ b' = (let r = p.read in let r' = p'.read in cc) in
     let c : at ≡ at' = (let r = p.read in let r' = p'.read in cc) in
-    let d : v ≡ v' = judged-once (froms b.routes) (tos b.routes) v v' j (rw a j') in
+    let d : v ≡ v' = judged_once (froms b.routes) (tos b.routes) v v' j (rw a j') in
     e ∙ rw (a, c, d) (sym f)
 
-pub answered-once : {text : List ℕ} {p q : Said} {v w : List ℕ} → Answered text p v → Answered text q w → ◌≡◌ {A = Said × List ℕ} (p, v) (q, w)
-answered-once a b = ways (way a) (way b)
+pub answered_once : {text : List ℕ} {p q : Said} {v w : List ℕ} → Answered text p v → Answered text q w → ◌≡◌ {A = Said × List ℕ} (p, v) (q, w)
+answered_once a b = ways (way a) (way b)
 
 -- there is an answer
 pub record There (text : List ℕ) : Type 0 where
@@ -78,48 +78,48 @@ pub record There (text : List ℕ) : Type 0 where
 
 module _ (text : List ℕ) where
   judges : (b : Book) (at : List ℕ) → Passes text b at → (v : Verdict) → Judged (froms b.routes) (tos b.routes) v → There text
-  judges b at p (verdict.Loop i) j = record { answer = answer.Refused refusal.ClosedChain (get_or at i 0); words = emptyBook; answered = closed-chain p j }
-  judges b at p (verdict.Doubling i) j = record { answer = answer.Refused refusal.TwoChains (get_or at i 0); words = emptyBook; answered = two-chains p j.0 j.1 }
+  judges b at p (verdict.Loop i) j = record { answer = answer.Refused refusal.ClosedChain (get_or at i 0); words = empty_book; answered = closed_chain p j }
+  judges b at p (verdict.Doubling i) j = record { answer = answer.Refused refusal.TwoChains (get_or at i 0); words = empty_book; answered = two_chains p j.0 j.1 }
   judges b at p verdict.Sound j =
       record {
-        answer = answer.Taken (length b.messages) (length (allPlacements b.messages)) (length b.routes);
+        answer = answer.Taken (length b.messages) (length (all_placements b.messages)) (length b.routes);
         words = words_of b;
-        answered = taken-with (record { short = p.short; at = at; read = p.read; sound = record { loop-free = j.loop-free; single = j.single } });
+        answered = taken_with (record { short = p.short; at = at; read = p.read; sound = record { loop_free = j.loop_free; single = j.single } });
       }
 
-  come : length text ≤ textLimit → (o : Outcome) → lines_read text ≡ o → There text
+  come : length text ≤ text_limit → (o : Outcome) → lines_read text ≡ o → There text
   come h (passed b at) e =
       let v = judged (froms b.routes) (tos b.routes) in
       judges b at (record { short = h; read = e }) v.0 v.1
   come h (lines.refused why n) e =
-      let r : Named why = text-named text why n e in
-      record { answer = answer.Refused r.refusal n; words = emptyBook; answered = rw r.is (bad-line h e) }
+      let r : Named why = text_named text why n e in
+      record { answer = answer.Refused r.refusal n; words = empty_book; answered = rw r.is (bad_line h e) }
 
   pub there : There text
-  there = by (ltb textLimit (length text)) refl
+  there = by (ltb text_limit (length text)) refl
     where
-      by : (q : Bool) → ltb textLimit (length text) ≡ q → There text
-      by true q = record { answer = answer.Refused refusal.TooLong 0; words = emptyBook; answered = too_long (ltb-true _ _ q) }
+      by : (q : Bool) → ltb text_limit (length text) ≡ q → There text
+      by true q = record { answer = answer.Refused refusal.TooLong 0; words = empty_book; answered = too_long (ltb-true _ _ q) }
       by false q = come (ltb-false _ _ q) (lines_read text) refl
 
 -- an answer is told by what it says
-said-once : (a b : Answer) → said a ≡ said b → a ≡ b
-said-once (answer.Taken m s r) (answer.Taken m' s' r') e =
+said_once : (a b : Answer) → said a ≡ said b → a ≡ b
+said_once (answer.Taken m s r) (answer.Taken m' s' r') e =
     let x : m ≡ m' = cc in
     let y : s ≡ s' = cc in
     let z : r ≡ r' = cc in
     cc
-said-once (answer.Refused why n) (answer.Refused why' n') e =
-    let x = number-once why why' (let z : number why ≡ number why' = cc in z) in
+said_once (answer.Refused why n) (answer.Refused why' n') e =
+    let x = number_once why why' (let z : number why ≡ number why' = cc in z) in
     let y : n ≡ n' = cc in
     cc
-said-once (answer.Taken m s r) (answer.Refused why n) e = absurd (let z : ◌≡◌ {A = ℕ} 0 1 = cc in omega arith)
-said-once (answer.Refused why n) (answer.Taken m s r) e = absurd (let z : ◌≡◌ {A = ℕ} 0 1 = cc in omega arith)
+said_once (answer.Taken m s r) (answer.Refused why n) e = absurd (let z : ◌≡◌ {A = ℕ} 0 1 = cc in omega arith)
+said_once (answer.Refused why n) (answer.Taken m s r) e = absurd (let z : ◌≡◌ {A = ℕ} 0 1 = cc in omega arith)
 
 -- and no other
 pub alone : (text : List ℕ) (x : Answer × List ℕ) → Answered text (said x.0) x.1 → x ≡ ((there text).answer, (there text).words)
 alone text x a =
-    let e : ◌≡◌ {A = Said × List ℕ} (said x.0, x.1) (said (there text).answer, (there text).words) = answered-once a (there text).answered in
-    let f : x.0 ≡ (there text).answer = said-once x.0 (there text).answer (ap (λ (y : Said × List ℕ). y.0) e) in
+    let e : ◌≡◌ {A = Said × List ℕ} (said x.0, x.1) (said (there text).answer, (there text).words) = answered_once a (there text).answered in
+    let f : x.0 ≡ (there text).answer = said_once x.0 (there text).answer (ap (λ (y : Said × List ℕ). y.0) e) in
     let g : x.1 ≡ (there text).words = ap (λ (y : Said × List ℕ). y.1) e in
     λ i. (f i, g i)

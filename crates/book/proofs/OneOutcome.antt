@@ -35,8 +35,8 @@ one_answer 𝓤 clause text says =
     }
 
 module _ {M : Type 1} {𝓤 : Ura M} (𝓛 : Logic 𝓤) (mem : Memory → SProp 𝓤) (run : Routine → Fun 𝓤) (κs : Lfts 2) (text book : MutBor (List ℕ)) where
-  pub one-read : Only 𝓤 (λ (x : Answer × List ℕ). (read.clauses 𝓛 mem run κs (text, (book, tt))).ensures tt x.0 (text, (at_last book x.1, tt)))
-  one-read = one_answer 𝓤 _ text.now (λ x. refl)
+  pub one_read : Only 𝓤 (λ (x : Answer × List ℕ). (read.clauses 𝓛 mem run κs (text, (book, tt))).ensures tt x.0 (text, (at_last book x.1, tt)))
+  one_read = one_answer 𝓤 _ text.now (λ x. refl)
 
-  pub one-answer-judged : (v : Verdict) → Only 𝓤 (λ (x : Answer × List ℕ). (answer-judged.clauses 𝓛 mem run κs (text, (book, (v, tt)))).ensures tt x.0 (text, (at_last book x.1, (v, tt))))
-  one-answer-judged v = one_answer 𝓤 _ text.now (λ x. refl)
+  pub one_answer_judged : (v : Verdict) → Only 𝓤 (λ (x : Answer × List ℕ). (answer-judged.clauses 𝓛 mem run κs (text, (book, (v, tt)))).ensures tt x.0 (text, (at_last book x.1, (v, tt))))
+  one_answer_judged v = one_answer 𝓤 _ text.now (λ x. refl)

@@ -4,26 +4,26 @@ use Prim.Native.Nat.{ℕ, ◌≤◌}
 use native.Mathlib.Omega.{arith}
 use mathlib.Core.List.{List}
 use lib.ListN.{take}
-use Rattle.record.specs.Columns.{routeCountOf, fromsOf, tosOf}
+use Rattle.record.specs.Columns.{route_count_of, froms_of, tos_of}
 use Rattle.books.specs.Book.{Book}
-use Rattle.books.specs.Lines.{routeLimit}
-use Rattle.books.proofs.RouteColumns.{froms-are, tos-are}
+use Rattle.books.specs.Lines.{route_limit}
+use Rattle.books.proofs.RouteColumns.{froms_are, tos_are}
 use Rattle.reading.specs.Taken.{froms, tos}
 use Rattle.tables.specs.Adding.{Holds}
-use Rattle.tables.proofs.Held.{routes-stand, routes-held}
+use Rattle.tables.proofs.Held.{routes_stand, routes_held}
 use Rattle.verdict.specs.declared.Verdict.{Verdict}
 use Rattle.verdict.specs.Verdicts.{Judged}
 
-module _ {w : List ℕ} {b : Book} (h : Holds w b) {count : ℕ} (c : count ≡ routeCountOf w) where
-  pub count-few : count ≤ routeLimit
-  count-few = omega (arith, c, routes-held w b h, h.within.routes)
+module _ {w : List ℕ} {b : Book} (h : Holds w b) {count : ℕ} (c : count ≡ route_count_of w) where
+  pub count_few : count ≤ route_limit
+  count_few = omega (arith, c, routes_held w b h, h.within.routes)
 
   -- the first entries of a column, as many as are counted
-  first-ones : {l fs p : List ℕ} → fs ≡ l → p ≡ take count fs → p ≡ take (routeCountOf w) l
-  first-ones e q = q ∙ rw (c, e) refl
+  first_ones : {l fs p : List ℕ} → fs ≡ l → p ≡ take count fs → p ≡ take (route_count_of w) l
+  first_ones e q = q ∙ rw (c, e) refl
 
-  pub on-routes : (v : Verdict) {fs ts p q : List ℕ} → fs ≡ fromsOf w → ts ≡ tosOf w → p ≡ take count fs → q ≡ take count ts
+  pub on_routes : (v : Verdict) {fs ts p q : List ℕ} → fs ≡ froms_of w → ts ≡ tos_of w → p ≡ take count fs → q ≡ take count ts
       → Judged p q v → Judged (froms b.routes) (tos b.routes) v
-  on-routes v e f x y j =
-      let s = routes-stand w b h in
-      rw (← first-ones e x ∙ froms-are w b.routes h.within.routes s, ← first-ones f y ∙ tos-are w b.routes h.within.routes s) j
+  on_routes v e f x y j =
+      let s = routes_stand w b h in
+      rw (← first_ones e x ∙ froms_are w b.routes h.within.routes s, ← first_ones f y ∙ tos_are w b.routes h.within.routes s) j

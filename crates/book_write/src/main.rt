@@ -3,8 +3,8 @@
 // long, and takes no words. Where a read fails it prints nothing, since the front of a book may be a book; that, and an output that was not
 // written whole, it says on standard error.
 ghost use Rattle.std.specs.Prelude.{◌≡◌, suc, length};
-ghost use Rattle.record.specs.Limits.{textLimit};
-ghost use Rattle.reading.specs.Written.{mostWritten};
+ghost use Rattle.record.specs.Limits.{text_limit};
+ghost use Rattle.reading.specs.Written.{most_written};
 
 use answers::Answer;
 use book_streams::{ENOUGH, send_answer};
@@ -16,7 +16,7 @@ use streams::write_first;
 // The input, as far as there is room for it: how many bytes, or -1 where a read fails. It asks for a byte more than a text may have, no
 // more and no less, so that ENOUGH can be no other number.
 fn read_input(text: &mut [u8]) -> isize
-    requires { length text.old ≡ suc textLimit }
+    requires { length text.old ≡ suc text_limit }
 {
     let mut size: usize = 0;
     while size < text.len() {
@@ -36,7 +36,7 @@ fn read_input(text: &mut [u8]) -> isize
 // The text of a book that was taken, by way of a room that has space for any: it asks for just as many bytes as no text has more of,
 // so that the constant can be no other number. Answers whether all of the text was written.
 fn send_text(book: &[u32; BOOK_WORDS], room: &mut [u8]) -> bool
-    requires { length room.old ≡ mostWritten }
+    requires { length room.old ≡ most_written }
 {
     if let Wrote::Length(count) = book_writer::write(book, &mut *room) {
         return write_first(&*room, wide(count));

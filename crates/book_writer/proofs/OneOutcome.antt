@@ -12,22 +12,22 @@ use contract.Lifetimes.{Lfts}
 use contract.Monad.{Fun}
 use denote.Ref.{MutBor, at_last}
 use Rattle.only.specs.Only.{Only}
-use Rattle.book_writer.specs.Answers.{wroteNumber, byte_count, WriteAnswer}
+use Rattle.book_writer.specs.Answers.{wrote_number, byte_count, WriteAnswer}
 use Rattle.book_writer.specs.declared.Wrote.{Wrote}
-use Rattle.book_writer.proofs.Decided.{answered, answer-once, same-wrote}
+use Rattle.book_writer.proofs.Decided.{answered, answer_once, same_wrote}
 use Rattle.book_writer.specs.contracts.Wrote as the-answer
 use Rattle.book_writer.specs.contracts.write as write
 
 module _ {M : Type 1} {𝓤 : Ura M} (𝓛 : Logic 𝓤) (mem : Memory → SProp 𝓤) (run : Routine → Fun 𝓤) where
-  pub one-write : (κs : Lfts 2) (book room : MutBor (List ℕ))
+  pub one_write : (κs : Lfts 2) (book room : MutBor (List ℕ))
       → Only 𝓤 (λ (x : Wrote × List ℕ). (write.clauses 𝓛 mem run κs (book, (room, tt))).ensures tt x.0 (book, (at_last room x.1, tt)))
-  one-write κs book room =
+  one_write κs book room =
       let there = answered book.now room.now in
       record {
         coded = coded× (the-answer.the_row).coded (coded_list coded_ℕ);
         outcome = there.0;
-        Says = λ x. WriteAnswer book.now room.now (wroteNumber x.0) (byte_count x.0) x.1;
+        Says = λ x. WriteAnswer book.now room.now (wrote_number x.0) (byte_count x.0) x.1;
         says = λ x. refl;
         there = there.1;
-        alone = λ x h. same-wrote (answer-once book.now room.now h there.1);
+        alone = λ x h. same_wrote (answer_once book.now room.now h there.1);
       }

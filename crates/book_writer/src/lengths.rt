@@ -1,19 +1,19 @@
 // How long the text of a book is, before a byte of it is written.
 ghost use Rattle.std.specs.Prelude.{◌≡◌, true, map, ◌≤◌, length};
-ghost use Rattle.record.specs.Limits.{signalLimit, routeLimit};
-ghost use Rattle.books.specs.Words.{messagesOf, messagesTaken, routesOf};
-ghost use Rattle.reading.specs.Written.{messageLines, routeLine, linesText};
+ghost use Rattle.record.specs.Limits.{signal_limit, route_limit};
+ghost use Rattle.books.specs.Words.{messages_of, messages_taken_spec, routes_of};
+ghost use Rattle.reading.specs.Written.{message_lines, route_line, lines_text};
 ghost use Rattle.route_tables.specs.Tables.{RoutesTaken};
 ghost use Rattle.book_writer.specs.Answers.{TablesTaken, text_of};
-ghost use Rattle.book_writer.specs.ShownLines.{signalLines, routeLines};
+ghost use Rattle.book_writer.specs.ShownLines.{signal_lines, route_lines};
 
 use line_writer::{message_length, route_length, signal_length};
 use record::{BOOK_WORDS, first, wide};
 
 // Of the S lines of signals whose numbers and starts stand side by side.
 fn signals_length(numbers: &[u32], starts: &[u32]) -> u32
-    requires { (length starts.now ≡ length numbers.now) × (length numbers.now ≤ signalLimit) }
-    ensures { result ≡ length (linesText (signalLines numbers.now starts.now)) }
+    requires { (length starts.now ≡ length numbers.now) × (length numbers.now ≤ signal_limit) }
+    ensures { result ≡ length (lines_text (signal_lines numbers.now starts.now)) }
 {
     let mut sum: u32 = 0;
     let mut i: usize = 0;
@@ -26,8 +26,8 @@ fn signals_length(numbers: &[u32], starts: &[u32]) -> u32
 
 // Of the R lines of routes whose places and gateways stand side by side.
 fn routes_length(froms: &[u32], tos: &[u32], gateways: &[u32]) -> u32
-    requires { (length tos.now ≡ length froms.now) × (length gateways.now ≡ length froms.now) × (length froms.now ≤ routeLimit) }
-    ensures { result ≡ length (linesText (routeLines froms.now tos.now gateways.now)) }
+    requires { (length tos.now ≡ length froms.now) × (length gateways.now ≡ length froms.now) × (length froms.now ≤ route_limit) }
+    ensures { result ≡ length (lines_text (route_lines froms.now tos.now gateways.now)) }
 {
     let mut sum: u32 = 0;
     let mut i: usize = 0;
@@ -40,8 +40,8 @@ fn routes_length(froms: &[u32], tos: &[u32], gateways: &[u32]) -> u32
 
 // Of the M lines of a book with their S lines.
 fn message_lines_length(book: &[u32; BOOK_WORDS]) -> u32
-    requires { messagesTaken book.now ≡ true }
-    ensures { result ≡ length (linesText (messageLines (messagesOf book.now))) }
+    requires { messages_taken_spec book.now ≡ true }
+    ensures { result ≡ length (lines_text (message_lines (messages_of book.now))) }
 {
     let signals = wide(record::signal_count(book));
     let placed = signals_length(
@@ -54,7 +54,7 @@ fn message_lines_length(book: &[u32; BOOK_WORDS]) -> u32
 // Of its R lines.
 fn route_lines_length(book: &[u32; BOOK_WORDS]) -> u32
     requires { RoutesTaken book.now }
-    ensures { result ≡ length (linesText (map routeLine (routesOf book.now))) }
+    ensures { result ≡ length (lines_text (map route_line (routes_of book.now))) }
 {
     let routes = wide(record::route_count(book));
     routes_length(

@@ -1,11 +1,11 @@
 // The text of a lent book. For planners' tools and gateways that hand a book on: `write` is the call. It has no `requires`, tests all
 // tables of the book first (refusal 12), knows the text's length before it writes a byte (refusal 71), writes nothing where it refuses,
-// and what it writes is the text of the book (specs/Answers.antt), as `reading: Written bookText` has it.
+// and what it writes is the text of the book (specs/Answers.antt), as `reading: Written book_text` has it.
 mod lengths;
 mod lines;
 
 ghost use Rattle.chains.specs.Tells.{Tells};
-ghost use Rattle.book_writer.specs.Answers.{TablesTaken, wroteNumber, byte_count, WriteBy, WriteAnswer};
+ghost use Rattle.book_writer.specs.Answers.{TablesTaken, wrote_number, byte_count, WriteBy, WriteAnswer};
 
 use lengths::text_length;
 use lines::{put_message_lines, put_route_lines};
@@ -39,7 +39,7 @@ fn tables_taken(book: &[u32; BOOK_WORDS]) -> bool
 // Writes the text of a book whose tables have been tested to the front of the room.
 fn write_tested(book: &[u32; BOOK_WORDS], room: &mut [u8]) -> Wrote
     requires { TablesTaken book.now }
-    ensures { WriteBy book.now room.old (wroteNumber result) (byte_count result) room.new }
+    ensures { WriteBy book.now room.old (wrote_number result) (byte_count result) room.new }
 {
     let length = text_length(book);
     if wide(length) > room.len() {
@@ -52,7 +52,7 @@ fn write_tested(book: &[u32; BOOK_WORDS], room: &mut [u8]) -> Wrote
 
 // Writes the text of the book to the front of the room.
 pub fn write(book: &[u32; BOOK_WORDS], room: &mut [u8]) -> Wrote
-    ensures { WriteAnswer book.now room.old (wroteNumber result) (byte_count result) room.new }
+    ensures { WriteAnswer book.now room.old (wrote_number result) (byte_count result) room.new }
 {
     if !tables_taken(book) {
         return Wrote::NotABook;

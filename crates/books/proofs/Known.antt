@@ -9,29 +9,29 @@ use lib.Dec.{ltb, eqb}
 use borrow.Author.Tests.{ltb-true, eqb-true}
 use Rattle.rows.specs.declared.Row.{Row}
 use Rattle.rows.specs.Rows.{rows}
-use Rattle.catalogue.specs.Find.{row_in, row_of, bitsIn, bitsOf}
+use Rattle.catalogue.specs.Find.{row_in, row_of, bits_in_spec, bits_of_spec}
 
 -- every number of the rows is below 2,000
 small : List Row → Bool
 small [] = true
 small (r ∷ rs) = ltb r.number 2000 && small rs
 
-found-small : (n : ℕ) (rs : List Row) → small rs ≡ true → (bitsIn (row_in n rs) ≡ 0 → ⊥) → n < 2000
+found_small : (n : ℕ) (rs : List Row) → small rs ≡ true → (bits_in_spec (row_in n rs) ≡ 0 → ⊥) → n < 2000
 unfolding small
-found-small n [] s h = absurd (h refl)
-found-small n (r ∷ rs) s h = go (eqb r.number n) refl h (found-small n rs ((and-eq-true_iff (ltb r.number 2000) (small rs)).0 s).1)
+found_small n [] s h = absurd (h refl)
+found_small n (r ∷ rs) s h = go (eqb r.number n) refl h (found_small n rs ((and-eq-true_iff (ltb r.number 2000) (small rs)).0 s).1)
   where
     here : eqb r.number n ≡ true → n < 2000
     here e = omega (arith, eqb-true r.number n e, ltb-true r.number 2000 ((and-eq-true_iff (ltb r.number 2000) (small rs)).0 s).0)
 
-    go : (b : Bool) → eqb r.number n ≡ b → (◌≡◌ {A = ℕ} (bitsIn (cond b (Option.some r) (row_in n rs))) 0 → ⊥) → ((bitsIn (row_in n rs) ≡ 0 → ⊥) → n < 2000) → n < 2000
+    go : (b : Bool) → eqb r.number n ≡ b → (◌≡◌ {A = ℕ} (bits_in_spec (cond b (Option.some r) (row_in n rs))) 0 → ⊥) → ((bits_in_spec (row_in n rs) ≡ 0 → ⊥) → n < 2000) → n < 2000
     go true e h later = here e
     go false e h later = later h
 
-rows-small : small rows ≡ true
+rows_small : small rows ≡ true
 unfolding rows small
-rows-small = refl
+rows_small = refl
 
-pub known_small : (n : ℕ) → (bitsOf n ≡ 0 → ⊥) → n < 2000
-unfolding bitsOf row_of
-known_small n h = found-small n rows rows-small h
+pub known_small : (n : ℕ) → (bits_of_spec n ≡ 0 → ⊥) → n < 2000
+unfolding bits_of_spec row_of
+known_small n h = found_small n rows rows_small h

@@ -7,31 +7,31 @@ use lib.Dec.{leb}
 use lib.ListN.{length}
 use borrow.Author.Tests.{leb-false}
 use Rattle.books.specs.Book.{Route}
-use Rattle.books.specs.Lines.{routeRefusal, gatewayLimit, busLimit, identifierLimit, routeLimit}
-use Rattle.books.proofs.Tests.{not-refused, both_false}
+use Rattle.books.specs.Lines.{route_refusal, gateway_limit, bus_limit, identifier_limit, route_limit}
+use Rattle.books.proofs.Tests.{not_refused, both_false}
 
 pub record RouteAllowed (rs : List Route) (g x i y j : ℕ) : Type 0 where
-  pub gateway : g < gatewayLimit
-  pub from-bus : x < busLimit
-  pub from-identifier : i < identifierLimit
-  pub to-bus : y < busLimit
-  pub to-identifier : j < identifierLimit
-  pub few : length rs < routeLimit
+  pub gateway : g < gateway_limit
+  pub from_bus : x < bus_limit
+  pub from_identifier : i < identifier_limit
+  pub to_bus : y < bus_limit
+  pub to_identifier : j < identifier_limit
+  pub few : length rs < route_limit
 
-pub route-allowed : (rs : List Route) (g x i y j : ℕ) → routeRefusal rs g x i y j ≡ 0 → RouteAllowed rs g x i y j
-unfolding routeRefusal
-route-allowed rs g x i y j e =
-    let a = not-refused (leb gatewayLimit g || ((leb busLimit x || leb identifierLimit i) || (leb busLimit y || leb identifierLimit j))) 2 _ e in
-    let b = not-refused (leb routeLimit (length rs)) 8 0 a.1 in
-    let o = both_false (leb gatewayLimit g) ((leb busLimit x || leb identifierLimit i) || (leb busLimit y || leb identifierLimit j)) a.0 in
-    let c = both_false (leb busLimit x || leb identifierLimit i) (leb busLimit y || leb identifierLimit j) o.1 in
-    let d = both_false (leb busLimit x) (leb identifierLimit i) c.0 in
-    let f = both_false (leb busLimit y) (leb identifierLimit j) c.1 in
+pub route_allowed : (rs : List Route) (g x i y j : ℕ) → route_refusal rs g x i y j ≡ 0 → RouteAllowed rs g x i y j
+unfolding route_refusal
+route_allowed rs g x i y j e =
+    let a = not_refused (leb gateway_limit g || ((leb bus_limit x || leb identifier_limit i) || (leb bus_limit y || leb identifier_limit j))) 2 _ e in
+    let b = not_refused (leb route_limit (length rs)) 8 0 a.1 in
+    let o = both_false (leb gateway_limit g) ((leb bus_limit x || leb identifier_limit i) || (leb bus_limit y || leb identifier_limit j)) a.0 in
+    let c = both_false (leb bus_limit x || leb identifier_limit i) (leb bus_limit y || leb identifier_limit j) o.1 in
+    let d = both_false (leb bus_limit x) (leb identifier_limit i) c.0 in
+    let f = both_false (leb bus_limit y) (leb identifier_limit j) c.1 in
     record {
-      gateway = leb-false gatewayLimit g o.0;
-      from-bus = leb-false busLimit x d.0;
-      from-identifier = leb-false identifierLimit i d.1;
-      to-bus = leb-false busLimit y f.0;
-      to-identifier = leb-false identifierLimit j f.1;
-      few = leb-false routeLimit (length rs) b.0;
+      gateway = leb-false gateway_limit g o.0;
+      from_bus = leb-false bus_limit x d.0;
+      from_identifier = leb-false identifier_limit i d.1;
+      to_bus = leb-false bus_limit y f.0;
+      to_identifier = leb-false identifier_limit j f.1;
+      few = leb-false route_limit (length rs) b.0;
     }

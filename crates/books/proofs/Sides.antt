@@ -6,65 +6,65 @@ use native.Mathlib.Omega.{arith}
 use native.Mathlib.Numerals.{add-one}
 use lib.ListN.{length, get_or, drop, drop_of_length-le}
 use lib.Seq.{drop-cons}
-use Rattle.books.specs.Book.{Placement, Route, numbers, routeBy}
-use Rattle.books.specs.Words.{placementStarts, side_by_side, routesSideBySide}
+use Rattle.books.specs.Book.{Placement, Route, numbers, route_by}
+use Rattle.books.specs.Words.{placement_starts, side_by_side, routes_side_by_side}
 
-pub side-back : (ps : List Placement) → side_by_side (numbers ps) (placementStarts ps) ≡ ps
+pub side_back : (ps : List Placement) → side_by_side (numbers ps) (placement_starts ps) ≡ ps
 unfolding side_by_side
-side-back [] = refl
-side-back (p ∷ ps) = ap (◌∷◌ p) (side-back ps)
+side_back [] = refl
+side_back (p ∷ ps) = ap (◌∷◌ p) (side_back ps)
 
-pub side-length : (ns ss : List ℕ) → length ss ≡ length ns → length (side_by_side ns ss) ≡ length ns
+pub side_length : (ns ss : List ℕ) → length ss ≡ length ns → length (side_by_side ns ss) ≡ length ns
 unfolding side_by_side
-side-length [] ss e = refl
-side-length (n ∷ ns) [] e = absurd (omega (arith, e))
-side-length (n ∷ ns) (s ∷ ss) e = ap suc (side-length ns ss (omega (arith, e)))
+side_length [] ss e = refl
+side_length (n ∷ ns) [] e = absurd (omega (arith, e))
+side_length (n ∷ ns) (s ∷ ss) e = ap suc (side_length ns ss (omega (arith, e)))
 
-pub side-numbers : (ns ss : List ℕ) → length ss ≡ length ns → numbers (side_by_side ns ss) ≡ ns
+pub side_numbers : (ns ss : List ℕ) → length ss ≡ length ns → numbers (side_by_side ns ss) ≡ ns
 unfolding side_by_side
-side-numbers [] ss e = refl
-side-numbers (n ∷ ns) [] e = absurd (omega (arith, e))
-side-numbers (n ∷ ns) (s ∷ ss) e = ap (◌∷◌ n) (side-numbers ns ss (omega (arith, e)))
+side_numbers [] ss e = refl
+side_numbers (n ∷ ns) [] e = absurd (omega (arith, e))
+side_numbers (n ∷ ns) (s ∷ ss) e = ap (◌∷◌ n) (side_numbers ns ss (omega (arith, e)))
 
-pub side-starts : (ns ss : List ℕ) → length ss ≡ length ns → placementStarts (side_by_side ns ss) ≡ ss
+pub side_starts : (ns ss : List ℕ) → length ss ≡ length ns → placement_starts (side_by_side ns ss) ≡ ss
 unfolding side_by_side
-side-starts [] [] e = refl
-side-starts [] (s ∷ ss) e = absurd (omega (arith, e))
-side-starts (n ∷ ns) [] e = absurd (omega (arith, e))
-side-starts (n ∷ ns) (s ∷ ss) e = ap (◌∷◌ s) (side-starts ns ss (omega (arith, e)))
+side_starts [] [] e = refl
+side_starts [] (s ∷ ss) e = absurd (omega (arith, e))
+side_starts (n ∷ ns) [] e = absurd (omega (arith, e))
+side_starts (n ∷ ns) (s ∷ ss) e = ap (◌∷◌ s) (side_starts ns ss (omega (arith, e)))
 
 -- a list from i on, where i is within it
 pub from : (l : List ℕ) (i : ℕ) → i < length l → drop i l ≡ get_or l i 0 ∷ drop (i + 1) l
 from l i h = drop-cons l i 0 h ∙ ap (λ (k : ℕ). get_or l i 0 ∷ drop k l) (sym (add-one i))
 
 -- ---- placements from i on
-abbrev pub placementAt : List ℕ → List ℕ → ℕ → Placement
-placementAt ns ss i = record { number = get_or ns i 0; start = get_or ss i 0 }
+abbrev pub placement_at : List ℕ → List ℕ → ℕ → Placement
+placement_at ns ss i = record { number = get_or ns i 0; start = get_or ss i 0 }
 
 abbrev pub rest : List ℕ → List ℕ → ℕ → List Placement
 rest ns ss i = side_by_side (drop i ns) (drop i ss)
 
-pub rest_more : (ns ss : List ℕ) (i : ℕ) → i < length ns → length ss ≡ length ns → rest ns ss i ≡ placementAt ns ss i ∷ rest ns ss (i + 1)
+pub rest_more : (ns ss : List ℕ) (i : ℕ) → i < length ns → length ss ≡ length ns → rest ns ss i ≡ placement_at ns ss i ∷ rest ns ss (i + 1)
 unfolding side_by_side
 rest_more ns ss i h e =
     ap (λ (l : List ℕ). side_by_side l (drop i ss)) (from ns i h) ∙ ap (λ (l : List ℕ). side_by_side (get_or ns i 0 ∷ drop (i + 1) ns) l) (from ss i (omega arith))
 
-pub rest-none : (ns ss : List ℕ) (i : ℕ) → length ns ≤ i → rest ns ss i ≡ []
+pub rest_none : (ns ss : List ℕ) (i : ℕ) → length ns ≤ i → rest ns ss i ≡ []
 unfolding side_by_side
-rest-none ns ss i h = ap (λ (l : List ℕ). side_by_side l (drop i ss)) (drop_of_length-le ns h)
+rest_none ns ss i h = ap (λ (l : List ℕ). side_by_side l (drop i ss)) (drop_of_length-le ns h)
 
 -- ---- routes from i on
-abbrev pub routesFromOn : List ℕ → List ℕ → List ℕ → ℕ → List Route
-routesFromOn fs ts gs i = routesSideBySide (drop i fs) (drop i ts) (drop i gs)
+abbrev pub routes_from_on : List ℕ → List ℕ → List ℕ → ℕ → List Route
+routes_from_on fs ts gs i = routes_side_by_side (drop i fs) (drop i ts) (drop i gs)
 
-pub routes-more : (fs ts gs : List ℕ) (i : ℕ) → i < length fs → length ts ≡ length fs → length gs ≡ length fs
-    → routesFromOn fs ts gs i ≡ routeBy (get_or gs i 0) (get_or fs i 0) (get_or ts i 0) ∷ routesFromOn fs ts gs (i + 1)
-unfolding routesSideBySide
-routes-more fs ts gs i h e k =
-    ap (λ (l : List ℕ). routesSideBySide l (drop i ts) (drop i gs)) (from fs i h) ∙
-    ap (λ (l : List ℕ). routesSideBySide (get_or fs i 0 ∷ drop (i + 1) fs) l (drop i gs)) (from ts i (omega arith)) ∙
-    ap (λ (l : List ℕ). routesSideBySide (get_or fs i 0 ∷ drop (i + 1) fs) (get_or ts i 0 ∷ drop (i + 1) ts) l) (from gs i (omega arith))
+pub routes_more : (fs ts gs : List ℕ) (i : ℕ) → i < length fs → length ts ≡ length fs → length gs ≡ length fs
+    → routes_from_on fs ts gs i ≡ route_by (get_or gs i 0) (get_or fs i 0) (get_or ts i 0) ∷ routes_from_on fs ts gs (i + 1)
+unfolding routes_side_by_side
+routes_more fs ts gs i h e k =
+    ap (λ (l : List ℕ). routes_side_by_side l (drop i ts) (drop i gs)) (from fs i h) ∙
+    ap (λ (l : List ℕ). routes_side_by_side (get_or fs i 0 ∷ drop (i + 1) fs) l (drop i gs)) (from ts i (omega arith)) ∙
+    ap (λ (l : List ℕ). routes_side_by_side (get_or fs i 0 ∷ drop (i + 1) fs) (get_or ts i 0 ∷ drop (i + 1) ts) l) (from gs i (omega arith))
 
-pub no-routes-left : (fs ts gs : List ℕ) (i : ℕ) → length fs ≤ i → routesFromOn fs ts gs i ≡ []
-unfolding routesSideBySide
-no-routes-left fs ts gs i h = ap (λ (l : List ℕ). routesSideBySide l (drop i ts) (drop i gs)) (drop_of_length-le fs h)
+pub no_routes_left : (fs ts gs : List ℕ) (i : ℕ) → length fs ≤ i → routes_from_on fs ts gs i ≡ []
+unfolding routes_side_by_side
+no_routes_left fs ts gs i h = ap (λ (l : List ℕ). routes_side_by_side l (drop i ts) (drop i gs)) (drop_of_length-le fs h)

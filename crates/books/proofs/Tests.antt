@@ -16,9 +16,9 @@ pub nor : (a b : Bool) → a ≡ false → b ≡ false → a || b ≡ false
 nor a b e f = (or-eq-false-eq-eq-false-and-eq-false a b).1 (e, f)
 
 -- a refusal that does not come: its test fails, and what stands after it is 0
-pub not-refused : (t : Bool) (n m : ℕ) → cond t (suc n) m ≡ 0 → (t ≡ false) × (m ≡ 0)
-not-refused true n m e = let z : suc n ≡ 0 = e in absurd (omega arith)
-not-refused false n m e = (refl, e)
+pub not_refused : (t : Bool) (n m : ℕ) → cond t (suc n) m ≡ 0 → (t ≡ false) × (m ≡ 0)
+not_refused true n m e = let z : suc n ≡ 0 = e in absurd (omega arith)
+not_refused false n m e = (refl, e)
 
-pub no-refusal : (t : Bool) (n m : ℕ) → t ≡ false → m ≡ 0 → cond t n m ≡ 0
-no-refusal t n m e f = rw (e, f) refl
+pub no_refusal : (t : Bool) (n m : ℕ) → t ≡ false → m ≡ 0 → cond t n m ≡ 0
+no_refusal t n m e f = rw (e, f) refl

@@ -1,6 +1,6 @@
 -- What a route book holds: its messages with their signals, and its routes, each in book order. Assumes nothing: these are definitions.
 use Rattle.std.specs.Prelude.{ℕ, List, [], ◌∷◌, ◌++◌, map}
-use Rattle.record.specs.Place.{placeKey}
+use Rattle.record.specs.Place.{place_key}
 
 -- an `S` line: a signal of the catalogue, and the frame bit where it starts
 pub record Placement : Type 0 where
@@ -19,16 +19,16 @@ pub record Route : Type 0 where
   pub to : ℕ
 
 -- a route, by its gateway and the places that it leads from and to: the one way in which a route is made
-abbrev pub routeBy : ℕ → ℕ → ℕ → Route
-routeBy g p q = record { gateway = g; from = p; to = q }
+abbrev pub route_by : ℕ → ℕ → ℕ → Route
+route_by g p q = record { gateway = g; from = p; to = q }
 
 pub record Book : Type 0 where
   pub messages : List Message
   pub routes : List Route
 
 -- the empty book
-abbrev pub noBook : Book
-noBook = record { messages = []; routes = [] }
+abbrev pub no_book : Book
+no_book = record { messages = []; routes = [] }
 
 abbrev pub identifiers : List Message → List ℕ
 identifiers ms = map (λ (m : Message). m.identifier) ms
@@ -37,42 +37,42 @@ abbrev pub numbers : List Placement → List ℕ
 numbers ps = map (λ (p : Placement). p.number) ps
 
 -- all placements of the book, message after message
-unfoldable pub allPlacements : List Message → List Placement
-allPlacements [] = []
-allPlacements (m ∷ ms) = m.placements ++ allPlacements ms
+unfoldable pub all_placements : List Message → List Placement
+all_placements [] = []
+all_placements (m ∷ ms) = m.placements ++ all_placements ms
 
 -- a message that has no signals yet
 abbrev pub fresh : ℕ → Message
 fresh i = record { identifier = i; placements = [] }
 
-abbrev pub withPlacement : Message → Placement → Message
-withPlacement m p = record { identifier = m.identifier; placements = m.placements ++ (p ∷ []) }
+abbrev pub with_placement : Message → Placement → Message
+with_placement m p = record { identifier = m.identifier; placements = m.placements ++ (p ∷ []) }
 
 -- an `S` line belongs to the nearest `M` above: the last message so far
-unfoldable pub inLast : List Message → Placement → List Message
-inLast [] p = []
-inLast (m ∷ []) p = withPlacement m p ∷ []
-inLast (m ∷ n ∷ ms) p = m ∷ inLast (n ∷ ms) p
+unfoldable pub in_last : List Message → Placement → List Message
+in_last [] p = []
+in_last (m ∷ []) p = with_placement m p ∷ []
+in_last (m ∷ n ∷ ms) p = m ∷ in_last (n ∷ ms) p
 
 -- the placements of the last message so far
-unfoldable pub lastPlacements : List Message → List Placement
-lastPlacements [] = []
-lastPlacements (m ∷ []) = m.placements
-lastPlacements (m ∷ n ∷ ms) = lastPlacements (n ∷ ms)
+unfoldable pub last_placements : List Message → List Placement
+last_placements [] = []
+last_placements (m ∷ []) = m.placements
+last_placements (m ∷ n ∷ ms) = last_placements (n ∷ ms)
 
 -- what the numbers of an `S` line and of an `R` line make
 abbrev pub placement : ℕ → ℕ → Placement
 placement n s = record { number = n; start = s }
 
 abbrev pub route : ℕ → ℕ → ℕ → ℕ → ℕ → Route
-route g a i b j = routeBy g (placeKey a i) (placeKey b j)
+route g a i b j = route_by g (place_key a i) (place_key b j)
 
 -- the book with an `M`, an `S`, an `R` line more
-abbrev pub withMessage : Book → ℕ → Book
-withMessage b i = record { messages = b.messages ++ (fresh i ∷ []); routes = b.routes }
+abbrev pub with_message : Book → ℕ → Book
+with_message b i = record { messages = b.messages ++ (fresh i ∷ []); routes = b.routes }
 
-abbrev pub withSignal : Book → Placement → Book
-withSignal b p = record { messages = inLast b.messages p; routes = b.routes }
+abbrev pub with_signal : Book → Placement → Book
+with_signal b p = record { messages = in_last b.messages p; routes = b.routes }
 
-abbrev pub withRoute : Book → Route → Book
-withRoute b r = record { messages = b.messages; routes = b.routes ++ (r ∷ []) }
+abbrev pub with_route : Book → Route → Book
+with_route b r = record { messages = b.messages; routes = b.routes ++ (r ∷ []) }

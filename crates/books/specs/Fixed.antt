@@ -2,15 +2,15 @@
 use Rattle.std.specs.Prelude.{ℕ}
 
 -- the checksum of a message
-abbrev pub checksumNumber : ℕ
-checksumNumber = 503
+abbrev pub checksum_number : ℕ
+checksum_number = 503
 
-abbrev pub checksumStart : ℕ
-checksumStart = 60
+abbrev pub checksum_start : ℕ
+checksum_start = 60
 
 -- the counter of a message
-abbrev pub counterNumber : ℕ
-counterNumber = 504
+abbrev pub counter_number : ℕ
+counter_number = 504
 
-abbrev pub counterStart : ℕ
-counterStart = 56
+abbrev pub counter_start : ℕ
+counter_start = 56

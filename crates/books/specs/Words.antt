@@ -1,9 +1,9 @@
 -- How a book stands in its words: counts, then columns, each filled up with 0; and which words are those of a taken book.
 -- Assumes nothing: these are definitions.
 use Rattle.std.specs.Prelude.{◌≡◌, ℕ, ◌+◌, ◌-◌, Bool, true, false, ◌&&◌, List, [], ◌∷◌, ◌++◌, map, eqb, length, take, drop, replicate}
-use Rattle.record.specs.Columns.{messageCountOf, signalCountOf, routeCountOf, ids_of, endsOf, numbersOf, startsOf, fromsOf, tosOf, gatewaysOf, messageColumnsOf, routeColumnsOf}
-use Rattle.books.specs.Book.{Placement, Message, Route, Book, identifiers, numbers, allPlacements, placement, routeBy}
-use Rattle.books.specs.Lines.{messageLimit, signalLimit, routeLimit}
+use Rattle.record.specs.Columns.{message_count_of, signal_count_of, route_count_of, ids_of, ends_of, numbers_of, starts_of, froms_of, tos_of, gateways_of, message_columns_of, route_columns_of}
+use Rattle.books.specs.Book.{Placement, Message, Route, Book, identifiers, numbers, all_placements, placement, route_by}
+use Rattle.books.specs.Lines.{message_limit, signal_limit, route_limit}
 use Rattle.books.specs.Good.{good}
 use Rattle.books.specs.Built.{Built}
 
@@ -11,29 +11,29 @@ use Rattle.books.specs.Built.{Built}
 unfoldable pub column : ℕ → List ℕ → List ℕ
 column n l = l ++ replicate (n - length l) 0
 
-abbrev pub placementStarts : List Placement → List ℕ
-placementStarts ps = map (λ (p : Placement). p.start) ps
+abbrev pub placement_starts : List Placement → List ℕ
+placement_starts ps = map (λ (p : Placement). p.start) ps
 
 -- for each message, how many signals there are up to its last one, n before them
-unfoldable pub endsAfter : ℕ → List Message → List ℕ
-endsAfter n [] = []
-endsAfter n (m ∷ ms) = (n + length m.placements) ∷ endsAfter (n + length m.placements) ms
+unfoldable pub ends_after : ℕ → List Message → List ℕ
+ends_after n [] = []
+ends_after n (m ∷ ms) = (n + length m.placements) ∷ ends_after (n + length m.placements) ms
 
 -- the columns of the messages
-abbrev pub idColumn : List Message → List ℕ
-idColumn ms = column messageLimit (identifiers ms)
+abbrev pub id_column : List Message → List ℕ
+id_column ms = column message_limit (identifiers ms)
 
-abbrev pub endColumn : List Message → List ℕ
-endColumn ms = column messageLimit (endsAfter 0 ms)
+abbrev pub end_column : List Message → List ℕ
+end_column ms = column message_limit (ends_after 0 ms)
 
-abbrev pub numberColumn : List Message → List ℕ
-numberColumn ms = column signalLimit (numbers (allPlacements ms))
+abbrev pub number_column : List Message → List ℕ
+number_column ms = column signal_limit (numbers (all_placements ms))
 
-abbrev pub startColumn : List Message → List ℕ
-startColumn ms = column signalLimit (placementStarts (allPlacements ms))
+abbrev pub start_column : List Message → List ℕ
+start_column ms = column signal_limit (placement_starts (all_placements ms))
 
-unfoldable pub messageColumns : List Message → List ℕ
-messageColumns ms = idColumn ms ++ (endColumn ms ++ (numberColumn ms ++ startColumn ms))
+unfoldable pub message_columns : List Message → List ℕ
+message_columns ms = id_column ms ++ (end_column ms ++ (number_column ms ++ start_column ms))
 
 -- the places that routes lead from, those they lead to, and the gateways that carry them, and their columns
 abbrev pub froms : List Route → List ℕ
@@ -45,31 +45,31 @@ tos rs = map (λ (r : Route). r.to) rs
 abbrev pub gateways : List Route → List ℕ
 gateways rs = map (λ (r : Route). r.gateway) rs
 
-abbrev pub fromColumn : List Route → List ℕ
-fromColumn rs = column routeLimit (froms rs)
+abbrev pub from_column : List Route → List ℕ
+from_column rs = column route_limit (froms rs)
 
-abbrev pub toColumn : List Route → List ℕ
-toColumn rs = column routeLimit (tos rs)
+abbrev pub to_column : List Route → List ℕ
+to_column rs = column route_limit (tos rs)
 
-abbrev pub gatewayColumn : List Route → List ℕ
-gatewayColumn rs = column routeLimit (gateways rs)
+abbrev pub gateway_column : List Route → List ℕ
+gateway_column rs = column route_limit (gateways rs)
 
 -- columns, one after the other
-unfoldable pub columnsJoined : List (List ℕ) → List ℕ
-columnsJoined [] = []
-columnsJoined (c ∷ cs) = c ++ columnsJoined cs
+unfoldable pub columns_joined : List (List ℕ) → List ℕ
+columns_joined [] = []
+columns_joined (c ∷ cs) = c ++ columns_joined cs
 
 -- the columns of the routes
-abbrev pub routeColumnList : List Route → List (List ℕ)
-routeColumnList rs = fromColumn rs ∷ toColumn rs ∷ gatewayColumn rs ∷ []
+abbrev pub route_column_list : List Route → List (List ℕ)
+route_column_list rs = from_column rs ∷ to_column rs ∷ gateway_column rs ∷ []
 
-unfoldable pub routeColumns : List Route → List ℕ
-routeColumns rs = columnsJoined (routeColumnList rs)
+unfoldable pub route_columns : List Route → List ℕ
+route_columns rs = columns_joined (route_column_list rs)
 
 unfoldable pub words_of : Book → List ℕ
 words_of b =
-    length b.messages ∷ length (allPlacements b.messages) ∷ length b.routes ∷
-    (messageColumns b.messages ++ routeColumns b.routes)
+    length b.messages ∷ length (all_placements b.messages) ∷ length b.routes ∷
+    (message_columns b.messages ++ route_columns b.routes)
 
 -- the placements whose numbers and starts stand side by side
 unfoldable pub side_by_side : List ℕ → List ℕ → List Placement
@@ -85,10 +85,10 @@ shown n (i ∷ is) [] ps = []
 shown n (i ∷ is) (e ∷ es) ps = record { identifier = i; placements = take (e - n) ps } ∷ shown e is es (drop (e - n) ps)
 
 -- the messages that words show: as many as are counted, by the columns
-unfoldable pub messagesOf : List ℕ → List Message
-messagesOf w =
-    shown 0 (take (messageCountOf w) (ids_of w)) (take (messageCountOf w) (endsOf w))
-    (side_by_side (take (signalCountOf w) (numbersOf w)) (take (signalCountOf w) (startsOf w)))
+unfoldable pub messages_of : List ℕ → List Message
+messages_of w =
+    shown 0 (take (message_count_of w) (ids_of w)) (take (message_count_of w) (ends_of w))
+    (side_by_side (take (signal_count_of w) (numbers_of w)) (take (signal_count_of w) (starts_of w)))
 
 -- the test whether two lists have the same numbers in the same order
 unfoldable pub same : List ℕ → List ℕ → Bool
@@ -98,41 +98,41 @@ same (x ∷ xs) [] = false
 same (x ∷ xs) (y ∷ ys) = eqb x y && same xs ys
 
 -- the message and signal tables are those of a taken book: the words stand as the messages that they show would, and these are good
-unfoldable pub messagesTaken : List ℕ → Bool
-messagesTaken w =
-    (eqb (messageCountOf w) (length (messagesOf w)) && (eqb (signalCountOf w) (length (allPlacements (messagesOf w))) &&
-    same (messageColumnsOf w) (messageColumns (messagesOf w)))) &&
-    good (messagesOf w)
+unfoldable pub messages_taken_spec : List ℕ → Bool
+messages_taken_spec w =
+    (eqb (message_count_of w) (length (messages_of w)) && (eqb (signal_count_of w) (length (all_placements (messages_of w))) &&
+    same (message_columns_of w) (message_columns (messages_of w)))) &&
+    good (messages_of w)
 
 -- the messages stand in the words: their counts and their columns. The routes are not asked.
 pub record Stands (w : List ℕ) (ms : List Message) : Type 0 where
-  pub messages : messageCountOf w ≡ length ms
-  pub signals : signalCountOf w ≡ length (allPlacements ms)
-  pub columns : messageColumnsOf w ≡ messageColumns ms
+  pub messages : message_count_of w ≡ length ms
+  pub signals : signal_count_of w ≡ length (all_placements ms)
+  pub columns : message_columns_of w ≡ message_columns ms
 
 -- the routes stand in the words: their count and their columns. The messages are not asked.
 pub record RoutesStand (w : List ℕ) (rs : List Route) : Type 0 where
-  pub count : routeCountOf w ≡ length rs
-  pub columns : routeColumnsOf w ≡ routeColumns rs
+  pub count : route_count_of w ≡ length rs
+  pub columns : route_columns_of w ≡ route_columns rs
 
 -- the routes whose places and gateways stand side by side
-unfoldable pub routesSideBySide : List ℕ → List ℕ → List ℕ → List Route
-routesSideBySide [] ts gs = []
-routesSideBySide (f ∷ fs) [] gs = []
-routesSideBySide (f ∷ fs) (t ∷ ts) [] = []
-routesSideBySide (f ∷ fs) (t ∷ ts) (g ∷ gs) = routeBy g f t ∷ routesSideBySide fs ts gs
+unfoldable pub routes_side_by_side : List ℕ → List ℕ → List ℕ → List Route
+routes_side_by_side [] ts gs = []
+routes_side_by_side (f ∷ fs) [] gs = []
+routes_side_by_side (f ∷ fs) (t ∷ ts) [] = []
+routes_side_by_side (f ∷ fs) (t ∷ ts) (g ∷ gs) = route_by g f t ∷ routes_side_by_side fs ts gs
 
 -- the routes that words show: as many as are counted, by the columns
-unfoldable pub routesOf : List ℕ → List Route
-routesOf w =
-    routesSideBySide (take (routeCountOf w) (fromsOf w)) (take (routeCountOf w) (tosOf w)) (take (routeCountOf w) (gatewaysOf w))
+unfoldable pub routes_of : List ℕ → List Route
+routes_of w =
+    routes_side_by_side (take (route_count_of w) (froms_of w)) (take (route_count_of w) (tos_of w)) (take (route_count_of w) (gateways_of w))
 
 -- the book that words show
-abbrev pub bookOf : List ℕ → Book
-bookOf w = record { messages = messagesOf w; routes = routesOf w }
+abbrev pub book_of : List ℕ → Book
+book_of w = record { messages = messages_of w; routes = routes_of w }
 
 -- refusal 12 for the message and signal tables, exactly: they are those of messages that lines build
 pub record OfBuilt (w : List ℕ) : Type 0 where
-  pub shown-messages : List Message
-  pub built : Built shown-messages
-  pub stand : Stands w shown-messages
+  pub shown_messages : List Message
+  pub built : Built shown_messages
+  pub stand : Stands w shown_messages

@@ -12,9 +12,9 @@ use lib.ListN.{length, get_or}
 use borrow.Author.Tests.{eqb-true, eqb-false}
 use Rattle.rows.specs.declared.Row.{Row}
 use Rattle.rows.specs.Rows.{rows, blank}
-use Rattle.rows.specs.Rule.{Rule, mostBits}
-use Rattle.catalogue.specs.Find.{row_in, row_of, bitsIn, bitsOf, HasRow}
-use Rattle.rows.proofs.Whole.{all-kept}
+use Rattle.rows.specs.Rule.{Rule, most_bits}
+use Rattle.catalogue.specs.Find.{row_in, row_of, bits_in_spec, bits_of_spec, HasRow}
+use Rattle.rows.proofs.Whole.{all_kept}
 
 -- ---- in any table
 
@@ -28,14 +28,14 @@ module _ (n : ℕ) (r : Row) (rs : List Row) where
   later e f zero h k = eqb-false r.number n e k
   later e f (suc i) h k = f i (le_of_suc-le-suc h) k
 
-  here-or-later : (b : Bool) (o : Option Row) → eqb r.number n ≡ b → FoundIn n rs o → FoundIn n (r ∷ rs) (cond b (some r) o)
-  here-or-later true o e f = (0, (omega arith, (refl, eqb-true r.number n e)))
-  here-or-later false (some r') e f = (suc f.0, (suc-le-suc f.1.0, f.1.1))
-  here-or-later false none e f = later e f
+  here_or_later : (b : Bool) (o : Option Row) → eqb r.number n ≡ b → FoundIn n rs o → FoundIn n (r ∷ rs) (cond b (some r) o)
+  here_or_later true o e f = (0, (omega arith, (refl, eqb-true r.number n e)))
+  here_or_later false (some r') e f = (suc f.0, (suc-le-suc f.1.0, f.1.1))
+  here_or_later false none e f = later e f
 
 found_in : (n : ℕ) (rs : List Row) → FoundIn n rs (row_in n rs)
 found_in n [] = λ i h k. not-suc-le-zero h
-found_in n (r ∷ rs) = here-or-later n r rs (eqb r.number n) (row_in n rs) refl (found_in n rs)
+found_in n (r ∷ rs) = here_or_later n r rs (eqb r.number n) (row_in n rs) refl (found_in n rs)
 
 -- ---- in the catalogue
 
@@ -48,21 +48,21 @@ abbrev pub RuleOf : Option Row → Type 0
 RuleOf none = Unit
 RuleOf (some r) = Rule r
 
-pub rule-of : (n : ℕ) → RuleOf (row_of n)
-rule-of n = go (row_of n) (found n)
+pub rule_of : (n : ℕ) → RuleOf (row_of n)
+rule_of n = go (row_of n) (found n)
   where
     go : (o : Option Row) → FoundIn n rows o → RuleOf o
     go none f = tt
-    go (some r) f = subst Rule f.1.1.0 (all-kept.rule f.0 f.1.0)
+    go (some r) f = subst Rule f.1.1.0 (all_kept.rule f.0 f.1.0)
 
-few : (o : Option Row) → RuleOf o → bitsIn o ≤ mostBits
+few : (o : Option Row) → RuleOf o → bits_in_spec o ≤ most_bits
 few none rule = omega arith
 few (some r) rule = rule.few_bits
 
 -- no signal has more than 32 bits
-pub few_bits : (n : ℕ) → bitsOf n ≤ mostBits
-unfolding bitsOf
-few_bits n = few (row_of n) (rule-of n)
+pub few_bits : (n : ℕ) → bits_of_spec n ≤ most_bits
+unfolding bits_of_spec
+few_bits n = few (row_of n) (rule_of n)
 
 -- ---- a number is not in the catalogue exactly where no row has it
 
@@ -77,14 +77,14 @@ module _ (n : ℕ) where
       go none f = refl
       go (some r) f = absurd (lacks (f.0, (f.1.0, ap (λ (x : Row). x.number) f.1.1.0 ∙ f.1.1.1)))
 
-  pub zero_bits : (HasRow n → ⊥) → bitsOf n ≡ 0
-  unfolding bitsOf
-  zero_bits lacks = ap bitsIn (no_row lacks)
+  pub zero_bits : (HasRow n → ⊥) → bits_of_spec n ≡ 0
+  unfolding bits_of_spec
+  zero_bits lacks = ap bits_in_spec (no_row lacks)
 
-  pub none-has-zero : bitsOf n ≡ 0 → HasRow n → ⊥
-  unfolding bitsOf
-  none-has-zero e has = go (row_of n) (found n) (rule-of n) e
+  pub none_has_zero : bits_of_spec n ≡ 0 → HasRow n → ⊥
+  unfolding bits_of_spec
+  none_has_zero e has = go (row_of n) (found n) (rule_of n) e
     where
-      go : (o : Option Row) → FoundIn n rows o → RuleOf o → bitsIn o ≡ 0 → ⊥
+      go : (o : Option Row) → FoundIn n rows o → RuleOf o → bits_in_spec o ≡ 0 → ⊥
       go none f rule z = f has.0 has.1.0 has.1.1
       go (some r) f rule z = let some_bits = rule.some_bits in omega (arith, z, some_bits)

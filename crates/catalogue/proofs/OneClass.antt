@@ -12,61 +12,61 @@ use Rattle.catalogue.specs.declared.Thousandths.{Thousandths}
 use Rattle.catalogue.specs.declared.Class.{Class}
 use Rattle.catalogue.specs.declared.Class.TheVariants.{Value, Invalid, Absent, Error, Reserved, Outside, NotInCatalogue, TooWide}
 use Rattle.catalogue.specs.Find.{row_of}
-use Rattle.catalogue.specs.Class.{between, has, markClass, markedBy, or_else, reading_of, classIn, classFor, classOf, classNumber}
-use Rattle.catalogue.specs.Belongs.{In, Gives, Belongs, by-mark1, by-mark2, by-mark3, as-value, as-outside}
-use Rattle.catalogue.proofs.Found.{RuleOf, rule-of}
-use Rattle.catalogue.proofs.Marks.{yes-between, is-between, not-between, none_between, of-kind, MarkSays, mark-says}
+use Rattle.catalogue.specs.Class.{between, has, mark_class, marked_by, or_else, reading_of, class_in_spec, class_for, class_of_spec, class_number}
+use Rattle.catalogue.specs.Belongs.{In, Gives, Belongs, by_mark1, by_mark2, by_mark3, as_value, as_outside}
+use Rattle.catalogue.proofs.Found.{RuleOf, rule_of}
+use Rattle.catalogue.proofs.Marks.{yes_between, is_between, not_between, none_between, of_kind_law, MarkSays, mark_says}
 
 -- ---- a count belongs to its class, and to no other
 
 module _ (r : Row) (raw : Raw) where
-  belongs-by : (o1 o2 o3 : Option Class) (b : Bool) → MarkSays raw r.mark1 o1 → MarkSays raw r.mark2 o2 → MarkSays raw r.mark3 o3 → between r.lowest r.highest raw.0 ≡ b
+  belongs_by : (o1 o2 o3 : Option Class) (b : Bool) → MarkSays raw r.mark1 o1 → MarkSays raw r.mark2 o2 → MarkSays raw r.mark3 o3 → between r.lowest r.highest raw.0 ≡ b
       → Belongs r raw (or_else o1 (or_else o2 (or_else o3 (cond b (Value (reading_of r raw)) (Outside raw)))))
-  belongs-by (some k) o2 o3 b s1 s2 s3 e = by-mark1 s1
-  belongs-by none (some k) o3 b s1 s2 s3 e = by-mark2 s2
-  belongs-by none none (some k) b s1 s2 s3 e = by-mark3 s3
-  belongs-by none none none true s1 s2 s3 e = as-value (record { from1 = s1; from2 = s2; from3 = s3 }) (yes-between r.lowest r.highest raw.0 e)
-  belongs-by none none none false s1 s2 s3 e = as-outside (record { from1 = s1; from2 = s2; from3 = s3 }) (none_between r.lowest r.highest raw.0 e)
+  belongs_by (some k) o2 o3 b s1 s2 s3 e = by_mark1 s1
+  belongs_by none (some k) o3 b s1 s2 s3 e = by_mark2 s2
+  belongs_by none none (some k) b s1 s2 s3 e = by_mark3 s3
+  belongs_by none none none true s1 s2 s3 e = as_value (record { from1 = s1; from2 = s2; from3 = s3 }) (yes_between r.lowest r.highest raw.0 e)
+  belongs_by none none none false s1 s2 s3 e = as_outside (record { from1 = s1; from2 = s2; from3 = s3 }) (none_between r.lowest r.highest raw.0 e)
 
-  yes-in : (m : Mark) → In m raw → has m raw ≡ true
-  yes-in m h = is-between m.first m.last raw.0 h
+  yes_in : (m : Mark) → In m raw → has m raw ≡ true
+  yes_in m h = is_between m.first m.last raw.0 h
 
   not_in : (m : Mark) → (In m raw → ⊥) → has m raw ≡ false
-  not_in m h = not-between m.first m.last raw.0 h
+  not_in m h = not_between m.first m.last raw.0 h
 
   module _ (rule : Rule r) where
-    pub belongs : Belongs r raw (classIn r raw)
+    pub belongs : Belongs r raw (class_in_spec r raw)
     belongs =
-        belongs-by (markedBy r.mark1 raw) (markedBy r.mark2 raw) (markedBy r.mark3 raw) (between r.lowest r.highest raw.0)
-        (mark-says raw r.mark1 rule.mark1-kind) (mark-says raw r.mark2 rule.mark2-kind) (mark-says raw r.mark3 rule.mark3-kind) refl
+        belongs_by (marked_by r.mark1 raw) (marked_by r.mark2 raw) (marked_by r.mark3 raw) (between r.lowest r.highest raw.0)
+        (mark_says raw r.mark1 rule.mark1_kind) (mark_says raw r.mark2 rule.mark2_kind) (mark_says raw r.mark3 rule.mark3_kind) refl
 
     -- a mark wins over the range, whichever of the three it is
     module _ {k : Class} where
-      pub mark1-wins : Gives r.mark1 raw k → classIn r raw ≡ k
-      mark1-wins h = simp (yes-in r.mark1 h.0, h.1)
+      pub mark1_wins : Gives r.mark1 raw k → class_in_spec r raw ≡ k
+      mark1_wins h = simp (yes_in r.mark1 h.0, h.1)
 
-      pub mark2-wins : Gives r.mark2 raw k → classIn r raw ≡ k
-      mark2-wins h =
-          simp (not_in r.mark1 (λ i. rule.apart12 raw.0 i.0 i.1 h.0.0 h.0.1), yes-in r.mark2 h.0, h.1)
+      pub mark2_wins : Gives r.mark2 raw k → class_in_spec r raw ≡ k
+      mark2_wins h =
+          simp (not_in r.mark1 (λ i. rule.apart12 raw.0 i.0 i.1 h.0.0 h.0.1), yes_in r.mark2 h.0, h.1)
 
-      pub mark3-wins : Gives r.mark3 raw k → classIn r raw ≡ k
-      mark3-wins h =
+      pub mark3_wins : Gives r.mark3 raw k → class_in_spec r raw ≡ k
+      mark3_wins h =
           simp (
             not_in r.mark1 (λ i. rule.apart13 raw.0 i.0 i.1 h.0.0 h.0.1),
             not_in r.mark2 (λ i. rule.apart23 raw.0 i.0 i.1 h.0.0 h.0.1),
-            yes-in r.mark3 h.0,
+            yes_in r.mark3 h.0,
             h.1,
           )
 
     -- no count belongs to two classes
-    pub one_class : {k : Class} → Belongs r raw k → k ≡ classIn r raw
-    one_class (by-mark1 h) = sym (mark1-wins h)
-    one_class (by-mark2 h) = sym (mark2-wins h)
-    one_class (by-mark3 h) = sym (mark3-wins h)
-    one_class (as-value f h) =
-        simp (not_in r.mark1 f.from1, not_in r.mark2 f.from2, not_in r.mark3 f.from3, is-between r.lowest r.highest raw.0 h)
-    one_class (as-outside f h) =
-        simp (not_in r.mark1 f.from1, not_in r.mark2 f.from2, not_in r.mark3 f.from3, not-between r.lowest r.highest raw.0 h)
+    pub one_class : {k : Class} → Belongs r raw k → k ≡ class_in_spec r raw
+    one_class (by_mark1 h) = sym (mark1_wins h)
+    one_class (by_mark2 h) = sym (mark2_wins h)
+    one_class (by_mark3 h) = sym (mark3_wins h)
+    one_class (as_value f h) =
+        simp (not_in r.mark1 f.from1, not_in r.mark2 f.from2, not_in r.mark3 f.from3, is_between r.lowest r.highest raw.0 h)
+    one_class (as_outside f h) =
+        simp (not_in r.mark1 f.from1, not_in r.mark2 f.from2, not_in r.mark3 f.from3, not_between r.lowest r.highest raw.0 h)
 
 -- ---- what holds of every class that a row can give
 
@@ -75,12 +75,12 @@ module _ (P : Class → Type 0) (raw : Raw) (invalid : P (Invalid raw)) (absent 
   OfSome none = Unit
   OfSome (some k) = P k
 
-  if-marked : (o : Option Class) (b : Bool) → OfSome o → OfSome (cond b o none)
-  if-marked o true p = p
-  if-marked o false p = tt
+  if_marked : (o : Option Class) (b : Bool) → OfSome o → OfSome (cond b o none)
+  if_marked o true p = p
+  if_marked o false p = tt
 
-  of-mark : (m : Mark) → OfSome (markedBy m raw)
-  of-mark m = if-marked (markClass m.kind raw) (has m raw) (of-kind raw OfSome invalid absent error reserved tt m.kind)
+  of_mark : (m : Mark) → OfSome (marked_by m raw)
+  of_mark m = if_marked (mark_class m.kind raw) (has m raw) (of_kind_law raw OfSome invalid absent error reserved tt m.kind)
 
   -- a class, or that of the range
   of_either : (o : Option Class) (k : Class) → OfSome o → P k → P (or_else o k)
@@ -91,39 +91,39 @@ module _ (P : Class → Type 0) (raw : Raw) (invalid : P (Invalid raw)) (absent 
   of_range true t v o = v
   of_range false t v o = o
 
-  pub of-class : (r : Row) → P (Value (reading_of r raw)) → P (Outside raw) → P (classIn r raw)
-  of-class r value outside =
-      of_either (markedBy r.mark1 raw) _ (of-mark r.mark1)
-      (of_either (markedBy r.mark2 raw) _ (of-mark r.mark2)
-      (of_either (markedBy r.mark3 raw) _ (of-mark r.mark3)
+  pub of_class : (r : Row) → P (Value (reading_of r raw)) → P (Outside raw) → P (class_in_spec r raw)
+  of_class r value outside =
+      of_either (marked_by r.mark1 raw) _ (of_mark r.mark1)
+      (of_either (marked_by r.mark2 raw) _ (of_mark r.mark2)
+      (of_either (marked_by r.mark3 raw) _ (of_mark r.mark3)
       (of_range (between r.lowest r.highest raw.0) (reading_of r raw) value outside)))
 
 -- none of them is a refusal
-pub not-refused : (raw : Raw) (r : Row) → classNumber (classIn r raw) ≡ 0
-not-refused raw r = of-class (λ k. classNumber k ≡ 0) raw refl refl refl refl r refl refl
+pub not_refused : (raw : Raw) (r : Row) → class_number (class_in_spec r raw) ≡ 0
+not_refused raw r = of_class (λ k. class_number k ≡ 0) raw refl refl refl refl r refl refl
 
 -- ---- by the signal's number
 
 module _ (n : ℕ) (raw : Raw) where
-  pub no-signal : row_of n ≡ none → classOf n raw ≡ NotInCatalogue
-  unfolding classOf
-  no-signal e = ap (λ (o : Option Row). classFor o raw) e
+  pub no_signal : row_of n ≡ none → class_of_spec n raw ≡ NotInCatalogue
+  unfolding class_of_spec
+  no_signal e = ap (λ (o : Option Row). class_for o raw) e
 
   module _ (r : Row) (e : row_of n ≡ some r) where
     pub rule_found : Rule r
-    rule_found = subst RuleOf e (rule-of n)
+    rule_found = subst RuleOf e (rule_of n)
 
-    pub too_wide : 2 ^ r.bits ≤ raw.0 → classOf n raw ≡ TooWide
-    unfolding classOf
-    too_wide h = ap (λ (o : Option Row). classFor o raw) e ∙ simp (le-leb (2 ^ r.bits) raw.0 h)
+    pub too_wide : 2 ^ r.bits ≤ raw.0 → class_of_spec n raw ≡ TooWide
+    unfolding class_of_spec
+    too_wide h = ap (λ (o : Option Row). class_for o raw) e ∙ simp (le-leb (2 ^ r.bits) raw.0 h)
 
     -- a count that fits has a class, and belongs to no other
-    pub in_row : raw.0 < 2 ^ r.bits → classOf n raw ≡ classIn r raw
-    unfolding classOf
-    in_row h = ap (λ (o : Option Row). classFor o raw) e ∙ simp (lt-leb (2 ^ r.bits) raw.0 h)
+    pub in_row : raw.0 < 2 ^ r.bits → class_of_spec n raw ≡ class_in_spec r raw
+    unfolding class_of_spec
+    in_row h = ap (λ (o : Option Row). class_for o raw) e ∙ simp (lt-leb (2 ^ r.bits) raw.0 h)
 
-    pub has-class : raw.0 < 2 ^ r.bits → Belongs r raw (classOf n raw)
-    has-class h = subst (Belongs r raw) (sym (in_row h)) (belongs r raw rule_found)
+    pub has_class : raw.0 < 2 ^ r.bits → Belongs r raw (class_of_spec n raw)
+    has_class h = subst (Belongs r raw) (sym (in_row h)) (belongs r raw rule_found)
 
-    pub only-class : raw.0 < 2 ^ r.bits → {k : Class} → Belongs r raw k → k ≡ classOf n raw
-    only-class h b = one_class r raw rule_found b ∙ sym (in_row h)
+    pub only_class : raw.0 < 2 ^ r.bits → {k : Class} → Belongs r raw k → k ≡ class_of_spec n raw
+    only_class h b = one_class r raw rule_found b ∙ sym (in_row h)

@@ -11,9 +11,9 @@ use lib.ListN.{length, get_or, length-map}
 use borrow.Author.Tests.{eqb-true, eqb-false, ne_eqb, leb-true, le-leb, lt-leb, ltb-true, ltb-false}
 use Rattle.rows.specs.declared.Row.{Row}
 use Rattle.rows.specs.Rows.{rows}
-use Rattle.rows.specs.Widths.{widthsOf}
-use Rattle.catalogue.specs.Find.{row_in, row_of, bitsIn, bitsOf}
-use Rattle.catalogue.specs.Places.{place_in, place_of, noPlace, numberLimit, hundred, surpluses, bounds, Placed}
+use Rattle.rows.specs.Widths.{widths_of}
+use Rattle.catalogue.specs.Find.{row_in, row_of, bits_in_spec, bits_of_spec}
+use Rattle.catalogue.specs.Places.{place_in, place_of, no_place_spec, number_limit, hundred, surpluses, bounds, Placed}
 use Rattle.catalogue.specs.declared.places.Place.{Place}
 use Rattle.catalogue.specs.declared.places.Place.TheVariants.{At, Nowhere}
 
@@ -23,12 +23,12 @@ all_below zero p = true
 all_below (suc k) p = p k && all_below k p
 
 abbrev pub computed : ℕ → ℕ
-computed n = cond (leb (get_or bounds (hundred n) 0) (n - get_or surpluses (hundred n) 0)) noPlace (n - get_or surpluses (hundred n) 0)
+computed n = cond (leb (get_or bounds (hundred n) 0) (n - get_or surpluses (hundred n) 0)) no_place_spec (n - get_or surpluses (hundred n) 0)
 
 abbrev tested : ℕ → Bool
-tested n = leb (get_or surpluses (hundred n) 0) n && (leb (get_or bounds (hundred n) 0) noPlace && eqb (computed n) (place_of n))
+tested n = leb (get_or surpluses (hundred n) 0) n && (leb (get_or bounds (hundred n) 0) no_place_spec && eqb (computed n) (place_of n))
 
-all_tested : all_below numberLimit tested ≡ true
+all_tested : all_below number_limit tested ≡ true
 unfolding all_below place_of rows
 all_tested = refl
 
@@ -43,52 +43,52 @@ every p (suc k) n t h =
     go true e at below = ap p (eqb-true n k e) ∙ at
     go false e at below = below (lt_of_le-ne (omega arith) (eqb-false n k e))
 
-module _ (n : ℕ) (h : n < numberLimit) where
-  first-tested : (leb (get_or surpluses (hundred n) 0) n ≡ true) × (leb (get_or bounds (hundred n) 0) noPlace && eqb (computed n) (place_of n) ≡ true)
-  first-tested = (and-eq-true_iff (leb (get_or surpluses (hundred n) 0) n) _).0 (every tested numberLimit n all_tested h)
+module _ (n : ℕ) (h : n < number_limit) where
+  first_tested : (leb (get_or surpluses (hundred n) 0) n ≡ true) × (leb (get_or bounds (hundred n) 0) no_place_spec && eqb (computed n) (place_of n) ≡ true)
+  first_tested = (and-eq-true_iff (leb (get_or surpluses (hundred n) 0) n) _).0 (every tested number_limit n all_tested h)
 
-  then-tested : (leb (get_or bounds (hundred n) 0) noPlace ≡ true) × (eqb (computed n) (place_of n) ≡ true)
-  then-tested = (and-eq-true_iff (leb (get_or bounds (hundred n) 0) noPlace) _).0 first-tested.1
+  then_tested : (leb (get_or bounds (hundred n) 0) no_place_spec ≡ true) × (eqb (computed n) (place_of n) ≡ true)
+  then_tested = (and-eq-true_iff (leb (get_or bounds (hundred n) 0) no_place_spec) _).0 first_tested.1
 
-  pub surplus-within : get_or surpluses (hundred n) 0 ≤ n
-  surplus-within = leb-true _ _ first-tested.0
+  pub surplus_within : get_or surpluses (hundred n) 0 ≤ n
+  surplus_within = leb-true _ _ first_tested.0
 
-  pub bound-within : get_or bounds (hundred n) 0 ≤ noPlace
-  bound-within = leb-true _ _ then-tested.0
+  pub bound_within : get_or bounds (hundred n) 0 ≤ no_place_spec
+  bound_within = leb-true _ _ then_tested.0
 
-  pub computed-place : computed n ≡ place_of n
-  computed-place = eqb-true _ _ then-tested.1
+  pub computed_place : computed n ≡ place_of n
+  computed_place = eqb-true _ _ then_tested.1
 
 -- ---- the numbers are below the limit
-allUnder : List Row → Bool
-allUnder [] = true
-allUnder (r ∷ rs) = ltb r.number numberLimit && allUnder rs
+all_under : List Row → Bool
+all_under [] = true
+all_under (r ∷ rs) = ltb r.number number_limit && all_under rs
 
-none_above : (n : ℕ) (rs : List Row) → numberLimit ≤ n → allUnder rs ≡ true → place_in n rs ≡ length rs
-unfolding allUnder
+none_above : (n : ℕ) (rs : List Row) → number_limit ≤ n → all_under rs ≡ true → place_in n rs ≡ length rs
+unfolding all_under
 none_above n [] h t = refl
 none_above n (r ∷ rs) h t =
-    let both = (and-eq-true_iff (ltb r.number numberLimit) (allUnder rs)).0 t in
-    let below = ltb-true r.number numberLimit both.0 in
+    let both = (and-eq-true_iff (ltb r.number number_limit) (all_under rs)).0 t in
+    let below = ltb-true r.number number_limit both.0 in
     ap (λ (b : Bool). cond b 0 (suc (place_in n rs))) (ne_eqb r.number n (λ e. omega (arith, e))) ∙ ap suc (none_above n rs h both.1)
 
-pub place-above : (n : ℕ) → numberLimit ≤ n → place_of n ≡ noPlace
-unfolding place_of rows allUnder
-place-above n h = none_above n rows h refl
+pub place_above : (n : ℕ) → number_limit ≤ n → place_of n ≡ no_place_spec
+unfolding place_of rows all_under
+place_above n h = none_above n rows h refl
 
 -- ---- what stands at a place
-bits_in : (n : ℕ) (rs : List Row) → get_or (widthsOf rs) (place_in n rs) 0 ≡ bitsIn (row_in n rs)
+bits_in : (n : ℕ) (rs : List Row) → get_or (widths_of rs) (place_in n rs) 0 ≡ bits_in_spec (row_in n rs)
 bits_in n [] = refl
 bits_in n (r ∷ rs) = go (eqb r.number n) (bits_in n rs)
   where
-    go : (b : Bool) → get_or (widthsOf rs) (place_in n rs) 0 ≡ bitsIn (row_in n rs)
-        → get_or (widthsOf (r ∷ rs)) (cond b 0 (suc (place_in n rs))) 0 ≡ bitsIn (cond b (some r) (row_in n rs))
+    go : (b : Bool) → get_or (widths_of rs) (place_in n rs) 0 ≡ bits_in_spec (row_in n rs)
+        → get_or (widths_of (r ∷ rs)) (cond b 0 (suc (place_in n rs))) 0 ≡ bits_in_spec (cond b (some r) (row_in n rs))
     go true later = refl
     go false later = later
 
-pub bits-there : (n : ℕ) → get_or (widthsOf rows) (place_of n) 0 ≡ bitsOf n
-unfolding place_of bitsOf row_of
-bits-there n = bits_in n rows
+pub bits_there : (n : ℕ) → get_or (widths_of rows) (place_of n) 0 ≡ bits_of_spec n
+unfolding place_of bits_of_spec row_of
+bits_there n = bits_in n rows
 
 number_in : (n : ℕ) (rs : List Row) → place_in n rs < length rs → get_or (map (λ (r : Row). r.number) rs) (place_in n rs) 0 ≡ n
 number_in n [] h = absurd (omega arith)
@@ -100,52 +100,52 @@ number_in n (r ∷ rs) h = go (eqb r.number n) refl h (number_in n rs)
     go true e l later = eqb-true _ _ e
     go false e l later = later (omega (arith, l))
 
-pub long : length rows ≡ noPlace
+pub long : length rows ≡ no_place_spec
 unfolding rows
 long = refl
 
-number-there : (n : ℕ) → place_of n < noPlace → get_or (map (λ (r : Row). r.number) rows) (place_of n) 0 ≡ n
+number_there : (n : ℕ) → place_of n < no_place_spec → get_or (map (λ (r : Row). r.number) rows) (place_of n) 0 ≡ n
 unfolding place_of
-number-there n h = number_in n rows (subst (λ (k : ℕ). place_in n rows < k) (sym long) h)
+number_there n h = number_in n rows (subst (λ (k : ℕ). place_in n rows < k) (sym long) h)
 
 -- a place is that of one number
-pub one_number : (n m : ℕ) → place_of n ≡ place_of m → place_of m < noPlace → n ≡ m
+pub one_number : (n m : ℕ) → place_of n ≡ place_of m → place_of m < no_place_spec → n ≡ m
 one_number n m e h =
-    let g : place_of n < noPlace = omega (arith, e, h) in
-    sym (number-there n g) ∙ ap (λ (p : ℕ). get_or (map (λ (r : Row). r.number) rows) p 0) e ∙ number-there m h
+    let g : place_of n < no_place_spec = omega (arith, e, h) in
+    sym (number_there n g) ∙ ap (λ (p : ℕ). get_or (map (λ (r : Row). r.number) rows) p 0) e ∙ number_there m h
 
 -- ---- what the code does with the columns lent to it
-module _ (above : List ℕ) (n k : ℕ) (column : above ≡ surpluses) (h : n < numberLimit) (at : k ≡ hundred n) where
+module _ (above : List ℕ) (n k : ℕ) (column : above ≡ surpluses) (h : n < number_limit) (at : k ≡ hundred n) where
   few : k < 20
   few = let below : n < 2000 = h in omega (arith, at, below)
 
-  pub in-above : k < length above
-  in-above = rw column few
+  pub in_above : k < length above
+  in_above = rw column few
 
   pub no_less : get_or above k 0 ≤ n
-  no_less = rw (column, at) (surplus-within n h)
+  no_less = rw (column, at) (surplus_within n h)
 
   module _ (ends : List ℕ) (ends-column : ends ≡ bounds) where
-    pub in-ends : k < length ends
-    in-ends = rw ends-column few
+    pub in_ends : k < length ends
+    in_ends = rw ends-column few
 
     module _ (bound : ℕ) (b : bound ≡ get_or ends k 0) where
-      told : cond (leb bound (n - get_or above k 0)) noPlace (n - get_or above k 0) ≡ place_of n
-      told = rw (b, column, ends-column, at) (computed-place n h)
+      told : cond (leb bound (n - get_or above k 0)) no_place_spec (n - get_or above k 0) ≡ place_of n
+      told = rw (b, column, ends-column, at) (computed_place n h)
 
-      pub past-it : bound ≤ n - get_or above k 0 → place_of n ≡ noPlace
-      past-it p = sym told ∙ ap (λ (t : Bool). cond t noPlace (n - get_or above k 0)) (le-leb bound (n - get_or above k 0) p)
+      pub past_it : bound ≤ n - get_or above k 0 → place_of n ≡ no_place_spec
+      past_it p = sym told ∙ ap (λ (t : Bool). cond t no_place_spec (n - get_or above k 0)) (le-leb bound (n - get_or above k 0) p)
 
-      pub there : n - get_or above k 0 < bound → (n - get_or above k 0 ≡ place_of n) × (n - get_or above k 0 < noPlace)
+      pub there : n - get_or above k 0 < bound → (n - get_or above k 0 ≡ place_of n) × (n - get_or above k 0 < no_place_spec)
       there p =
-          let most : bound ≤ noPlace = rw (b, ends-column, at) (bound-within n h) in
-          (ap (λ (t : Bool). cond t noPlace (n - get_or above k 0)) (sym (lt-leb bound (n - get_or above k 0) p)) ∙ told, omega (arith, p, most))
+          let most : bound ≤ no_place_spec = rw (b, ends-column, at) (bound_within n h) in
+          (ap (λ (t : Bool). cond t no_place_spec (n - get_or above k 0)) (sym (lt-leb bound (n - get_or above k 0) p)) ∙ told, omega (arith, p, most))
 
 -- ---- what is found
-pub at_place : (n : ℕ) (r : Place) (p : ℕ) → Placed n r → r ≡ At p → (p ≡ place_of n) × (p < noPlace)
+pub at_place : (n : ℕ) (r : Place) (p : ℕ) → Placed n r → r ≡ At p → (p ≡ place_of n) × (p < no_place_spec)
 at_place n r p h e = subst (λ (x : Place). Placed n x) e h
 
-pub nowhere : (n : ℕ) (r : Place) → Placed n r → r ≡ Nowhere → place_of n ≡ noPlace
+pub nowhere : (n : ℕ) (r : Place) → Placed n r → r ≡ Nowhere → place_of n ≡ no_place_spec
 nowhere n r h e = subst (λ (x : Place). Placed n x) e h
 
 -- there is one, and it is the only one
@@ -157,16 +157,16 @@ most n (r ∷ rs) = go (eqb r.number n) (most n rs)
     go true h = omega arith
     go false h = omega (arith, h)
 
-place-most : (n : ℕ) → place_of n ≤ noPlace
+place_most : (n : ℕ) → place_of n ≤ no_place_spec
 unfolding place_of
-place-most n = subst (λ (k : ℕ). place_in n rows ≤ k) long (most n rows)
+place_most n = subst (λ (k : ℕ). place_in n rows ≤ k) long (most n rows)
 
-pub found-place : (n : ℕ) → (r : Place) × Placed n r
-found-place n = go (ltb (place_of n) noPlace) refl
+pub found_place : (n : ℕ) → (r : Place) × Placed n r
+found_place n = go (ltb (place_of n) no_place_spec) refl
   where
-    go : (b : Bool) → ltb (place_of n) noPlace ≡ b → (r : Place) × Placed n r
+    go : (b : Bool) → ltb (place_of n) no_place_spec ≡ b → (r : Place) × Placed n r
     go true e = (At (place_of n), (refl, ltb-true _ _ e))
-    go false e = let past = ltb-false (place_of n) noPlace e in (Nowhere, omega (arith, past, place-most n))
+    go false e = let past = ltb-false (place_of n) no_place_spec e in (Nowhere, omega (arith, past, place_most n))
 
 pub one_place : (n : ℕ) (r s : Place) → Placed n r → Placed n s → r ≡ s
 one_place n (At p) (At q) h k = ap At (h.0 ∙ sym k.0)
@@ -175,32 +175,32 @@ one_place n Nowhere (At q) h k = absurd (omega (arith, h, k.0, k.1))
 one_place n Nowhere Nowhere h k = refl
 
 -- ---- bits at a place
-pub no_bits : (n : ℕ) → place_of n ≡ noPlace → bitsOf n ≡ 0
+pub no_bits : (n : ℕ) → place_of n ≡ no_place_spec → bits_of_spec n ≡ 0
 unfolding rows
-no_bits n e = sym (bits-there n) ∙ ap (λ (p : ℕ). get_or (widthsOf rows) p 0) e
+no_bits n e = sym (bits_there n) ∙ ap (λ (p : ℕ). get_or (widths_of rows) p 0) e
 
-allWide : List Row → Bool
-allWide [] = true
-allWide (r ∷ rs) = ltb 0 r.bits && allWide rs
+all_wide : List Row → Bool
+all_wide [] = true
+all_wide (r ∷ rs) = ltb 0 r.bits && all_wide rs
 
-wide_at : (rs : List Row) (p : ℕ) → allWide rs ≡ true → p < length rs → 0 < get_or (widthsOf rs) p 0
-unfolding allWide
+wide_at : (rs : List Row) (p : ℕ) → all_wide rs ≡ true → p < length rs → 0 < get_or (widths_of rs) p 0
+unfolding all_wide
 wide_at [] p t h = absurd (omega arith)
-wide_at (r ∷ rs) zero t h = ltb-true 0 r.bits ((and-eq-true_iff (ltb 0 r.bits) (allWide rs)).0 t).0
-wide_at (r ∷ rs) (suc p) t h = wide_at rs p ((and-eq-true_iff (ltb 0 r.bits) (allWide rs)).0 t).1 (omega (arith, h))
+wide_at (r ∷ rs) zero t h = ltb-true 0 r.bits ((and-eq-true_iff (ltb 0 r.bits) (all_wide rs)).0 t).0
+wide_at (r ∷ rs) (suc p) t h = wide_at rs p ((and-eq-true_iff (ltb 0 r.bits) (all_wide rs)).0 t).1 (omega (arith, h))
 
-all-wide : allWide rows ≡ true
-unfolding allWide rows
-all-wide = refl
+all_wide_law : all_wide rows ≡ true
+unfolding all_wide rows
+all_wide_law = refl
 
 -- what is read there is the signal's bits, and there are some
-module _ (widths : List ℕ) (n p : ℕ) (column : widths ≡ widthsOf rows) (place : (p ≡ place_of n) × (p < noPlace)) where
-  pub in-widths : p < length widths
-  in-widths = rw column (subst (λ (k : ℕ). p < k) (sym (length-map rows (λ (r : Row). r.bits) ∙ long)) place.1)
+module _ (widths : List ℕ) (n p : ℕ) (column : widths ≡ widths_of rows) (place : (p ≡ place_of n) × (p < no_place_spec)) where
+  pub in_widths : p < length widths
+  in_widths = rw column (subst (λ (k : ℕ). p < k) (sym (length-map rows (λ (r : Row). r.bits) ∙ long)) place.1)
 
   module _ (b : ℕ) (e : b ≡ get_or widths p 0) where
-    pub its-bits : b ≡ bitsOf n
-    its-bits = e ∙ (rw (column, place.0) (bits-there n))
+    pub its_bits : b ≡ bits_of_spec n
+    its_bits = e ∙ (rw (column, place.0) (bits_there n))
 
     pub has_some : 0 < b
-    has_some = rw (e, column) (wide_at rows p all-wide (subst (λ (k : ℕ). p < k) (sym long) place.1))
+    has_some = rw (e, column) (wide_at rows p all_wide_law (subst (λ (k : ℕ). p < k) (sym long) place.1))

@@ -15,24 +15,24 @@ use Rattle.rows.specs.declared.Row.{Row}
 use Rattle.rows.specs.Rows.{rows}
 use Rattle.rows.specs.Rule.{Rule}
 use Rattle.rows.specs.PrintedLimits.{PrintedLimits}
-use Rattle.rows.specs.RawLimits.{limitsOf, RawLimits}
+use Rattle.rows.specs.RawLimits.{limits_of, RawLimits}
 use Rattle.rows.proofs.Whole.{count}
-use Rattle.rows.proofs.Limits.{raw-limits}
+use Rattle.rows.proofs.Limits.{raw_limits}
 use Rattle.catalogue.specs.declared.Raw.{Raw}
 use Rattle.catalogue.specs.declared.Thousandths.{Thousandths}
 use Rattle.catalogue.specs.declared.Class.{Class}
 use Rattle.catalogue.specs.declared.Class.TheVariants.{Value, Invalid, Absent, Error, Reserved, Outside, NotInCatalogue, TooWide}
 use Rattle.catalogue.specs.Find.{row_of}
-use Rattle.catalogue.specs.Class.{markClass, reading_of, classIn, classFor, classOf, classNumber}
-use Rattle.catalogue.specs.Belongs.{WithinLimits, Belongs, by-mark1, by-mark2, by-mark3, as-value, as-outside}
-use Rattle.catalogue.proofs.Found.{FoundIn, found, RuleOf, rule-of}
-use Rattle.catalogue.proofs.Marks.{of-kind}
+use Rattle.catalogue.specs.Class.{mark_class, reading_of, class_in_spec, class_for, class_of_spec, class_number}
+use Rattle.catalogue.specs.Belongs.{WithinLimits, Belongs, by_mark1, by_mark2, by_mark3, as_value, as_outside}
+use Rattle.catalogue.proofs.Found.{FoundIn, found, RuleOf, rule_of}
+use Rattle.catalogue.proofs.Marks.{of_kind_law}
 use Rattle.catalogue.proofs.OneClass.{belongs}
 
 -- a + z is no larger than a and z together
-pub mag-add : (a : ℕ) (z : ℤ) → mag (pos a +ℤ z) ≤ a + nat_abs z
-mag-add a (pos b) = le_refl (a + b)
-mag-add a (negsuc b) = go (ltb a (suc b))
+pub mag_add : (a : ℕ) (z : ℤ) → mag (pos a +ℤ z) ≤ a + nat_abs z
+mag_add a (pos b) = le_refl (a + b)
+mag_add a (negsuc b) = go (ltb a (suc b))
   where
     go : (t : Bool) → mag (cond t (negsuc (suc b - suc a)) (pos (a - suc b))) ≤ a + suc b
     go true = omega arith
@@ -60,10 +60,10 @@ less (negsuc a) (negsuc b) t = le→leb b a (le_of_lt (ltb→lt b a t))
 module _ (r : Row) (rule : Rule r) where
   -- a higher count reads higher
   pub rising : (raw raw' : Raw) → raw.0 < raw'.0 → (reading_of r raw).0 <ℤ (reading_of r raw').0
-  rising raw raw' h = shift (raw.0 * r.resolution) (raw'.0 * r.resolution) r.offset (mul-lt-mul_of_pos_right h rule.some-step)
+  rising raw raw' h = shift (raw.0 * r.resolution) (raw'.0 * r.resolution) r.offset (mul-lt-mul_of_pos_right h rule.some_step)
 
-  not-falling : (raw raw' : Raw) → raw.0 ≤ raw'.0 → (reading_of r raw).0 ≤ℤ (reading_of r raw').0
-  not-falling raw raw' h = ⊎_elim same higher (eq-or-lt_of_le h)
+  not_falling : (raw raw' : Raw) → raw.0 ≤ raw'.0 → (reading_of r raw).0 ≤ℤ (reading_of r raw').0
+  not_falling raw raw' h = ⊎_elim same higher (eq-or-lt_of_le h)
     where
       same : raw.0 ≡ raw'.0 → (reading_of r raw).0 ≤ℤ (reading_of r raw').0
       same e = subst (λ (n : ℕ). (reading_of r raw).0 ≤ℤ (pos (n * r.resolution) +ℤ r.offset)) e (≤ℤ_refl (reading_of r raw).0)
@@ -90,45 +90,45 @@ module _ (r : Row) (rule : Rule r) (raw : Raw) where
   ByMark none = Unit
   ByMark (some k) = Reads r raw k
 
-  by-mark : (kind : ℕ) {k : Class} → markClass kind raw ≡ some k → Reads r raw k
+  by_mark : (kind : ℕ) {k : Class} → mark_class kind raw ≡ some k → Reads r raw k
   unfolding ByMark
-  by-mark kind e = subst ByMark e (of-kind raw ByMark tt tt tt tt tt kind)
+  by_mark kind e = subst ByMark e (of_kind_law raw ByMark tt tt tt tt tt kind)
 
   reads : {k : Class} → Belongs r raw k → Reads r raw k
-  reads (by-mark1 h) = by-mark r.mark1.kind h.1
-  reads (by-mark2 h) = by-mark r.mark2.kind h.1
-  reads (by-mark3 h) = by-mark r.mark3.kind h.1
-  reads (as-value f h) = (h, refl)
-  reads (as-outside f h) = tt
+  reads (by_mark1 h) = by_mark r.mark1.kind h.1
+  reads (by_mark2 h) = by_mark r.mark2.kind h.1
+  reads (by_mark3 h) = by_mark r.mark3.kind h.1
+  reads (as_value f h) = (h, refl)
+  reads (as_outside f h) = tt
 
-  reads-or-wide : (b : Bool) → Reads r raw (cond b TooWide (classIn r raw))
-  reads-or-wide true = tt
-  reads-or-wide false = reads (belongs r raw rule)
+  reads_or_wide : (b : Bool) → Reads r raw (cond b TooWide (class_in_spec r raw))
+  reads_or_wide true = tt
+  reads_or_wide false = reads (belongs r raw rule)
 
-  value-reads : (t : Thousandths) → classFor (some r) raw ≡ Value t → WithinLimits r raw × (t ≡ reading_of r raw)
-  value-reads t e = subst (Reads r raw) e (reads-or-wide (leb (2 ^ r.bits) raw.0))
+  value_reads : (t : Thousandths) → class_for (some r) raw ≡ Value t → WithinLimits r raw × (t ≡ reading_of r raw)
+  value_reads t e = subst (Reads r raw) e (reads_or_wide (leb (2 ^ r.bits) raw.0))
 
   -- a value's reading lies between those of the raw limits
-  pub within-limits : (t : Thousandths) → classFor (some r) raw ≡ Value t → ((reading_of r (record { 0 = r.lowest })).0 ≤ℤ t.0) × (t.0 ≤ℤ (reading_of r (record { 0 = r.highest })).0)
-  within-limits t e =
-      let v = value-reads t e in (
-        subst (λ (x : Thousandths). (reading_of r (record { 0 = r.lowest })).0 ≤ℤ x.0) (sym v.1) (not-falling r rule (record { 0 = r.lowest }) raw v.0.0),
-        subst (λ (x : Thousandths). x.0 ≤ℤ (reading_of r (record { 0 = r.highest })).0) (sym v.1) (not-falling r rule raw (record { 0 = r.highest }) v.0.1),
+  pub within_limits : (t : Thousandths) → class_for (some r) raw ≡ Value t → ((reading_of r (record { 0 = r.lowest })).0 ≤ℤ t.0) × (t.0 ≤ℤ (reading_of r (record { 0 = r.highest })).0)
+  within_limits t e =
+      let v = value_reads t e in (
+        subst (λ (x : Thousandths). (reading_of r (record { 0 = r.lowest })).0 ≤ℤ x.0) (sym v.1) (not_falling r rule (record { 0 = r.lowest }) raw v.0.0),
+        subst (λ (x : Thousandths). x.0 ≤ℤ (reading_of r (record { 0 = r.highest })).0) (sym v.1) (not_falling r rule raw (record { 0 = r.highest }) v.0.1),
       )
 
   -- and between the printed ones, which these are
-  within-those : (t : Thousandths) (p : PrintedLimits) → RawLimits r (some p) → classFor (some r) raw ≡ Value t → (p.lowest ≤ℤ t.0) × (t.0 ≤ℤ p.highest)
-  within-those t p limits e =
-      let v = within-limits t e in
+  within_those : (t : Thousandths) (p : PrintedLimits) → RawLimits r (some p) → class_for (some r) raw ≡ Value t → (p.lowest ≤ℤ t.0) × (t.0 ≤ℤ p.highest)
+  within_those t p limits e =
+      let v = within_limits t e in
       (subst (λ (z : ℤ). z ≤ℤ t.0) limits.0.reads v.0, subst (λ (z : ℤ). t.0 ≤ℤ z) limits.1.reads v.1)
 
 -- a signal's value lies between the limits that are printed for it
-pub within-printed : (n : ℕ) (raw : Raw) (t : Thousandths) (p : PrintedLimits) → classOf n raw ≡ Value t → limitsOf n ≡ some p → (p.lowest ≤ℤ t.0) × (t.0 ≤ℤ p.highest)
-unfolding classOf
-within-printed n raw t p e printed = go (row_of n) (found n) (rule-of n) e
+pub within_printed : (n : ℕ) (raw : Raw) (t : Thousandths) (p : PrintedLimits) → class_of_spec n raw ≡ Value t → limits_of n ≡ some p → (p.lowest ≤ℤ t.0) × (t.0 ≤ℤ p.highest)
+unfolding class_of_spec
+within_printed n raw t p e printed = go (row_of n) (found n) (rule_of n) e
   where
-    go : (o : Option Row) → FoundIn n rows o → RuleOf o → classFor o raw ≡ Value t → (p.lowest ≤ℤ t.0) × (t.0 ≤ℤ p.highest)
-    go none f rule k = absurd (omega (arith, ap classNumber k))
+    go : (o : Option Row) → FoundIn n rows o → RuleOf o → class_for o raw ≡ Value t → (p.lowest ≤ℤ t.0) × (t.0 ≤ℤ p.highest)
+    go none f rule k = absurd (omega (arith, ap class_number k))
     go (some r) f rule k =
-        let here : RawLimits r (limitsOf r.number) = subst (λ (x : Row). RawLimits x (limitsOf x.number)) f.1.1.0 (raw-limits f.0 (subst (λ (m : ℕ). f.0 < m) count f.1.0)) in
-        within-those r rule raw t p (subst (RawLimits r) (ap limitsOf f.1.1.1 ∙ printed) here) k
+        let here : RawLimits r (limits_of r.number) = subst (λ (x : Row). RawLimits x (limits_of x.number)) f.1.1.0 (raw_limits f.0 (subst (λ (m : ℕ). f.0 < m) count f.1.0)) in
+        within_those r rule raw t p (subst (RawLimits r) (ap limits_of f.1.1.1 ∙ printed) here) k

@@ -13,13 +13,13 @@ row_in n (r ∷ rs) = cond (eqb r.number n) (some r) (row_in n rs)
 unfoldable pub row_of : ℕ → Option Row
 row_of n = row_in n rows
 
-abbrev pub bitsIn : Option Row → ℕ
-bitsIn none = 0
-bitsIn (some r) = r.bits
+abbrev pub bits_in_spec : Option Row → ℕ
+bits_in_spec none = 0
+bits_in_spec (some r) = r.bits
 
 -- the bits of the signal with the number n; 0 where the catalogue has no such signal
-unfoldable pub bitsOf : ℕ → ℕ
-bitsOf n = bitsIn (row_of n)
+unfoldable pub bits_of_spec : ℕ → ℕ
+bits_of_spec n = bits_in_spec (row_of n)
 
 -- a row of the catalogue has the number n
 abbrev pub HasRow : ℕ → Type 0

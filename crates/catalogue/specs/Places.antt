@@ -3,7 +3,7 @@
 use Rattle.std.specs.Prelude.{◌≡◌, cond, List, [], ◌∷◌, ℕ, suc, ◌*◌, ◌/◌, ◌<◌, eqb}
 use Rattle.rows.specs.declared.Row.{Row}
 use Rattle.rows.specs.Rows.{rows}
-use Rattle.rows.specs.Widths.{widthsOf, lastStartsOf}
+use Rattle.rows.specs.Widths.{widths_of, last_starts_of}
 use Rattle.catalogue.specs.declared.places.Place.{Place}
 use Rattle.catalogue.specs.declared.places.Place.TheVariants.{At, Nowhere}
 
@@ -17,24 +17,24 @@ unfoldable pub place_of : ℕ → ℕ
 place_of n = place_in n rows
 
 -- how many places there are; as a place it is that of no signal
-abbrev pub noPlace : ℕ
-noPlace = 199
+abbrev pub no_place_spec : ℕ
+no_place_spec = 199
 
 -- the places of the checksum, 503, and of the counter, 504
-abbrev pub checksumPlace : ℕ
-checksumPlace = 49
+abbrev pub checksum_place : ℕ
+checksum_place = 49
 
-abbrev pub counterPlace : ℕ
-counterPlace = 50
+abbrev pub counter_place : ℕ
+counter_place = 50
 
 -- what is found by the number n: the place of that signal, or nothing where the catalogue has no such signal
 abbrev pub Placed : ℕ → Place → Type 0
-Placed n (At p) = (p ≡ place_of n) × (p < noPlace)
-Placed n Nowhere = place_of n ≡ noPlace
+Placed n (At p) = (p ≡ place_of n) × (p < no_place_spec)
+Placed n Nowhere = place_of n ≡ no_place_spec
 
 -- all numbers are below
-abbrev pub numberLimit : ℕ
-numberLimit = 2000
+abbrev pub number_limit : ℕ
+number_limit = 2000
 
 -- the hundred of a number, one for each of 1 to 100, 101 to 200 and so on
 abbrev pub hundred : ℕ → ℕ
@@ -50,9 +50,9 @@ bounds = 0 ∷ 0 ∷ 10 ∷ 39 ∷ 47 ∷ 62 ∷ 67 ∷ 77 ∷ 85 ∷ 92 ∷ 95 
 -- the columns by which a signal's place and bits are found, lent: these are the table's
 pub record TableColumns (above ends widths : List ℕ) : Type 0 where
   pub places : (above ≡ surpluses) × (ends ≡ bounds)
-  pub bits : widths ≡ widthsOf rows
+  pub bits : widths ≡ widths_of rows
 
 -- those by which its place and its last start are found
 pub record StartColumns (above ends lastStarts : List ℕ) : Type 0 where
   pub places : (above ≡ surpluses) × (ends ≡ bounds)
-  pub lasts : lastStarts ≡ lastStartsOf rows
+  pub lasts : lastStarts ≡ last_starts_of rows

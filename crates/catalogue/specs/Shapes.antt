@@ -53,17 +53,17 @@ shapes =
 abbrev pub no_shape : ℕ
 no_shape = 37
 
-abbrev pub shapeIn : ℕ → List (ℕ × ℕ) → ℕ
-shapeIn n [] = no_shape
-shapeIn n (p ∷ ps) = cond (eqb p.0 n) p.1 (shapeIn n ps)
+abbrev pub shape_in : ℕ → List (ℕ × ℕ) → ℕ
+shape_in n [] = no_shape
+shape_in n (p ∷ ps) = cond (eqb p.0 n) p.1 (shape_in n ps)
 
 -- the shape of the signal with the number n
 abbrev pub shape_of : ℕ → ℕ
-shape_of n = shapeIn n signals
+shape_of n = shape_in n signals
 
 -- the row with the shape s, if there is such a shape
-abbrev pub rowShaped : ℕ → Option Row
-rowShaped s = row_in s shapes
+abbrev pub row_shaped : ℕ → Option Row
+row_shaped s = row_in s shapes
 
 -- the row with another number
 abbrev pub numbered : ℕ → Row → Row

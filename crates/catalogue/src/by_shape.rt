@@ -1,9 +1,9 @@
 // The count of a signal, cut from the window of bits that begins with it, and its class, by the constants of its shape: an arm for
 // each, which tools/shapes_code.py writes.
 ghost use Rattle.std.specs.Prelude.{◌≡◌};
-ghost use Rattle.catalogue.specs.Shapes.{rowShaped};
-ghost use Rattle.catalogue.specs.Class.{classOf};
-ghost use Rattle.catalogue.specs.Cut.{cutFor, cutOf};
+ghost use Rattle.catalogue.specs.Shapes.{row_shaped};
+ghost use Rattle.catalogue.specs.Class.{class_of_spec};
+ghost use Rattle.catalogue.specs.Cut.{cut_for, cut_of_spec};
 
 use crate::classes::{no_mark, one_mark, three_marks, two_marks};
 use crate::shapes::shape_of;
@@ -12,7 +12,7 @@ use rows::{ABSENT, ERROR, INVALID, RESERVED};
 
 // Count and class by the signal's shape. Each arm is a shape of specs/Shapes.antt.
 fn cut_shaped(shape: usize, window: u32) -> Cut
-    ensures { result ≡ cutFor (rowShaped shape) window }
+    ensures { result ≡ cut_for (row_shaped shape) window }
 {
     match shape {
         0 => one_mark(16, 100, 0, 0, 65535, INVALID, 65535, 65535, window),
@@ -67,14 +67,14 @@ fn cut_shaped(shape: usize, window: u32) -> Cut
 
 // Of the window of bits that begins with a signal: how many are its own, its count, and the class of that.
 pub fn cut_of(number: u32, window: u32) -> Cut
-    ensures { result ≡ cutOf number window }
+    ensures { result ≡ cut_of_spec number window }
 {
     cut_shaped(shape_of(number), window)
 }
 
 // The class of a raw count of the signal with a number. A number that is more than the count cut from it is too wide.
 pub fn class_of(number: u32, raw: Raw) -> Class
-    ensures { result ≡ classOf number raw }
+    ensures { result ≡ class_of_spec number raw }
 {
     let cut = cut_of(number, raw.0);
     let count = cut.raw;

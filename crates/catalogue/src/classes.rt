@@ -3,9 +3,9 @@
 ghost use Rattle.std.specs.Prelude.{◌≡◌, ◌*◌, ◌%◌, ◌^◌, ◌≤◌, pos, ◌+ℤ◌};
 ghost use Rattle.std.proofs.Math.Option.{some};
 ghost use Rattle.rows.specs.Rows.{row, mark, unmarked};
-ghost use Rattle.rows.specs.Rule.{mostBits, IsKind, Kinded};
-ghost use Rattle.catalogue.specs.Class.{between, markClass, classIn};
-ghost use Rattle.catalogue.specs.Cut.{cutFor};
+ghost use Rattle.rows.specs.Rule.{most_bits, IsKind, Kinded};
+ghost use Rattle.catalogue.specs.Class.{between, mark_class, class_in_spec};
+ghost use Rattle.catalogue.specs.Cut.{cut_for};
 
 use crate::{Class, Cut, Raw, Thousandths};
 use rows::{ABSENT, ERROR, INVALID, RESERVED, UNMARKED};
@@ -18,7 +18,7 @@ fn is_between(first: u32, last: u32, count: u32) -> bool
 
 // The lowest `bits` bits of a window.
 fn low_bits(window: u32, bits: u32) -> u32
-    requires { bits ≤ mostBits }
+    requires { bits ≤ most_bits }
     ensures { result ≡ window % 2 ^ bits }
 {
     (window as u64 % (1 << bits)) as u32
@@ -27,7 +27,7 @@ fn low_bits(window: u32, bits: u32) -> u32
 // The class that a mark gives, by its kind.
 fn marked(kind: u8, raw: Raw) -> Class
     requires { IsKind kind }
-    ensures { some result ≡ markClass kind raw }
+    ensures { some result ≡ mark_class kind raw }
 {
     if kind == INVALID {
         return Class::Invalid(raw);
@@ -66,7 +66,7 @@ fn class_in(
     raw: Raw,
 ) -> Class
     requires { Kinded (mark kind1 first1 last1) × Kinded (mark kind2 first2 last2) × Kinded (mark kind3 first3 last3) }
-    ensures { result ≡ classIn (row 0 0 resolution offset lowest highest (mark kind1 first1 last1) (mark kind2 first2 last2) (mark kind3 first3 last3)) raw }
+    ensures { result ≡ class_in_spec (row 0 0 resolution offset lowest highest (mark kind1 first1 last1) (mark kind2 first2 last2) (mark kind3 first3 last3)) raw }
 {
     let count = raw.0;
     if is_between(first1, last1, count) {
@@ -103,8 +103,8 @@ pub fn three_marks(
     last3: u32,
     window: u32,
 ) -> Cut
-    requires { (bits ≤ mostBits) × Kinded (mark kind1 first1 last1) × Kinded (mark kind2 first2 last2) × Kinded (mark kind3 first3 last3) }
-    ensures { result ≡ cutFor (some (row 0 bits resolution offset lowest highest (mark kind1 first1 last1) (mark kind2 first2 last2) (mark kind3 first3 last3))) window }
+    requires { (bits ≤ most_bits) × Kinded (mark kind1 first1 last1) × Kinded (mark kind2 first2 last2) × Kinded (mark kind3 first3 last3) }
+    ensures { result ≡ cut_for (some (row 0 bits resolution offset lowest highest (mark kind1 first1 last1) (mark kind2 first2 last2) (mark kind3 first3 last3))) window }
 {
     let raw = Raw(low_bits(window, bits));
     let class = class_in(
@@ -128,8 +128,8 @@ pub fn two_marks(
     last2: u32,
     window: u32,
 ) -> Cut
-    requires { (bits ≤ mostBits) × Kinded (mark kind1 first1 last1) × Kinded (mark kind2 first2 last2) }
-    ensures { result ≡ cutFor (some (row 0 bits resolution offset lowest highest (mark kind1 first1 last1) (mark kind2 first2 last2) unmarked)) window }
+    requires { (bits ≤ most_bits) × Kinded (mark kind1 first1 last1) × Kinded (mark kind2 first2 last2) }
+    ensures { result ≡ cut_for (some (row 0 bits resolution offset lowest highest (mark kind1 first1 last1) (mark kind2 first2 last2) unmarked)) window }
 {
     three_marks(
         bits, resolution, offset, lowest, highest, kind1, first1, last1, kind2, first2, last2,
@@ -148,8 +148,8 @@ pub fn one_mark(
     last: u32,
     window: u32,
 ) -> Cut
-    requires { (bits ≤ mostBits) × Kinded (mark kind first last) }
-    ensures { result ≡ cutFor (some (row 0 bits resolution offset lowest highest (mark kind first last) unmarked unmarked)) window }
+    requires { (bits ≤ most_bits) × Kinded (mark kind first last) }
+    ensures { result ≡ cut_for (some (row 0 bits resolution offset lowest highest (mark kind first last) unmarked unmarked)) window }
 {
     two_marks(
         bits, resolution, offset, lowest, highest, kind, first, last, UNMARKED, 1, 0, window,
@@ -164,8 +164,8 @@ pub fn no_mark(
     highest: u32,
     window: u32,
 ) -> Cut
-    requires { bits ≤ mostBits }
-    ensures { result ≡ cutFor (some (row 0 bits resolution offset lowest highest unmarked unmarked unmarked)) window }
+    requires { bits ≤ most_bits }
+    ensures { result ≡ cut_for (some (row 0 bits resolution offset lowest highest unmarked unmarked unmarked)) window }
 {
     one_mark(
         bits, resolution, offset, lowest, highest, UNMARKED, 1, 0, window,

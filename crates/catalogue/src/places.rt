@@ -2,7 +2,7 @@
 // A const array is built anew at every read, so a caller that asks for many signals holds the columns and lends them. Numbers and places
 // are computed in 32 bits, which is what most gateways have.
 ghost use Rattle.std.specs.Prelude.{◌≡◌, ◌<◌};
-ghost use Rattle.catalogue.specs.Places.{numberLimit, hundred, surpluses, bounds, Placed};
+ghost use Rattle.catalogue.specs.Places.{number_limit, hundred, surpluses, bounds, Placed};
 
 // How many hundreds there are with signals in them, or below one that has.
 pub const HUNDREDS: usize = 20;
@@ -61,7 +61,7 @@ pub enum Place {
 
 // Of 1 to 100, 101 to 200 and so on, the hundred that a number is in: below the limit a product and a shift tell it.
 fn hundred_of(number: u32) -> usize
-    requires { number < numberLimit }
+    requires { number < number_limit }
     ensures { result ≡ hundred number }
 {
     wide(number * 5242 / 524288)

@@ -1,6 +1,6 @@
 // The bits of a signal, from the constant table's own column, by the signal's place. Who asks for those of many holds the columns.
 ghost use Rattle.std.specs.Prelude.{◌≡◌};
-ghost use Rattle.catalogue.specs.Find.{bitsOf};
+ghost use Rattle.catalogue.specs.Find.{bits_of_spec};
 ghost use Rattle.catalogue.specs.Places.{TableColumns};
 
 use crate::places::{Place, bounds, place_of, surpluses};
@@ -15,7 +15,7 @@ fn wide(bits: u8) -> u32
 // no such signal.
 pub fn bits_at(number: u32, widths: &[u8], above: &[u32], ends: &[u8]) -> u32
     requires { TableColumns above.now ends.now widths.now }
-    ensures { result ≡ bitsOf number }
+    ensures { result ≡ bits_of_spec number }
 {
     let Place::At(place) = place_of(number, above, ends) else {
         return 0;
@@ -25,7 +25,7 @@ pub fn bits_at(number: u32, widths: &[u8], above: &[u32], ends: &[u8]) -> u32
 
 // The bits of one signal: 0 where the catalogue has no such signal. The columns are built for this call alone.
 pub fn bits_of(number: u32) -> u32
-    ensures { result ≡ bitsOf number }
+    ensures { result ≡ bits_of_spec number }
 {
     let above = surpluses();
     let ends = bounds();

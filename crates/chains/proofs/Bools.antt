@@ -22,22 +22,22 @@ same_test false true f g = g refl
 same_test false false f g = refl
 
 -- what an answer that tells says
-pub told-yes : {P : Type 0} (r : Bool) → Tells P r → r ≡ true → P
-told-yes true t e = t
-told-yes false t e = absurd (false≢true e)
+pub told_yes : {P : Type 0} (r : Bool) → Tells P r → r ≡ true → P
+told_yes true t e = t
+told_yes false t e = absurd (false≢true e)
 
 pub told_of : {P : Type 0} (r : Bool) → Tells P r → P → r ≡ true
 told_of true t p = refl
 told_of false t p = absurd (t p)
 
-pub told-no : {P : Type 0} (r : Bool) → Tells P r → r ≡ false → P → ⊥
-told-no true t e = absurd (true≢false e)
-told-no false t e = t
+pub told_no : {P : Type 0} (r : Bool) → Tells P r → r ≡ false → P → ⊥
+told_no true t e = absurd (true≢false e)
+told_no false t e = t
 
 -- a test that is true just where P holds tells P
-pub test-tells : {P : Type 0} (r : Bool) → (r ≡ true → P) → (P → r ≡ true) → Tells P r
-test-tells true f g = f refl
-test-tells false f g = λ p. false≢true (g p)
+pub test_tells : {P : Type 0} (r : Bool) → (r ≡ true → P) → (P → r ≡ true) → Tells P r
+test_tells true f g = f refl
+test_tells false f g = λ p. false≢true (g p)
 
 -- two that tell the same are the same
 pub told_same : (P : Type 0) (a b : Bool) → Tells P a → Tells P b → a ≡ b

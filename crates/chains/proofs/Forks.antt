@@ -6,7 +6,7 @@ use native.Mathlib.Decide.{ℕ_discrete}
 use mathlib.Core.List.{List, [], ◌∷◌, ◌++◌, append_cancel_left, head-eq_of_cons-eq, tail-eq_of_cons-eq}
 use lib.ListN.{length, get_or}
 use Rattle.chains.specs.Chain.{Walk, LeadsOn, LoopFree, BeginsDoubling}
-use Rattle.chains.proofs.Walks.{walk-append, chain-walk}
+use Rattle.chains.proofs.Walks.{walk_append, chain_walk}
 
 module _ (fs ts : List ℕ) where
   -- a chain that begins with route i has route j in it, or leads to where j starts
@@ -20,8 +20,8 @@ module _ (fs ts : List ℕ) where
     pub apart : a ≡ b → ⊥
     pub same : get_or fs a 0 ≡ get_or fs b 0
     pub place : ℕ
-    pub along-first : LeadsOn fs ts a place
-    pub along-second : LeadsOn fs ts b place
+    pub along_first : LeadsOn fs ts a place
+    pub along_second : LeadsOn fs ts b place
 
   abbrev pub LeadsToFork : ℕ → Type 0
   LeadsToFork i = (a b : ℕ) × ComesTo i a × Fork a b
@@ -37,7 +37,7 @@ module _ (fs ts : List ℕ) where
     where
       go : Dec (i ≡ j) → LeadsToFork i
       go (yes e) = same e
-      go (no n) = (i, j, inl refl, record { first = li; second = lj; apart = n; same = fi ∙ sym fj; place = q; along-first = (c, wi); along-second = (d, wj) })
+      go (no n) = (i, j, inl refl, record { first = li; second = lj; apart = n; same = fi ∙ sym fj; place = q; along_first = (c, wi); along_second = (d, wj) })
 
   module _ (free : LoopFree fs ts) where
     forks : (i : ℕ) (c : List ℕ) (j : ℕ) (d : List ℕ) (p q : ℕ) → Walk fs ts p (i ∷ c) q → Walk fs ts p (j ∷ d) q → (i ∷ c ≡ j ∷ d → ⊥) → LeadsToFork i
@@ -51,13 +51,13 @@ module _ (fs ts : List ℕ) where
         (λ e. let r = forks x c y d (get_or ts i 0) q wi.2 (subst (λ (z : ℕ). Walk fs ts (get_or ts z 0) (y ∷ d) q) (sym e) wj.2) (λ h. ne (cc)) in
         (r.0, r.1, before i x r.0 wi.2.0 wi.2.1 r.2, r.3))
 
-    pub begins-fork : (i : ℕ) → BeginsDoubling fs ts i → LeadsToFork i
-    begins-fork i (p, q, c, d, two) =
-        let r = chain-walk fs ts p d q two.other in
+    pub begins_fork : (i : ℕ) → BeginsDoubling fs ts i → LeadsToFork i
+    begins_fork i (p, q, c, d, two) =
+        let r = chain_walk fs ts p d q two.other in
         forks i c r.0 r.1 p q two.one r.3 (λ e. two.different (e ∙ sym r.2))
 
-  pub fork-begins : (i : ℕ) → i < length fs → LeadsToFork i → BeginsDoubling fs ts i
-  fork-begins i l (a, b, s, k) = go s k.along-first k.along-second
+  pub fork_begins : (i : ℕ) → i < length fs → LeadsToFork i → BeginsDoubling fs ts i
+  fork_begins i l (a, b, s, k) = go s k.along_first k.along_second
     where
       go : ComesTo i a → LeadsOn fs ts a k.place → LeadsOn fs ts b k.place → BeginsDoubling fs ts i
       go (inl e) (c, w) (d, v) = (
@@ -77,8 +77,8 @@ module _ (fs ts : List ℕ) where
         m ++ (a ∷ c),
         i ∷ (m ++ (b ∷ d)),
         record {
-          one = (l, refl, walk-append fs ts _ m _ _ (a ∷ c) u (k.first, refl, w));
-          other = (l, refl, walk-append fs ts _ m _ _ (b ∷ d) u (k.second, sym k.same, v));
+          one = (l, refl, walk_append fs ts _ m _ _ (a ∷ c) u (k.first, refl, w));
+          other = (l, refl, walk_append fs ts _ m _ _ (b ∷ d) u (k.second, sym k.same, v));
           different = λ h. k.apart (head-eq_of_cons-eq (append_cancel_left m _ _ (tail-eq_of_cons-eq h)));
         },
       )

@@ -7,27 +7,27 @@ use lib.ListN.{length, get_or}
 use Rattle.lists.specs.Lists.{Distinct}
 use Rattle.lists.proofs.Pigeons.{below_length}
 use Rattle.chains.specs.Chain.{Walk, OnClosed, LoopFree}
-use Rattle.chains.proofs.Walks.{walk-append, Through, through, chain-walk}
-use Rattle.chains.proofs.Reach.{reach, reach_leads, leads-reach}
+use Rattle.chains.proofs.Walks.{walk_append, Through, through, chain_walk}
+use Rattle.chains.proofs.Reach.{reach, reach_leads, leads_reach}
 
 module _ (fs ts : List ℕ) where
   -- route i comes back to where it started
-  abbrev pub comesBack : ℕ → Bool
-  comesBack i = reach fs ts (length fs) i (get_or fs i 0)
+  abbrev pub comes_back_spec : ℕ → Bool
+  comes_back_spec i = reach fs ts (length fs) i (get_or fs i 0)
 
   -- a route lies on a closed chain just where it comes back
-  pub closed-back : (i : ℕ) → OnClosed fs ts i → (i < length fs) × (comesBack i ≡ true)
-  closed-back i (p, c, w, m) = let r = chain-walk fs ts p c p w in turn (through fs ts p i (r.0 ∷ r.1) p (subst (λ (d : List ℕ). Memᴰ i d) r.2 m) r.3)
+  pub closed_back : (i : ℕ) → OnClosed fs ts i → (i < length fs) × (comes_back_spec i ≡ true)
+  closed_back i (p, c, w, m) = let r = chain_walk fs ts p c p w in turn (through fs ts p i (r.0 ∷ r.1) p (subst (λ (d : List ℕ). Memᴰ i d) r.2 m) r.3)
     where
-      turn : Through fs ts p i p → (i < length fs) × (comesBack i ≡ true)
-      turn (a, b, lt, u, v) = (lt, leads-reach fs ts i (get_or fs i 0) (b ++ a, walk-append fs ts _ b p _ a v u))
+      turn : Through fs ts p i p → (i < length fs) × (comes_back_spec i ≡ true)
+      turn (a, b, lt, u, v) = (lt, leads_reach fs ts i (get_or fs i 0) (b ++ a, walk_append fs ts _ b p _ a v u))
 
-  pub back-closed : (i : ℕ) → i < length fs → comesBack i ≡ true → OnClosed fs ts i
-  back-closed i l e = let s = reach_leads fs ts i (get_or fs i 0) e in (get_or fs i 0, i ∷ s.0, (l, refl, s.1), Memᴰ.head refl)
+  pub back_closed : (i : ℕ) → i < length fs → comes_back_spec i ≡ true → OnClosed fs ts i
+  back_closed i l e = let s = reach_leads fs ts i (get_or fs i 0) e in (get_or fs i 0, i ∷ s.0, (l, refl, s.1), Memᴰ.head refl)
 
-  pub loop-free : ((i : ℕ) → i < length fs → comesBack i ≡ false) → LoopFree fs ts
-  loop-free h p c w = let s = chain-walk fs ts p c p w in
-      let r = closed-back s.0 (p, s.0 ∷ s.1, s.3, Memᴰ.head refl) in true≢false (sym r.1 ∙ h s.0 r.0)
+  pub loop_free : ((i : ℕ) → i < length fs → comes_back_spec i ≡ false) → LoopFree fs ts
+  loop_free h p c w = let s = chain_walk fs ts p c p w in
+      let r = closed_back s.0 (p, s.0 ∷ s.1, s.3, Memᴰ.head refl) in true≢false (sym r.1 ∙ h s.0 r.0)
 
   -- without closed chains no chain has a route twice, so that it has at most as many routes as the table
   module _ (free : LoopFree fs ts) where

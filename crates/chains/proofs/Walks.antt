@@ -5,13 +5,13 @@ use native.Mathlib.Omega.{arith}
 use mathlib.Core.List.Memᴰ
 use mathlib.Core.List.{List, [], ◌∷◌, ◌++◌, Memᴰ}
 use lib.ListN.{length, get_or}
-use Rattle.lists.proofs.Lists.{mem-at}
+use Rattle.lists.proofs.Lists.{mem_at}
 use Rattle.chains.specs.Chain.{Walk, Chain}
 
 module _ (fs ts : List ℕ) where
-  pub walk-append : (p : ℕ) (c : List ℕ) (m q : ℕ) (d : List ℕ) → Walk fs ts p c m → Walk fs ts m d q → Walk fs ts p (c ++ d) q
-  walk-append p [] m q d e w = subst (λ (x : ℕ). Walk fs ts x d q) (sym e) w
-  walk-append p (i ∷ c) m q d (a, b, v) w = (a, b, walk-append (get_or ts i 0) c m q d v w)
+  pub walk_append : (p : ℕ) (c : List ℕ) (m q : ℕ) (d : List ℕ) → Walk fs ts p c m → Walk fs ts m d q → Walk fs ts p (c ++ d) q
+  walk_append p [] m q d e w = subst (λ (x : ℕ). Walk fs ts x d q) (sym e) w
+  walk_append p (i ∷ c) m q d (a, b, v) w = (a, b, walk_append (get_or ts i 0) c m q d v w)
 
   -- a walk through route i: what comes before i and what comes after
   abbrev pub Through : ℕ → ℕ → ℕ → Type 0
@@ -26,15 +26,15 @@ module _ (fs ts : List ℕ) where
       more (a, b, lt, u, v) = (x ∷ a, b, lt, (l, f, u), v)
 
   -- a chain has a first route
-  pub chain-walk : (p : ℕ) (c : List ℕ) (q : ℕ) → Chain fs ts p c q → (j : ℕ) × (d : List ℕ) × (c ≡ j ∷ d) × Walk fs ts p (j ∷ d) q
-  chain-walk p [] q w = absurd w
-  chain-walk p (j ∷ d) q w = (j, d, refl, w)
+  pub chain_walk : (p : ℕ) (c : List ℕ) (q : ℕ) → Chain fs ts p c q → (j : ℕ) × (d : List ℕ) × (c ≡ j ∷ d) × Walk fs ts p (j ∷ d) q
+  chain_walk p [] q w = absurd w
+  chain_walk p (j ∷ d) q w = (j, d, refl, w)
 
   -- a walk that begins with route j ends where some route ends
-  pub walk-last : (p j : ℕ) (c : List ℕ) (q : ℕ) → Walk fs ts p (j ∷ c) q → (v : ℕ) × (v < length fs) × (get_or ts v 0 ≡ q)
-  walk-last p j [] q (l, f, w) = (j, l, w)
-  walk-last p j (x ∷ c) q (l, f, w) = walk-last (get_or ts j 0) x c q w
+  pub walk_last : (p j : ℕ) (c : List ℕ) (q : ℕ) → Walk fs ts p (j ∷ c) q → (v : ℕ) × (v < length fs) × (get_or ts v 0 ≡ q)
+  walk_last p j [] q (l, f, w) = (j, l, w)
+  walk_last p j (x ∷ c) q (l, f, w) = walk_last (get_or ts j 0) x c q w
 
   -- so it ends at a place that routes lead to
   pub walk_end : length fs ≡ length ts → (p j : ℕ) (c : List ℕ) (q : ℕ) → Walk fs ts p (j ∷ c) q → Memᴰ q ts
-  walk_end e p j c q w = let r = walk-last p j c q w in Memᴰ.cast (sym r.2) (mem-at ts 0 r.0 (omega (arith, r.1)))
+  walk_end e p j c q w = let r = walk_last p j c q w in Memᴰ.cast (sym r.2) (mem_at ts 0 r.0 (omega (arith, r.1)))

@@ -51,5 +51,5 @@ module _ (froms tos : List ℕ) where
 
 -- no closed chain, and no two different chains that join the same two places
 pub record IsSound (froms tos : List ℕ) : Type 0 where
-  pub loop-free : LoopFree froms tos
+  pub loop_free : LoopFree froms tos
   pub single : Single froms tos

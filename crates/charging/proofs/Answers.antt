@@ -5,30 +5,30 @@ use native.Mathlib.Omega.{arith}
 use Rattle.charging.specs.declared.ChargeObservation.{ChargeObservation}
 use Rattle.charging.specs.declared.ChargeState.{ChargeState}
 use Rattle.charging.specs.declared.ChargeAnswer.TheVariants.{Taken, TooWide}
-use Rattle.charging.specs.Rules.{nextCharge}
-use Rattle.charging.specs.Refusals.{chargeRefusal, countsFit, chargeLeft, chargeStepOf}
+use Rattle.charging.specs.Rules.{next_charge_spec}
+use Rattle.charging.specs.Refusals.{charge_refusal, counts_fit, charge_left, charge_step_of}
 
 module _ (s : ChargeState) (seen : ChargeObservation) where
-  pub refused : chargeRefusal (chargeStepOf s seen).answer ≡ cond (countsFit seen) 0 81
-  unfolding chargeStepOf
-  refused = go (countsFit seen)
+  pub refused : charge_refusal (charge_step_of s seen).answer ≡ cond (counts_fit seen) 0 81
+  unfolding charge_step_of
+  refused = go (counts_fit seen)
     where
-      go : (fits : Bool) → chargeRefusal (cond fits (chargeLeft (nextCharge s seen) Taken) (chargeLeft s TooWide)).answer ≡ cond fits 0 81
+      go : (fits : Bool) → charge_refusal (cond fits (charge_left (next_charge_spec s seen) Taken) (charge_left s TooWide)).answer ≡ cond fits 0 81
       go true = refl
       go false = refl
 
-  pub kept-or-next : (chargeStepOf s seen).state ≡ cond (countsFit seen) (nextCharge s seen) s
-  unfolding chargeStepOf
-  kept-or-next = go (countsFit seen)
+  pub kept_or_next : (charge_step_of s seen).state ≡ cond (counts_fit seen) (next_charge_spec s seen) s
+  unfolding charge_step_of
+  kept_or_next = go (counts_fit seen)
     where
-      go : (fits : Bool) → (cond fits (chargeLeft (nextCharge s seen) Taken) (chargeLeft s TooWide)).state ≡ cond fits (nextCharge s seen) s
+      go : (fits : Bool) → (cond fits (charge_left (next_charge_spec s seen) Taken) (charge_left s TooWide)).state ≡ cond fits (next_charge_spec s seen) s
       go true = refl
       go false = refl
 
   -- an observation that is not refused leads to the next state
-  pub taken : chargeRefusal (chargeStepOf s seen).answer ≡ 0 → (chargeStepOf s seen).state ≡ nextCharge s seen
-  taken e = go (countsFit seen) refused kept-or-next
+  pub taken : charge_refusal (charge_step_of s seen).answer ≡ 0 → (charge_step_of s seen).state ≡ next_charge_spec s seen
+  taken e = go (counts_fit seen) refused kept_or_next
     where
-      go : (fits : Bool) → chargeRefusal (chargeStepOf s seen).answer ≡ cond fits 0 81 → (chargeStepOf s seen).state ≡ cond fits (nextCharge s seen) s → (chargeStepOf s seen).state ≡ nextCharge s seen
+      go : (fits : Bool) → charge_refusal (charge_step_of s seen).answer ≡ cond fits 0 81 → (charge_step_of s seen).state ≡ cond fits (next_charge_spec s seen) s → (charge_step_of s seen).state ≡ next_charge_spec s seen
       go true f k = k
       go false f k = absurd (omega (arith, e, f))

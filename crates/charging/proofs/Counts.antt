@@ -4,15 +4,15 @@ use mathlib.Core.Bool.{true, false, false≢true}
 use mathlib.Core.Option.{Option, none, some}
 use Prim.Native.Nat.{ℕ}
 use borrow.Author.Tests.{eqb-true, eq-eqb, ne_eqb}
-use Rattle.charging.specs.Observed.{isCount}
+use Rattle.charging.specs.Observed.{is_count}
 
-pub is-this : (count : Option ℕ) (n : ℕ) → isCount count n ≡ true → count ≡ some n
-is-this none n e = absurd (false≢true e)
-is-this (some k) n e = ap some (eqb-true k n e)
+pub is_this : (count : Option ℕ) (n : ℕ) → is_count count n ≡ true → count ≡ some n
+is_this none n e = absurd (false≢true e)
+is_this (some k) n e = ap some (eqb-true k n e)
 
-pub this-is : (count : Option ℕ) (n : ℕ) → count ≡ some n → isCount count n ≡ true
-this-is count n e = ap (λ (c : Option ℕ). isCount c n) e ∙ eq-eqb n n refl
+pub this_is : (count : Option ℕ) (n : ℕ) → count ≡ some n → is_count count n ≡ true
+this_is count n e = ap (λ (c : Option ℕ). is_count c n) e ∙ eq-eqb n n refl
 
-pub not-this : (count : Option ℕ) (n : ℕ) → (count ≡ some n → ⊥) → isCount count n ≡ false
-not-this none n h = refl
-not-this (some k) n h = ne_eqb k n (λ e. h (ap some e))
+pub not_this : (count : Option ℕ) (n : ℕ) → (count ≡ some n → ⊥) → is_count count n ≡ false
+not_this none n h = refl
+not_this (some k) n h = ne_eqb k n (λ e. h (ap some e))

@@ -9,61 +9,61 @@ use Prim.Native.Nat.{ℕ}
 use Rattle.charging.specs.declared.ChargeObservation.{ChargeObservation}
 use Rattle.charging.specs.declared.ChargeState.{ChargeState}
 use Rattle.charging.specs.declared.ChargeState.TheVariants.{ReadyToCharge}
-use Rattle.charging.specs.Observed.{countSeen, isCount, countIs}
-use Rattle.charging.specs.Conditions.{plugSeen, selfCheckGood, noWeldedFault, mainRelaysClosed, chargingAllowed, chargeRelaysClosed, conditions}
-use Rattle.charging.specs.States.{chargeNumber}
-use Rattle.charging.specs.Rules.{eachHolds}
-use Rattle.charging.specs.Refusals.{chargeRefusal, chargeStepOf}
+use Rattle.charging.specs.Observed.{count_seen, is_count, count_is}
+use Rattle.charging.specs.Conditions.{plug_seen, self_check_good, no_welded_fault, main_relays_closed, charging_allowed, charge_relays_closed, conditions}
+use Rattle.charging.specs.States.{charge_number}
+use Rattle.charging.specs.Rules.{each_holds}
+use Rattle.charging.specs.Refusals.{charge_refusal, charge_step_of}
 use Rattle.charging.specs.Met.{EveryCondition}
-use Rattle.charging.proofs.Counts.{is-this}
-use Rattle.charging.proofs.Steps.{own-conditions}
+use Rattle.charging.proofs.Counts.{is_this}
+use Rattle.charging.proofs.Steps.{own_conditions}
 
 both : (a b : Bool) → a && b ≡ true → (a ≡ true) × (b ≡ true)
 both a b e = (and-eq-true_iff a b).0 e
 
-one_of_three : (n : Option ℕ) (a b c : ℕ) → isCount n a || isCount n b || isCount n c ≡ true → (n ≡ some a) ⊎ ((n ≡ some b) ⊎ (n ≡ some c))
-one_of_three n a b c e = go (isCount n a) (isCount n b) refl refl e
+one_of_three : (n : Option ℕ) (a b c : ℕ) → is_count n a || is_count n b || is_count n c ≡ true → (n ≡ some a) ⊎ ((n ≡ some b) ⊎ (n ≡ some c))
+one_of_three n a b c e = go (is_count n a) (is_count n b) refl refl e
   where
-    go : (x y : Bool) → isCount n a ≡ x → isCount n b ≡ y → x || y || isCount n c ≡ true → (n ≡ some a) ⊎ ((n ≡ some b) ⊎ (n ≡ some c))
-    go true y p q h = inl (is-this n a p)
-    go false true p q h = inr (inl (is-this n b q))
-    go false false p q h = inr (inr (is-this n c h))
+    go : (x y : Bool) → is_count n a ≡ x → is_count n b ≡ y → x || y || is_count n c ≡ true → (n ≡ some a) ⊎ ((n ≡ some b) ⊎ (n ≡ some c))
+    go true y p q h = inl (is_this n a p)
+    go false true p q h = inr (inl (is_this n b q))
+    go false false p q h = inr (inr (is_this n c h))
 
 module _ (seen : ChargeObservation) where
-  is : (number n : ℕ) → countIs number n seen ≡ true → countSeen number seen ≡ some n
-  is number n e = is-this (countSeen number seen) n e
+  is : (number n : ℕ) → count_is number n seen ≡ true → count_seen number seen ≡ some n
+  is number n e = is_this (count_seen number seen) n e
 
-  two : (a b m n : ℕ) → countIs a m seen && countIs b n seen ≡ true → (countSeen a seen ≡ some m) × (countSeen b seen ≡ some n)
-  two a b m n e = let h = both (countIs a m seen) (countIs b n seen) e in (is a m h.0, is b n h.1)
+  two : (a b m n : ℕ) → count_is a m seen && count_is b n seen ≡ true → (count_seen a seen ≡ some m) × (count_seen b seen ≡ some n)
+  two a b m n e = let h = both (count_is a m seen) (count_is b n seen) e in (is a m h.0, is b n h.1)
 
-  four : countIs 311 0 seen && countIs 313 0 seen && countIs 325 0 seen && countIs 327 0 seen ≡ true → (countSeen 311 seen ≡ some 0) × ((countSeen 313 seen ≡ some 0) × ((countSeen 325 seen ≡ some 0) × (countSeen 327 seen ≡ some 0)))
+  four : count_is 311 0 seen && count_is 313 0 seen && count_is 325 0 seen && count_is 327 0 seen ≡ true → (count_seen 311 seen ≡ some 0) × ((count_seen 313 seen ≡ some 0) × ((count_seen 325 seen ≡ some 0) × (count_seen 327 seen ≡ some 0)))
   four e =
-      let h = both (countIs 311 0 seen && countIs 313 0 seen && countIs 325 0 seen) (countIs 327 0 seen) e in
-      let g = both (countIs 311 0 seen && countIs 313 0 seen) (countIs 325 0 seen) h.0 in
+      let h = both (count_is 311 0 seen && count_is 313 0 seen && count_is 325 0 seen) (count_is 327 0 seen) e in
+      let g = both (count_is 311 0 seen && count_is 313 0 seen) (count_is 325 0 seen) h.0 in
       let f = two 311 313 0 0 g.0 in
       (f.0, (f.1, (is 325 0 g.1, is 327 0 h.1)))
 
   -- each of the six holds: count by count
-  every : eachHolds (take 6 conditions) seen ≡ true → EveryCondition seen
+  every : each_holds (take 6 conditions) seen ≡ true → EveryCondition seen
   unfolding conditions
   every e =
-      let a = both (plugSeen seen) _ e in
-      let b = both (selfCheckGood seen) _ a.1 in
-      let c = both (noWeldedFault seen) _ b.1 in
-      let d = both (mainRelaysClosed seen) _ c.1 in
-      let f = both (chargingAllowed seen) _ d.1 in
-      let g = both (chargeRelaysClosed seen) true f.1 in
+      let a = both (plug_seen seen) _ e in
+      let b = both (self_check_good seen) _ a.1 in
+      let c = both (no_welded_fault seen) _ b.1 in
+      let d = both (main_relays_closed seen) _ c.1 in
+      let f = both (charging_allowed seen) _ d.1 in
+      let g = both (charge_relays_closed seen) true f.1 in
       record {
-        plug = one_of_three (countSeen 1708 seen) 1 2 3 a.0;
-        self-check = is 1605 0 b.0;
+        plug = one_of_three (count_seen 1708 seen) 1 2 3 a.0;
+        self_check = is 1605 0 b.0;
         unwelded = four c.0;
-        main-relays = two 301 302 2 2 d.0;
+        main_relays = two 301 302 2 2 d.0;
         allowed = is 1709 1 f.0;
-        charge-relays = two 304 306 2 2 g.0;
+        charge_relays = two 304 306 2 2 g.0;
       }
 
   -- (1) the state after an observation that is not refused is ready only where every condition holds in it
-  pub ready-only : (s : ChargeState) → chargeRefusal (chargeStepOf s seen).answer ≡ 0 → (chargeStepOf s seen).state ≡ ReadyToCharge → EveryCondition seen
-  ready-only s not-refused e =
-      every (subst (λ (t : ChargeState). eachHolds (take (chargeNumber t) conditions) seen ≡ true) e
-      (own-conditions s seen not-refused (λ f. omega (arith, ap chargeNumber e, ap chargeNumber f))))
+  pub ready_only : (s : ChargeState) → charge_refusal (charge_step_of s seen).answer ≡ 0 → (charge_step_of s seen).state ≡ ReadyToCharge → EveryCondition seen
+  ready_only s not_refused e =
+      every (subst (λ (t : ChargeState). each_holds (take (charge_number t) conditions) seen ≡ true) e
+      (own_conditions s seen not_refused (λ f. omega (arith, ap charge_number e, ap charge_number f))))

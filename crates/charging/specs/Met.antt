@@ -2,21 +2,21 @@
 use Rattle.std.specs.Prelude.{◌≡◌, true, false, ◌⊎◌, ℕ, ◌<◌, take}
 use Rattle.std.proofs.Math.Option.{some}
 use Rattle.charging.specs.declared.ChargeObservation.{ChargeObservation}
-use Rattle.charging.specs.Observed.{countSeen}
+use Rattle.charging.specs.Observed.{count_seen}
 use Rattle.charging.specs.Conditions.{conditions}
-use Rattle.charging.specs.Rules.{eachHolds, nextHolds}
+use Rattle.charging.specs.Rules.{each_holds, next_holds}
 
 -- "every condition holds in that same observation"
 pub record EveryCondition (seen : ChargeObservation) : Type 0 where
-  pub plug : (countSeen 1708 seen ≡ some 1) ⊎ ((countSeen 1708 seen ≡ some 2) ⊎ (countSeen 1708 seen ≡ some 3))
-  pub self-check : countSeen 1605 seen ≡ some 0
-  pub unwelded : (countSeen 311 seen ≡ some 0) × ((countSeen 313 seen ≡ some 0) × ((countSeen 325 seen ≡ some 0) × (countSeen 327 seen ≡ some 0)))
-  pub main-relays : (countSeen 301 seen ≡ some 2) × (countSeen 302 seen ≡ some 2)
-  pub allowed : countSeen 1709 seen ≡ some 1
-  pub charge-relays : (countSeen 304 seen ≡ some 2) × (countSeen 306 seen ≡ some 2)
+  pub plug : (count_seen 1708 seen ≡ some 1) ⊎ ((count_seen 1708 seen ≡ some 2) ⊎ (count_seen 1708 seen ≡ some 3))
+  pub self_check : count_seen 1605 seen ≡ some 0
+  pub unwelded : (count_seen 311 seen ≡ some 0) × ((count_seen 313 seen ≡ some 0) × ((count_seen 325 seen ≡ some 0) × (count_seen 327 seen ≡ some 0)))
+  pub main_relays : (count_seen 301 seen ≡ some 2) × (count_seen 302 seen ≡ some 2)
+  pub allowed : count_seen 1709 seen ≡ some 1
+  pub charge_relays : (count_seen 304 seen ≡ some 2) × (count_seen 306 seen ≡ some 2)
 
 -- of the conditions met so far the one after so many is lost, and it is the first: all before it hold
 pub record FirstLost (met before : ℕ) (seen : ChargeObservation) : Type 0 where
-  pub met-so-far : before < met
-  pub lost : nextHolds conditions before seen ≡ false
-  pub first : eachHolds (take before conditions) seen ≡ true
+  pub met_so_far : before < met
+  pub lost : next_holds conditions before seen ≡ false
+  pub first : each_holds (take before conditions) seen ≡ true

@@ -5,8 +5,8 @@ use Rattle.catalogue.specs.declared.Raw.{Raw}
 use Rattle.charging.specs.declared.ChargeObservation.{ChargeObservation}
 
 -- the signals' numbers, each with its raw count
-abbrev pub countsSeen : ChargeObservation → List (ℕ × Raw)
-countsSeen seen =
+abbrev pub counts_seen : ChargeObservation → List (ℕ × Raw)
+counts_seen seen =
     (1708, seen.plug)
     ∷ (1605, seen.self_check)
     ∷ (311, seen.main_positive_welded)
@@ -21,18 +21,18 @@ countsSeen seen =
     ∷ []
 
 -- the count that such a list has for a number; there is none for a number that it does not have
-abbrev countUnder : ℕ → List (ℕ × Raw) → Option ℕ
-countUnder number [] = none
-countUnder number (c ∷ more) = cond (eqb c.0 number) (some c.1.0) (countUnder number more)
+abbrev count_under : ℕ → List (ℕ × Raw) → Option ℕ
+count_under number [] = none
+count_under number (c ∷ more) = cond (eqb c.0 number) (some c.1.0) (count_under number more)
 
 -- the raw count of the signal with this number
-abbrev pub countSeen : ℕ → ChargeObservation → Option ℕ
-countSeen number seen = countUnder number (countsSeen seen)
+abbrev pub count_seen : ℕ → ChargeObservation → Option ℕ
+count_seen number seen = count_under number (counts_seen seen)
 
-abbrev pub isCount : Option ℕ → ℕ → Bool
-isCount none n = false
-isCount (some count) n = eqb count n
+abbrev pub is_count : Option ℕ → ℕ → Bool
+is_count none n = false
+is_count (some count) n = eqb count n
 
 -- "1708 is 1", "1605 is 0" and so on
-abbrev pub countIs : ℕ → ℕ → ChargeObservation → Bool
-countIs number n seen = isCount (countSeen number seen) n
+abbrev pub count_is : ℕ → ℕ → ChargeObservation → Bool
+count_is number n seen = is_count (count_seen number seen) n

@@ -7,35 +7,35 @@ use Rattle.charging.specs.declared.ChargeStateOrNone.{ChargeStateOrNone}
 use Rattle.charging.specs.declared.ChargeStateOrNone.TheVariants.{Is, NoChargeState}
 
 -- "a start", in which a monitor begins
-abbrev pub chargeStart : ChargeState
-chargeStart = Start
+abbrev pub charge_start : ChargeState
+charge_start = Start
 
 -- the steps, by how many conditions are met: "a start, one for each condition met with all before it, the sixth of them called ready"
-abbrev pub chargeSteps : List ChargeState
-chargeSteps = Start ∷ PlugSeen ∷ SelfChecked ∷ NoWeld ∷ MainClosed ∷ ChargingAllowed ∷ ReadyToCharge ∷ []
+abbrev pub charge_steps : List ChargeState
+charge_steps = Start ∷ PlugSeen ∷ SelfChecked ∷ NoWeld ∷ MainClosed ∷ ChargingAllowed ∷ ReadyToCharge ∷ []
 
 -- "and fault", which is no step: it comes after the last
-abbrev pub stepWith : ℕ → ChargeState
-stepWith met = get_or chargeSteps met Fault
+abbrev pub step_with_spec : ℕ → ChargeState
+step_with_spec met = get_or charge_steps met Fault
 
 -- a state's number: of a step, how many conditions are met
-abbrev pub chargeNumber : ChargeState → ℕ
-chargeNumber Start = 0
-chargeNumber PlugSeen = 1
-chargeNumber SelfChecked = 2
-chargeNumber NoWeld = 3
-chargeNumber MainClosed = 4
-chargeNumber ChargingAllowed = 5
-chargeNumber ReadyToCharge = 6
-chargeNumber Fault = 7
+abbrev pub charge_number : ChargeState → ℕ
+charge_number Start = 0
+charge_number PlugSeen = 1
+charge_number SelfChecked = 2
+charge_number NoWeld = 3
+charge_number MainClosed = 4
+charge_number ChargingAllowed = 5
+charge_number ReadyToCharge = 6
+charge_number Fault = 7
 
-abbrev faultNumber : ℕ
-faultNumber = chargeNumber Fault
+abbrev fault_number : ℕ
+fault_number = charge_number Fault
 
 -- how many conditions are met in a state: in fault there is no such number
-abbrev pub metIn : ChargeState → Option ℕ
-metIn state = cond (eqb (chargeNumber state) faultNumber) none (some (chargeNumber state))
+abbrev pub met_in : ChargeState → Option ℕ
+met_in state = cond (eqb (charge_number state) fault_number) none (some (charge_number state))
 
 -- the state of a number, where there is one
-unfoldable pub chargeNumbered : ℕ → ChargeStateOrNone
-chargeNumbered n = cond (leb n faultNumber) (Is (stepWith n)) NoChargeState
+unfoldable pub charge_numbered : ℕ → ChargeStateOrNone
+charge_numbered n = cond (leb n fault_number) (Is (step_with_spec n)) NoChargeState

@@ -1,8 +1,8 @@
 // The six conditions of a charge, each a test, and how many of them hold from the first on.
 ghost use Rattle.std.specs.Prelude.{◌≡◌};
-ghost use Rattle.charging.specs.Observed.{countIs};
-ghost use Rattle.charging.specs.Conditions.{plugSeen, selfCheckGood, noWeldedFault, mainRelaysClosed, chargingAllowed, chargeRelaysClosed, conditions};
-ghost use Rattle.charging.specs.Rules.{beforeLost};
+ghost use Rattle.charging.specs.Observed.{count_is};
+ghost use Rattle.charging.specs.Conditions.{plug_seen, self_check_good, no_welded_fault, main_relays_closed, charging_allowed, charge_relays_closed, conditions};
+ghost use Rattle.charging.specs.Rules.{before_lost};
 
 use crate::ChargeObservation;
 
@@ -10,25 +10,25 @@ use crate::ChargeObservation;
 const CLOSED: u32 = 2;
 
 pub fn is_unplugged(seen: ChargeObservation) -> bool
-    ensures { result ≡ countIs 1708 0 seen }
+    ensures { result ≡ count_is 1708 0 seen }
 {
     seen.plug.0 == 0
 }
 
 fn plug_is_seen(seen: ChargeObservation) -> bool
-    ensures { result ≡ plugSeen seen }
+    ensures { result ≡ plug_seen seen }
 {
     (seen.plug.0 == 1) | (seen.plug.0 == 2) | (seen.plug.0 == 3)
 }
 
 fn self_check_is_good(seen: ChargeObservation) -> bool
-    ensures { result ≡ selfCheckGood seen }
+    ensures { result ≡ self_check_good seen }
 {
     seen.self_check.0 == 0
 }
 
 pub fn none_welded(seen: ChargeObservation) -> bool
-    ensures { result ≡ noWeldedFault seen }
+    ensures { result ≡ no_welded_fault seen }
 {
     (seen.main_positive_welded.0 == 0)
         & (seen.main_negative_welded.0 == 0)
@@ -37,26 +37,26 @@ pub fn none_welded(seen: ChargeObservation) -> bool
 }
 
 fn main_relays_are_closed(seen: ChargeObservation) -> bool
-    ensures { result ≡ mainRelaysClosed seen }
+    ensures { result ≡ main_relays_closed seen }
 {
     (seen.main_positive.0 == CLOSED) & (seen.main_negative.0 == CLOSED)
 }
 
 fn charging_is_allowed(seen: ChargeObservation) -> bool
-    ensures { result ≡ chargingAllowed seen }
+    ensures { result ≡ charging_allowed seen }
 {
     seen.allowed.0 == 1
 }
 
 fn charge_relays_are_closed(seen: ChargeObservation) -> bool
-    ensures { result ≡ chargeRelaysClosed seen }
+    ensures { result ≡ charge_relays_closed seen }
 {
     (seen.charge_positive.0 == CLOSED) & (seen.charge_negative.0 == CLOSED)
 }
 
 // How many conditions hold before the first that does not.
 pub fn holding(seen: ChargeObservation) -> u32
-    ensures { result ≡ beforeLost conditions seen }
+    ensures { result ≡ before_lost conditions seen }
 {
     if !plug_is_seen(seen) {
         return 0;

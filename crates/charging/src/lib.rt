@@ -9,9 +9,9 @@ mod conditions;
 mod widths;
 
 ghost use Rattle.std.specs.Prelude.{◌≡◌, min};
-ghost use Rattle.charging.specs.States.{chargeStart, chargeNumber, chargeNumbered, stepWith};
-ghost use Rattle.charging.specs.Rules.{nextCharge};
-ghost use Rattle.charging.specs.Refusals.{chargeStepOf};
+ghost use Rattle.charging.specs.States.{charge_start, charge_number, charge_numbered, step_with_spec};
+ghost use Rattle.charging.specs.Rules.{next_charge_spec};
+ghost use Rattle.charging.specs.Refusals.{charge_step_of};
 
 use catalogue::Raw;
 use conditions::{holding, is_unplugged, none_welded};
@@ -79,14 +79,14 @@ const FAULT_NUMBER: u32 = 7;
 impl ChargeState {
     // The state that a monitor starts in.
     pub fn start() -> ChargeState
-        ensures { result ≡ chargeStart }
+        ensures { result ≡ charge_start }
     {
         ChargeState::Start
     }
 
     // 0 start, 1 plug seen, 2 self-checked, 3 no weld, 4 main closed, 5 allowed, 6 ready: how many conditions are met; 7 fault.
     pub fn number(self) -> u32
-        ensures { result ≡ chargeNumber self }
+        ensures { result ≡ charge_number self }
     {
         match self {
             ChargeState::Start => 0,
@@ -102,7 +102,7 @@ impl ChargeState {
 
     // The state of a number, where there is one.
     pub fn numbered(n: u32) -> ChargeStateOrNone
-        ensures { result ≡ chargeNumbered n }
+        ensures { result ≡ charge_numbered n }
     {
         if n > FAULT_NUMBER {
             return ChargeStateOrNone::NoChargeState;
@@ -113,7 +113,7 @@ impl ChargeState {
 
 // The step with so many conditions met; past the last one, fault.
 fn step_with(n: u32) -> ChargeState
-    ensures { result ≡ stepWith n }
+    ensures { result ≡ step_with_spec n }
 {
     match n {
         0 => ChargeState::Start,
@@ -134,9 +134,9 @@ fn lesser(a: u32, b: u32) -> u32
 }
 
 // The state that follows an observation whose counts fit. Of a step, the lesser of one more condition and as many as hold from the
-// first on is what the rule says (`Moving lesser-of`): one on where all of them hold, back before the first that is lost.
+// first on is what the rule says (`Moving lesser_of`): one on where all of them hold, back before the first that is lost.
 fn next_charge(state: ChargeState, seen: ChargeObservation) -> ChargeState
-    ensures { result ≡ nextCharge state seen }
+    ensures { result ≡ next_charge_spec state seen }
 {
     if !none_welded(seen) {
         return ChargeState::Fault;
@@ -153,7 +153,7 @@ fn next_charge(state: ChargeState, seen: ChargeObservation) -> ChargeState
 
 // One step: the state that follows, or a refusal and the state kept.
 pub fn step(state: ChargeState, seen: ChargeObservation) -> ChargeStepped
-    ensures { result ≡ chargeStepOf state seen }
+    ensures { result ≡ charge_step_of state seen }
 {
     if !all_fit(seen) {
         return ChargeStepped {

@@ -2,11 +2,11 @@
 use Rattle.std.specs.Prelude.{ℕ, Bool, true, false, ◌&&◌, List, [], ◌∷◌, ltb}
 use Rattle.std.proofs.Math.Option.{Option, none, some}
 use Rattle.charging.specs.declared.ChargeObservation.{ChargeObservation}
-use Rattle.charging.specs.Observed.{countSeen}
+use Rattle.charging.specs.Observed.{count_seen}
 
 -- the signals, each with the lowest count that is too wide for it
-abbrev pub widthLimits : List (ℕ × ℕ)
-widthLimits =
+abbrev pub width_limits : List (ℕ × ℕ)
+width_limits =
     (1708, 8)
     ∷ (1605, 4)
     ∷ (311, 2)
@@ -21,11 +21,11 @@ widthLimits =
     ∷ []
 
 -- a count is below its limit
-abbrev isBelow : Option ℕ → ℕ → Bool
-isBelow none limit = false
-isBelow (some count) limit = ltb count limit
+abbrev is_below : Option ℕ → ℕ → Bool
+is_below none limit = false
+is_below (some count) limit = ltb count limit
 
 -- each count of the signals in a list is
-abbrev pub eachBelow : List (ℕ × ℕ) → ChargeObservation → Bool
-eachBelow [] seen = true
-eachBelow (w ∷ more) seen = isBelow (countSeen w.0 seen) w.1 && eachBelow more seen
+abbrev pub each_below : List (ℕ × ℕ) → ChargeObservation → Bool
+each_below [] seen = true
+each_below (w ∷ more) seen = is_below (count_seen w.0 seen) w.1 && each_below more seen

@@ -10,47 +10,47 @@ use lib.Arith.{lt_of_le-ne}
 use lib.Dec.{eqb}
 use lib.ListN.{length, take, drop, get_or, set, drop_of_length-le}
 use lib.Seq.{drop-cons, take-suc, get_or-set_same, get_or-set_other}
-use Rattle.books.specs.Lines.{isIn, identifierLimit}
-use Rattle.columns.specs.Identifiers.{distinctAfter}
-use Rattle.columns.specs.Slots.{identifierSlot}
+use Rattle.books.specs.Lines.{is_in, identifier_limit}
+use Rattle.columns.specs.Identifiers.{distinct_after}
+use Rattle.columns.specs.Slots.{identifier_slot}
 use Rattle.columns.proofs.Searching.{absent}
 
 module _ (l : List ℕ) (i : ℕ) where
-  pub distinct-end : length l ≤ i → distinctAfter (take i l) (drop i l) ≡ true
-  unfolding distinctAfter
-  distinct-end h = rw (drop_of_length-le l h)
+  pub distinct_end : length l ≤ i → distinct_after (take i l) (drop i l) ≡ true
+  unfolding distinct_after
+  distinct_end h = rw (drop_of_length-le l h)
 
   module _ (h : i < length l) where
-    pub distinct-over : identifierLimit ≤ get_or l i 0 → distinctAfter (take i l) (drop i l) ≡ false
-    unfolding distinctAfter
-    distinct-over e = rw (drop-cons l i 0 h, le-leb _ _ e)
+    pub distinct_over : identifier_limit ≤ get_or l i 0 → distinct_after (take i l) (drop i l) ≡ false
+    unfolding distinct_after
+    distinct_over e = rw (drop-cons l i 0 h, le-leb _ _ e)
 
-    module _ (e : get_or l i 0 < identifierLimit) where
-      pub distinct-again : isIn (get_or l i 0) (take i l) ≡ true → distinctAfter (take i l) (drop i l) ≡ false
-      unfolding distinctAfter
-      distinct-again m = rw (drop-cons l i 0 h, lt-leb _ _ e, m)
+    module _ (e : get_or l i 0 < identifier_limit) where
+      pub distinct_again : is_in (get_or l i 0) (take i l) ≡ true → distinct_after (take i l) (drop i l) ≡ false
+      unfolding distinct_after
+      distinct_again m = rw (drop-cons l i 0 h, lt-leb _ _ e, m)
 
-      pub distinct-next : isIn (get_or l i 0) (take i l) ≡ false → distinctAfter (take (i + 1) l) (drop (i + 1) l) ≡ distinctAfter (take i l) (drop i l)
-      unfolding distinctAfter
-      distinct-next m = rw (drop-cons l i 0 h, lt-leb _ _ e, m, add-one i, take-suc l i 0 h)
+      pub distinct_next : is_in (get_or l i 0) (take i l) ≡ false → distinct_after (take (i + 1) l) (drop (i + 1) l) ≡ distinct_after (take i l) (drop i l)
+      unfolding distinct_after
+      distinct_next m = rw (drop-cons l i 0 h, lt-leb _ _ e, m, add-one i, take-suc l i 0 h)
 
 -- the slot of each of the first i identifiers is used
 abbrev pub Used : List ℕ → List ℕ → ℕ → Type 0
-Used l used i = (j : ℕ) → j < i → j < length l → get_or used (identifierSlot (get_or l j 0)) 0 ≡ 1
+Used l used i = (j : ℕ) → j < i → j < length l → get_or used (identifier_slot (get_or l j 0)) 0 ≡ 1
 
-pub unused : (l used : List ℕ) (i x k : ℕ) → k ≡ identifierSlot x → get_or used k 0 ≡ 0 → Used l used i → isIn x (take i l) ≡ false
+pub unused : (l used : List ℕ) (i x k : ℕ) → k ≡ identifier_slot x → get_or used k 0 ≡ 0 → Used l used i → is_in x (take i l) ≡ false
 unused l used i x k e z f =
     absent x l i (λ j p q d.
-    let a : get_or used (identifierSlot x) 0 ≡ 1 = subst (λ (m : ℕ). get_or used (identifierSlot m) 0 ≡ 1) d (f j p q) in
-    let b : get_or used (identifierSlot x) 0 ≡ 0 = subst (λ (m : ℕ). get_or used m 0 ≡ 0) e z in
+    let a : get_or used (identifier_slot x) 0 ≡ 1 = subst (λ (m : ℕ). get_or used (identifier_slot m) 0 ≡ 1) d (f j p q) in
+    let b : get_or used (identifier_slot x) 0 ≡ 0 = subst (λ (m : ℕ). get_or used m 0 ≡ 0) e z in
     omega arith)
 
-pub used-more : (l used : List ℕ) (i k : ℕ) → k ≡ identifierSlot (get_or l i 0) → k < length used → Used l used i → Used l (set used k 1) (i + 1)
-used-more l used i k e h f j p q = go (eqb (identifierSlot (get_or l j 0)) k) refl
+pub used_more : (l used : List ℕ) (i k : ℕ) → k ≡ identifier_slot (get_or l i 0) → k < length used → Used l used i → Used l (set used k 1) (i + 1)
+used_more l used i k e h f j p q = go (eqb (identifier_slot (get_or l j 0)) k) refl
   where
-    go : (b : Bool) → eqb (identifierSlot (get_or l j 0)) k ≡ b → get_or (set used k 1) (identifierSlot (get_or l j 0)) 0 ≡ 1
+    go : (b : Bool) → eqb (identifier_slot (get_or l j 0)) k ≡ b → get_or (set used k 1) (identifier_slot (get_or l j 0)) 0 ≡ 1
     go true d = subst (λ (m : ℕ). get_or (set used k 1) m 0 ≡ 1) (sym (eqb-true _ _ d)) (get_or-set_same used k 1 0 h)
     go false d =
-        let ne = eqb-false (identifierSlot (get_or l j 0)) k d in
-        let n : j ≡ i → ⊥ = λ u. ne (subst (λ (m : ℕ). identifierSlot (get_or l m 0) ≡ k) (sym u) (sym e)) in
-        get_or-set_other used k (identifierSlot (get_or l j 0)) 1 0 ne ∙ f j (lt_of_le-ne (omega arith) n) q
+        let ne = eqb-false (identifier_slot (get_or l j 0)) k d in
+        let n : j ≡ i → ⊥ = λ u. ne (subst (λ (m : ℕ). identifier_slot (get_or l m 0) ≡ k) (sym u) (sym e)) in
+        get_or-set_other used k (identifier_slot (get_or l j 0)) 1 0 ne ∙ f j (lt_of_le-ne (omega arith) n) q

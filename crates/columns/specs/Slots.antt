@@ -2,13 +2,13 @@
 use Rattle.std.specs.Prelude.{ℕ, ◌%◌}
 
 -- how many slots there are
-abbrev pub identifierSlots : ℕ
-identifierSlots = 256
+abbrev pub identifier_slots : ℕ
+identifier_slots = 256
 
 -- the largest prime below their count
-abbrev pub slotPrime : ℕ
-slotPrime = 251
+abbrev pub slot_prime : ℕ
+slot_prime = 251
 
 -- the slot of an identifier: its remainder, so that neighbours fall into different ones
-abbrev pub identifierSlot : ℕ → ℕ
-identifierSlot identifier = identifier % slotPrime
+abbrev pub identifier_slot : ℕ → ℕ
+identifier_slot identifier = identifier % slot_prime

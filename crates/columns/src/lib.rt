@@ -1,9 +1,9 @@
 // One column of a book: a part of it, where a message's part begins, whether a number stands in it, and whether identifiers repeat.
 ghost use Rattle.std.specs.Prelude.{◌≡◌, [], ◌∷◌, ◌-◌, ◌≤◌, ◌<◌, length, get_or, take, drop};
-ghost use Rattle.books.specs.Lines.{isIn};
-ghost use Rattle.record.specs.Limits.{messageLimit, signalLimit};
-ghost use Rattle.columns.specs.Identifiers.{distinctAfter};
-ghost use Rattle.columns.specs.Slots.{identifierSlots, identifierSlot};
+ghost use Rattle.books.specs.Lines.{is_in};
+ghost use Rattle.record.specs.Limits.{message_limit, signal_limit};
+ghost use Rattle.columns.specs.Identifiers.{distinct_after};
+ghost use Rattle.columns.specs.Slots.{identifier_slots, identifier_slot};
 
 use record::{IDENTIFIER_LIMIT, wide};
 
@@ -15,7 +15,7 @@ const SLOT_PRIME: u32 = 251;
 // How many entries a column of a book, or a part of one, has. A loop that counts them down does so in 32 bits, which is what most
 // gateways have.
 pub fn length_of(column: &[u32]) -> u32
-    requires { length column.now ≤ signalLimit }
+    requires { length column.now ≤ signal_limit }
     ensures { result ≡ length column.now }
 {
     column.len() as u32
@@ -42,7 +42,7 @@ pub fn begin(ends: &[u32], at: usize) -> usize
 
 // Whether `number` stands in the column.
 pub fn holds(column: &[u32], number: u32) -> bool
-    ensures { result ≡ isIn number column.now }
+    ensures { result ≡ is_in number column.now }
 {
     let mut at: usize = 0;
     while at < column.len() {
@@ -56,7 +56,7 @@ pub fn holds(column: &[u32], number: u32) -> bool
 
 // The slot of an identifier: a remainder, so that neighbours fall into different ones.
 fn slot(identifier: u32) -> usize
-    ensures { (result ≡ identifierSlot identifier) × (result < identifierSlots) }
+    ensures { (result ≡ identifier_slot identifier) × (result < identifier_slots) }
 {
     (identifier % SLOT_PRIME) as usize
 }
@@ -64,8 +64,8 @@ fn slot(identifier: u32) -> usize
 // Whether the identifiers are within the limit, and none stands there twice.
 // An identifier is looked for among those before it only where one of them fell into the same slot.
 pub fn distinct(ids: &[u32]) -> bool
-    requires { length ids.now ≤ messageLimit }
-    ensures { result ≡ distinctAfter [] ids.now }
+    requires { length ids.now ≤ message_limit }
+    ensures { result ≡ distinct_after [] ids.now }
 {
     let mut used = [0u8; SLOTS];
     let mut left = length_of(ids);

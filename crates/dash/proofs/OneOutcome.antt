@@ -8,12 +8,12 @@ use prog.Routine.{Routine}
 use types.Logic.{Logic}
 use contract.Monad.{Fun}
 use denote.Triple.Clauses.{AtExit}
-use Rattle.only.specs.Only.{Only, only-this}
+use Rattle.only.specs.Only.{Only, only_this}
 use Rattle.catalogue.specs.declared.Raw.{Raw}
-use Rattle.dash.specs.Answer.{dashOf}
+use Rattle.dash.specs.Answer.{dash_of}
 use Rattle.dash.specs.contracts.DashAnswer as the-answer
 use Rattle.dash.specs.contracts.show as the_call
 
 module _ {M : Type 1} {𝓤 : Ura M} (𝓛 : Logic 𝓤) (mem : Memory → SProp 𝓤) (run : Routine → Fun 𝓤) where
-  pub one-show : (number : ℕ) (raw : Raw) (e : AtExit the_call.ended tt) → Only 𝓤 (λ r. (the_call.clauses 𝓛 mem run tt (number, (raw, tt))).ensures tt r e)
-  one-show number raw e = only-this 𝓤 _ (the-answer.the_row).coded (dashOf number raw) (λ r. refl)
+  pub one_show : (number : ℕ) (raw : Raw) (e : AtExit the_call.ended tt) → Only 𝓤 (λ r. (the_call.clauses 𝓛 mem run tt (number, (raw, tt))).ensures tt r e)
+  one_show number raw e = only_this 𝓤 _ (the-answer.the_row).coded (dash_of number raw) (λ r. refl)

@@ -1,8 +1,8 @@
 // A raw count of a signal as the dash draws it: a reading in double precision, or one of the five other classes by name. For users;
 // `catalogue: class_of()` is the call that answers in thousandths. `show` answers every number and count and has no `requires`.
 ghost use Rattle.std.specs.Prelude.{◌≡◌};
-ghost use Rattle.dash.specs.Answer.{dashOf};
-ghost use Rattle.dash.specs.Coded.{dashCoded};
+ghost use Rattle.dash.specs.Answer.{dash_of};
+ghost use Rattle.dash.specs.Coded.{dash_coded};
 ghost use Rattle.doubles.specs.Doubles.{Small};
 
 use catalogue::{Raw, Thousandths};
@@ -32,7 +32,7 @@ pub enum DashAnswer {
 // What is drawn for a class, by its code and its thousandths.
 fn drawn(code: u8, reading: Thousandths) -> DashAnswer
     requires { Small reading }
-    ensures { result ≡ dashCoded code reading }
+    ensures { result ≡ dash_coded code reading }
 {
     match code {
         0 => DashAnswer::Shown(Dash::Value(in_units(reading))),
@@ -48,7 +48,7 @@ fn drawn(code: u8, reading: Thousandths) -> DashAnswer
 
 // What a raw count of the signal with a number shows. It asks where whoever classes a count asks, which costs the other calls nothing.
 pub fn show(number: u32, raw: Raw) -> DashAnswer
-    ensures { result ≡ dashOf number raw }
+    ensures { result ≡ dash_of number raw }
 {
     let mut code: u8 = 0;
     let reading = class_numbers(number, raw, &mut code);

@@ -7,7 +7,7 @@ use mathlib.Core.List.{List}
 use Rattle.answers.specs.Numbers.{taken, refused}
 use Rattle.reading.specs.Reading.{lines_read}
 use Rattle.reading.specs.Reading as lines
-use Rattle.reading.proofs.Refused.{text-refused}
+use Rattle.reading.proofs.Refused.{text_refused}
 
 -- one of 2 to 9
 pub record OfALine (why : ℕ) : Type 0 where
@@ -19,7 +19,7 @@ low why h l = record { least = h; most = l }
 
 pub line_low : (text : List ℕ) (why n : ℕ) → lines_read text ≡ lines.refused why n → OfALine why
 line_low =
-    text-refused OfALine (low 2 (omega arith) (omega arith)) (low 3 (omega arith) (omega arith)) (low 4 (omega arith) (omega arith)) (low 5 (omega arith) (omega arith))
+    text_refused OfALine (low 2 (omega arith) (omega arith)) (low 3 (omega arith) (omega arith)) (low 4 (omega arith) (omega arith)) (low 5 (omega arith) (omega arith))
     (low 6 (omega arith) (omega arith)) (low 7 (omega arith) (omega arith)) (low 8 (omega arith) (omega arith)) (low 9 (omega arith) (omega arith))
 
 pub apart : {A : Type 0} {a b m n : ℕ} → (a ≡ b → ⊥) → refused a m ≡ refused b n → A

@@ -4,30 +4,30 @@ use mathlib.Core.Path.{◌≡◌, refl, ap}
 use Prim.Native.Nat.{ℕ, ◌<◌}
 use mathlib.Core.List.{List, [], ◌∷◌}
 use lib.ListN.{length}
-use Rattle.demands.specs.RLines.{RLine, rLineAt}
+use Rattle.demands.specs.RLines.{RLine, r_line_at}
 use Rattle.demands.specs.Loops.{Returns, Doubles}
 
 module _ (ls : List RLine) where
   -- each of two lines between the same places alone is a chain that joins them, whichever gateways carry them
-  pub same-places-double : (k m : ℕ) → (k ≡ m → ⊥) → k < length ls → m < length ls
-      → (rLineAt ls m).bus ≡ (rLineAt ls k).bus → (rLineAt ls m).identifier ≡ (rLineAt ls k).identifier
-      → (rLineAt ls m).to-bus ≡ (rLineAt ls k).to-bus → (rLineAt ls m).to-identifier ≡ (rLineAt ls k).to-identifier → Doubles ls
-  same-places-double k m apart h l a i b j =
+  pub same_places_double : (k m : ℕ) → (k ≡ m → ⊥) → k < length ls → m < length ls
+      → (r_line_at ls m).bus ≡ (r_line_at ls k).bus → (r_line_at ls m).identifier ≡ (r_line_at ls k).identifier
+      → (r_line_at ls m).to_bus ≡ (r_line_at ls k).to_bus → (r_line_at ls m).to_identifier ≡ (r_line_at ls k).to_identifier → Doubles ls
+  same_places_double k m apart h l a i b j =
       record {
-        bus = (rLineAt ls k).bus;
-        identifier = (rLineAt ls k).identifier;
-        to-bus = (rLineAt ls k).to-bus;
-        to-identifier = (rLineAt ls k).to-identifier;
+        bus = (r_line_at ls k).bus;
+        identifier = (r_line_at ls k).identifier;
+        to_bus = (r_line_at ls k).to_bus;
+        to_identifier = (r_line_at ls k).to_identifier;
         chain = k ∷ [];
         another = m ∷ [];
         joining = record { one = (h, refl, refl, (refl, refl)); other = (l, a, i, (b, j)); different = λ f. apart (let z : k ≡ m = cc in z) };
       }
 
   -- so do two equal lines
-  pub repeated-doubles : (k m : ℕ) → (k ≡ m → ⊥) → k < length ls → m < length ls → rLineAt ls m ≡ rLineAt ls k → Doubles ls
-  repeated-doubles k m apart h l e =
-      same-places-double k m apart h l
-      (ap (λ (x : RLine). x.bus) e) (ap (λ (x : RLine). x.identifier) e) (ap (λ (x : RLine). x.to-bus) e) (ap (λ (x : RLine). x.to-identifier) e)
+  pub repeated_doubles : (k m : ℕ) → (k ≡ m → ⊥) → k < length ls → m < length ls → r_line_at ls m ≡ r_line_at ls k → Doubles ls
+  repeated_doubles k m apart h l e =
+      same_places_double k m apart h l
+      (ap (λ (x : RLine). x.bus) e) (ap (λ (x : RLine). x.identifier) e) (ap (λ (x : RLine). x.to_bus) e) (ap (λ (x : RLine). x.to_identifier) e)
 
-  pub self-returns : (k : ℕ) → k < length ls → (rLineAt ls k).to-bus ≡ (rLineAt ls k).bus → (rLineAt ls k).to-identifier ≡ (rLineAt ls k).identifier → Returns ls
-  self-returns k h e f = record { bus = (rLineAt ls k).bus; identifier = (rLineAt ls k).identifier; chain = k ∷ []; returning = record { closed = (h, refl, refl, (e, f)) } }
+  pub self_returns : (k : ℕ) → k < length ls → (r_line_at ls k).to_bus ≡ (r_line_at ls k).bus → (r_line_at ls k).to_identifier ≡ (r_line_at ls k).identifier → Returns ls
+  self_returns k h e f = record { bus = (r_line_at ls k).bus; identifier = (r_line_at ls k).identifier; chain = k ∷ []; returning = record { closed = (h, refl, refl, (e, f)) } }

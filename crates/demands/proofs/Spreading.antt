@@ -9,109 +9,109 @@ use native.Mathlib.Decide.{dec_le}
 use mathlib.Core.List.{List, ◌++◌, Memᴰ}
 use lib.ListN.{length, drop}
 use lib.Seq.{take-append_seam, drop-append_seam}
-use Rattle.record.specs.Place.{placeKey}
+use Rattle.record.specs.Place.{place_key}
 use Rattle.chains.specs.Chain.{Chain}
-use Rattle.chains.specs.Copies.{lastRoute}
+use Rattle.chains.specs.Copies.{last_route}
 use Rattle.lists.proofs.Pigeons.{pigeons}
 use Rattle.answers.specs.Numbers.{taken}
 use Rattle.books.specs.Book.{Route}
-use Rattle.books.specs.Words.{words_of, routesOf}
-use Rattle.books.proofs.RouteColumns.{shows-routes, words-routes}
-use Rattle.books.proofs.Building.{built-good}
+use Rattle.books.specs.Words.{words_of, routes_of}
+use Rattle.books.proofs.RouteColumns.{shows_routes, words_routes}
+use Rattle.books.proofs.Building.{built_good}
 use Rattle.books.proofs.Columns.{within}
 use Rattle.reading.specs.Reading.{meanings}
 use Rattle.reading.specs.Taken.{froms, tos, SoundRoutes}
-use Rattle.reading.proofs.Passing.{read-built}
-use Rattle.reading.proofs.Counts.{text-routed}
+use Rattle.reading.proofs.Passing.{read_built}
+use Rattle.reading.proofs.Counts.{text_routed}
 use Rattle.route_tables.specs.Tables.{RoutesTaken, LeftOf}
-use Rattle.route_tables.proofs.OneText.{text-routes-taken}
-use Rattle.routes.specs.Answers.{IsPlace, spreadAlong, gatewaysAlong, Rooms, SpreadBy, no_place, no_room, spreads, SpreadAnswer, not-a-book, by-routes}
+use Rattle.route_tables.proofs.OneText.{text_routes_taken}
+use Rattle.routes.specs.Answers.{IsPlace, spread_along, gateways_along, Rooms, SpreadBy, no_place, no_room, spreads, SpreadAnswer, not_a_book, by_routes}
 use Rattle.routes.specs.Listed.{Lists}
-use Rattle.routes.proofs.Listed.{spread-lists, gateways-count, gateway-of-last}
+use Rattle.routes.proofs.Listed.{spread_lists, gateways_count, gateway_of_last}
 use Rattle.book.specs.Answered.{Answered}
-use Rattle.demands.specs.Text.{textRoutes}
-use Rattle.demands.specs.RLines.{textRLines, ListsPlaces, AllInLimits}
+use Rattle.demands.specs.Text.{text_routes}
+use Rattle.demands.specs.RLines.{text_rlines, ListsPlaces, AllInLimits}
 use Rattle.demands.specs.Spreads.{RoomEnough, RoomForFewer, Spreads}
-use Rattle.demands.proofs.LineNumbers.{routes-of-text}
-use Rattle.demands.proofs.Keys.{text_in-limits, many, gateway-at, keyed, unkeyed, ends}
+use Rattle.demands.proofs.LineNumbers.{routes_of_text}
+use Rattle.demands.proofs.Keys.{text_in_limits, many, gateway_at, keyed, unkeyed, ends}
 use Rattle.demands.proofs.Taken.{left}
 
 -- what lists the places that chains of routes reach lists those that chains of R lines reach
-module _ (text : List ℕ) (limits : AllInLimits (textRLines text)) (bus identifier : ℕ) (p : IsPlace bus identifier) where
-  reached : (q : ℕ) (c : List ℕ) → Chain (froms (textRoutes text)) (tos (textRoutes text)) (placeKey bus identifier) c q
-      → (l : List ℕ) → ListsPlaces (textRLines text) bus identifier l → Memᴰ q l
+module _ (text : List ℕ) (limits : AllInLimits (text_rlines text)) (bus identifier : ℕ) (p : IsPlace bus identifier) where
+  reached : (q : ℕ) (c : List ℕ) → Chain (froms (text_routes text)) (tos (text_routes text)) (place_key bus identifier) c q
+      → (l : List ℕ) → ListsPlaces (text_rlines text) bus identifier l → Memᴰ q l
   reached q c w l h =
-      let e = ends text limits (placeKey bus identifier) c q w in
+      let e = ends text limits (place_key bus identifier) c q w in
       subst (λ (x : ℕ). Memᴰ x l) (sym e.to)
-      (h.every e.to-bus e.to-identifier c
-      (unkeyed text limits bus identifier c e.to-bus e.to-identifier p.identified e.to-identified
-      (subst (λ (x : ℕ). Chain (froms (textRoutes text)) (tos (textRoutes text)) (placeKey bus identifier) c x) e.to w)))
+      (h.every e.to_bus e.to_identifier c
+      (unkeyed text limits bus identifier c e.to_bus e.to_identifier p.identified e.to_identified
+      (subst (λ (x : ℕ). Chain (froms (text_routes text)) (tos (text_routes text)) (place_key bus identifier) c x) e.to w)))
 
-  lists-lines : (l : List ℕ) → Lists (froms (textRoutes text)) (tos (textRoutes text)) (placeKey bus identifier) l → ListsPlaces (textRLines text) bus identifier l
-  lists-lines l h = record {
-    every = λ b j c w. h.every (placeKey b j) c (keyed text bus identifier c b j w);
+  lists_lines : (l : List ℕ) → Lists (froms (text_routes text)) (tos (text_routes text)) (place_key bus identifier) l → ListsPlaces (text_rlines text) bus identifier l
+  lists_lines l h = record {
+    every = λ b j c w. h.every (place_key b j) c (keyed text bus identifier c b j w);
     only = λ q m.
         let r = h.only q m in
-        let e = ends text limits (placeKey bus identifier) r.0 q r.1 in (
-          e.to-bus,
-          e.to-identifier,
+        let e = ends text limits (place_key bus identifier) r.0 q r.1 in (
+          e.to_bus,
+          e.to_identifier,
           r.0,
           e.to,
-          unkeyed text limits bus identifier r.0 e.to-bus e.to-identifier p.identified e.to-identified
-              (subst (λ (x : ℕ). Chain (froms (textRoutes text)) (tos (textRoutes text)) (placeKey bus identifier) r.0 x) e.to r.1),
+          unkeyed text limits bus identifier r.0 e.to_bus e.to_identifier p.identified e.to_identified
+              (subst (λ (x : ℕ). Chain (froms (text_routes text)) (tos (text_routes text)) (place_key bus identifier) r.0 x) e.to r.1),
         );
     once = h.once;
     few = omega (arith, h.few, many text);
   }
 
   -- every such list is as long as the spread
-  module _ (sound : SoundRoutes (textRoutes text)) where
+  module _ (sound : SoundRoutes (text_routes text)) where
     abbrev s : List ℕ
-    s = spreadAlong (textRoutes text) bus identifier
+    s = spread_along (text_routes text) bus identifier
 
     abbrev g : List ℕ
-    g = gatewaysAlong (textRoutes text) bus identifier
+    g = gateways_along (text_routes text) bus identifier
 
-    gs-many : length g ≡ length s
-    gs-many = gateways-count (textRoutes text) sound bus identifier
+    gs_many : length g ≡ length s
+    gs_many = gateways_count (text_routes text) sound bus identifier
 
-    listed : Lists (froms (textRoutes text)) (tos (textRoutes text)) (placeKey bus identifier) s
-    listed = spread-lists (textRoutes text) sound bus identifier
+    listed : Lists (froms (text_routes text)) (tos (text_routes text)) (place_key bus identifier) s
+    listed = spread_lists (text_routes text) sound bus identifier
 
-    as_long : (l : List ℕ) → ListsPlaces (textRLines text) bus identifier l → length l ≡ length s
+    as_long : (l : List ℕ) → ListsPlaces (text_rlines text) bus identifier l → length l ≡ length s
     as_long l h =
-        let fewer = pigeons l s h.once (λ q m. let r = h.only q m in subst (λ (x : ℕ). Memᴰ x s) (sym r.3) (listed.every (placeKey r.0 r.1) r.2 (keyed text bus identifier r.2 r.0 r.1 r.4))) in
+        let fewer = pigeons l s h.once (λ q m. let r = h.only q m in subst (λ (x : ℕ). Memᴰ x s) (sym r.3) (listed.every (place_key r.0 r.1) r.2 (keyed text bus identifier r.2 r.0 r.1 r.4))) in
         let more = pigeons s l listed.once (λ q m. let r = listed.only q m in reached q r.0 r.1 l h) in
         omega (arith, fewer, more)
 
     module _ (room : Rooms) where
-      enough-spreads : {why n : ℕ} {after : Rooms} → RoomEnough (textRLines text) bus identifier room → SpreadBy (textRoutes text) bus identifier room why n after → Spreads (textRLines text) bus identifier room why n after
-      enough-spreads e (no_place x) = absurd (x p)
-      enough-spreads e (no_room x l) = absurd (omega (arith, as_long e.places e.lists, e.fits, e.gateways-fit))
-      enough-spreads e (spreads x l) = record {
-        not-refused = refl;
-        lists = subst (ListsPlaces (textRLines text) bus identifier) (sym (take-append_seam s (drop (length s) room.places))) (lists-lines s listed);
+      enough_spreads : {why n : ℕ} {after : Rooms} → RoomEnough (text_rlines text) bus identifier room → SpreadBy (text_routes text) bus identifier room why n after → Spreads (text_rlines text) bus identifier room why n after
+      enough_spreads e (no_place x) = absurd (x p)
+      enough_spreads e (no_room x l) = absurd (omega (arith, as_long e.places e.lists, e.fits, e.gateways_fit))
+      enough_spreads e (spreads x l) = record {
+        not_refused = refl;
+        lists = subst (ListsPlaces (text_rlines text) bus identifier) (sym (take-append_seam s (drop (length s) room.places))) (lists_lines s listed);
         made_by = λ k b j c h same w.
-            gateway-of-last (textRoutes text) sound bus identifier room (spreads x l) refl k h c
-            (subst (Chain (froms (textRoutes text)) (tos (textRoutes text)) (placeKey bus identifier) c) (sym same) (keyed text bus identifier c b j w)) ∙
-            gateway-at (meanings text) (lastRoute c);
+            gateway_of_last (text_routes text) sound bus identifier room (spreads x l) refl k h c
+            (subst (Chain (froms (text_routes text)) (tos (text_routes text)) (place_key bus identifier) c) (sym same) (keyed text bus identifier c b j w)) ∙
+            gateway_at (meanings text) (last_route c);
         rest = drop-append_seam s (drop (length s) room.places);
-        gateways-rest = ap (λ (n : ℕ). drop n (g ++ drop (length s) room.gateways)) (sym gs-many) ∙ drop-append_seam g (drop (length s) room.gateways);
+        gateways_rest = ap (λ (n : ℕ). drop n (g ++ drop (length s) room.gateways)) (sym gs_many) ∙ drop-append_seam g (drop (length s) room.gateways);
       }
 
-      refused-short : {why n : ℕ} {after : Rooms} → why ≡ 62 → SpreadBy (textRoutes text) bus identifier room why n after → RoomForFewer (textRLines text) bus identifier room
-      refused-short e (no_place x) = absurd (x p)
-      refused-short e (no_room x l) = record { places = s; lists = lists-lines s listed; short = which (dec_le (length s) (length room.places)) }
+      refused_short : {why n : ℕ} {after : Rooms} → why ≡ 62 → SpreadBy (text_routes text) bus identifier room why n after → RoomForFewer (text_rlines text) bus identifier room
+      refused_short e (no_place x) = absurd (x p)
+      refused_short e (no_room x l) = record { places = s; lists = lists_lines s listed; short = which (dec_le (length s) (length room.places)) }
         where
           which : Dec (length s ≤ length room.places) → (length room.places < length s) ⊎ (length room.gateways < length s)
           which (yes h) = inr (omega (arith, l))
           which (no h) = inl (omega (arith, h))
-      refused-short e (spreads x l) = absurd (omega arith)
+      refused_short e (spreads x l) = absurd (omega arith)
 
-      short-refused : {why n : ℕ} {after : Rooms} → RoomForFewer (textRLines text) bus identifier room → SpreadBy (textRoutes text) bus identifier room why n after → why ≡ 62
-      short-refused t (no_place x) = absurd (x p)
-      short-refused t (no_room x l) = refl
-      short-refused t (spreads x l) =
+      short_refused : {why n : ℕ} {after : Rooms} → RoomForFewer (text_rlines text) bus identifier room → SpreadBy (text_routes text) bus identifier room why n after → why ≡ 62
+      short_refused t (no_place x) = absurd (x p)
+      short_refused t (no_room x l) = refl
+      short_refused t (spreads x l) =
           ⊎_elim (λ h. absurd (omega (arith, as_long t.places t.lists, h))) (λ h. absurd (omega (arith, as_long t.places t.lists, h))) t.short
 
 -- by the words that the reader left
@@ -119,40 +119,40 @@ module _ (text : List ℕ) {m s r : ℕ} {w : List ℕ} (a : Answered text (take
   abbrev was : LeftOf text w
   was = left text a
 
-  pub shows-text : routesOf w ≡ textRoutes text
-  shows-text =
+  pub shows_text : routes_of w ≡ text_routes text
+  shows_text =
       let t = was.taken in
-      let l = within was.book.messages (built-good (read-built text t.read)) in
-      let few = (text-routed text t.read).few in
-      ap routesOf was.words ∙ shows-routes (words_of was.book) was.book.routes few (words-routes was.book l.few l.room few) ∙ routes-of-text text t.read
+      let l = within was.book.messages (built_good (read_built text t.read)) in
+      let few = (text_routed text t.read).few in
+      ap routes_of was.words ∙ shows_routes (words_of was.book) was.book.routes few (words_routes was.book l.few l.room few) ∙ routes_of_text text t.read
 
-  sound-text : SoundRoutes (textRoutes text)
-  sound-text = subst SoundRoutes (routes-of-text text was.taken.read) was.taken.sound
+  sound_text : SoundRoutes (text_routes text)
+  sound_text = subst SoundRoutes (routes_of_text text was.taken.read) was.taken.sound
 
-  pub is-taken : RoutesTaken w
-  is-taken = subst RoutesTaken (sym was.words) (text-routes-taken text was.book was.taken)
+  pub is_taken : RoutesTaken w
+  is_taken = subst RoutesTaken (sym was.words) (text_routes_taken text was.book was.taken)
 
-  pub limits : AllInLimits (textRLines text)
-  limits = text_in-limits text was.taken.read
+  pub limits : AllInLimits (text_rlines text)
+  limits = text_in_limits text was.taken.read
 
   module _ (bus identifier : ℕ) (p : IsPlace bus identifier) (room : Rooms) {why n : ℕ} {after : Rooms} (x : SpreadAnswer w bus identifier room why n after) where
-    by-text : SpreadBy (textRoutes text) bus identifier room why n after
-    by-text = from x
+    by_text : SpreadBy (text_routes text) bus identifier room why n after
+    by_text = from x
       where
-        from : {why n : ℕ} {after : Rooms} → SpreadAnswer w bus identifier room why n after → SpreadBy (textRoutes text) bus identifier room why n after
-        from (not-a-book none) = absurd (none is-taken)
-        from {why} {n} {after} (by-routes t b) = subst (λ (rs : List Route). SpreadBy rs bus identifier room why n after) shows-text b
+        from : {why n : ℕ} {after : Rooms} → SpreadAnswer w bus identifier room why n after → SpreadBy (text_routes text) bus identifier room why n after
+        from (not_a_book none) = absurd (none is_taken)
+        from {why} {n} {after} (by_routes t b) = subst (λ (rs : List Route). SpreadBy rs bus identifier room why n after) shows_text b
 
     -- given room enough, the call lists every place that a chain reaches
-    pub spread-of-taken : RoomEnough (textRLines text) bus identifier room → Spreads (textRLines text) bus identifier room why n after
-    spread-of-taken e = enough-spreads text limits bus identifier p sound-text room e by-text
+    pub spread_of_taken : RoomEnough (text_rlines text) bus identifier room → Spreads (text_rlines text) bus identifier room why n after
+    spread_of_taken e = enough_spreads text limits bus identifier p sound_text room e by_text
 
     -- 62 exactly where there is less
-    pub refused-62 : (why ≡ 62) ↔ RoomForFewer (textRLines text) bus identifier room
-    refused-62 = (λ e. refused-short text limits bus identifier p sound-text room e by-text, λ t. short-refused text limits bus identifier p sound-text room t by-text)
+    pub refused_62 : (why ≡ 62) ↔ RoomForFewer (text_rlines text) bus identifier room
+    refused_62 = (λ e. refused_short text limits bus identifier p sound_text room e by_text, λ t. short_refused text limits bus identifier p sound_text room t by_text)
 
   -- room for as many entries as there are R lines is always enough
-  pub routes-enough : (bus identifier : ℕ) → IsPlace bus identifier → (room : Rooms) → length (textRLines text) ≤ length room.places → length (textRLines text) ≤ length room.gateways → RoomEnough (textRLines text) bus identifier room
-  routes-enough bus identifier p room h g =
-      let l = lists-lines text limits bus identifier p _ (spread-lists (textRoutes text) sound-text bus identifier) in
-      record { places = spreadAlong (textRoutes text) bus identifier; lists = l; fits = omega (arith, l.few); gateways-fit = omega (arith, l.few) }
+  pub routes_enough : (bus identifier : ℕ) → IsPlace bus identifier → (room : Rooms) → length (text_rlines text) ≤ length room.places → length (text_rlines text) ≤ length room.gateways → RoomEnough (text_rlines text) bus identifier room
+  routes_enough bus identifier p room h g =
+      let l = lists_lines text limits bus identifier p _ (spread_lists (text_routes text) sound_text bus identifier) in
+      record { places = spread_along (text_routes text) bus identifier; lists = l; fits = omega (arith, l.few); gateways_fit = omega (arith, l.few) }

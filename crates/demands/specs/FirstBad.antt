@@ -1,12 +1,12 @@
 -- "Order in the book reader: 1; then the first bad line, on it the lowest of 2 to 9", as a sentence over the lines. Assumes nothing: these
 -- are definitions.
 use Rattle.std.specs.Prelude.{◌≡◌, ℕ, suc, ◌≤◌, List, [], ◌∷◌, ◌++◌, length}
-use Rattle.record.specs.Limits.{textLimit}
+use Rattle.record.specs.Limits.{text_limit}
 use Rattle.line.specs.declared.Line.{Line}
 use Rattle.line.specs.declared.Line.TheVariants as line
-use Rattle.books.specs.Book.{Book, noBook, placement}
+use Rattle.books.specs.Book.{Book, no_book, placement}
 use Rattle.books.specs.Due.{MessageDue, SignalDue, RouteDue}
-use Rattle.reading.specs.Reading.{withLine, meanings}
+use Rattle.reading.specs.Reading.{with_line, meanings}
 
 -- which of 2 to 9 a line deserves after the lines that gave the book, in no order: 2 for its form, 3 to 9 by the table of refusals
 pub data LineDue (b : Book) : Line → ℕ → Type 0 where
@@ -17,12 +17,12 @@ pub data LineDue (b : Book) : Line → ℕ → Type 0 where
 
 -- lines that pass, each after those before it, and the book that they give
 pub data Pass : List Line → Book → Type 0 where
-  none : Pass [] noBook
-  more : {ls : List Line} {b : Book} (l : Line) → Pass ls b → ((n : ℕ) → LineDue b l n → ⊥) → Pass (ls ++ (l ∷ [])) (withLine b l)
+  none : Pass [] no_book
+  more : {ls : List Line} {b : Book} (l : Line) → Pass ls b → ((n : ℕ) → LineDue b l n → ⊥) → Pass (ls ++ (l ∷ [])) (with_line b l)
 
 -- the text is not too long, and all its lines pass
 pub record AllPass (text : List ℕ) : Type 0 where
-  pub short : length text ≤ textLimit
+  pub short : length text ≤ text_limit
   pub book : Book
   pub passes : Pass (meanings text) book
 

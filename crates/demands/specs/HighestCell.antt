@@ -3,49 +3,49 @@
 -- longer is." Assumes nothing: these are definitions.
 use Rattle.std.specs.Prelude.{◌≡◌, true, List, ℕ, suc, ◌*◌, ◌≤◌, ◌<◌, pos, Float, length, get_or, take, drop}
 use Rattle.std.proofs.Math.Option.{some}
-use Rattle.bits.specs.Frame.{frameBytes}
+use Rattle.bits.specs.Frame.{frame_bytes}
 use Rattle.books.specs.Book.{Message}
-use Rattle.books.specs.Words.{messagesOf, messagesTaken}
+use Rattle.books.specs.Words.{messages_of, messages_taken_spec}
 use Rattle.catalogue.specs.declared.Raw.{Raw}
 use Rattle.catalogue.specs.declared.Class.TheVariants.{Value, Outside}
-use Rattle.catalogue.specs.Class.{classOf}
+use Rattle.catalogue.specs.Class.{class_of_spec}
 use Rattle.framing.specs.declared.Packing.TheVariants.{Packed, ReservedOrOutside}
-use Rattle.framing.specs.Messages.{messageWith}
-use Rattle.framing.specs.Packing.{judgedValues, packing}
-use Rattle.framing.specs.Demand.{placementAt}
+use Rattle.framing.specs.Messages.{message_with}
+use Rattle.framing.specs.Packing.{judged_values, packing}
+use Rattle.framing.specs.Demand.{placement_at}
 use Rattle.doubles.specs.Doubles.{IsWhole}
 use Rattle.dash.specs.declared.Dash.TheVariants as dash
 use Rattle.dash.specs.declared.DashAnswer.TheVariants.{Shown}
-use Rattle.dash.specs.Answer.{dashOf}
+use Rattle.dash.specs.Answer.{dash_of}
 
-abbrev pub rawCount : ℕ → Raw
-rawCount n = record { 0 = n }
+abbrev pub raw_count : ℕ → Raw
+raw_count n = record { 0 = n }
 
 -- a signal is read like another: the CSC of the highest cell, 705, like that of the lowest, 703, and the cell itself, 706, like 702
 abbrev pub ReadLike : ℕ → ℕ → Type 0
-ReadLike number twin = (raw : Raw) → classOf number raw ≡ classOf twin raw
+ReadLike number twin = (raw : Raw) → class_of_spec number raw ≡ class_of_spec twin raw
 
 -- the packer comes to the i-th value, which is the signal's: nothing was refused before
 pub record ComesTo (number : ℕ) (words : List ℕ) (identifier : ℕ) (vs lent : List ℕ) (m : Message) (i : ℕ) : Type 0 where
-  pub taken : messagesTaken words ≡ true
-  pub found : messageWith identifier (messagesOf words) ≡ some m
+  pub taken : messages_taken_spec words ≡ true
+  pub found : message_with identifier (messages_of words) ≡ some m
   pub many : length vs ≡ length m.placements
-  pub eight : length lent ≡ frameBytes
+  pub eight : length lent ≡ frame_bytes
   pub within : i < length vs
-  pub signal : (placementAt m i).number ≡ number
-  pub before : judgedValues (take i m.placements) (take i vs) ≡ Packed
+  pub signal : (placement_at m i).number ≡ number
+  pub before : judged_values (take i m.placements) (take i vs) ≡ Packed
 
 -- offset 0, raw 1 to 255: what is read, shown and packed
 pub record CountsFromOne (number : ℕ) : Type 0 where
   -- raw 0 is outside, for the dash too
-  pub zero-outside : classOf number (rawCount 0) ≡ Outside (rawCount 0)
-  pub zero-shown : dashOf number (rawCount 0) ≡ Shown dash.Outside
+  pub zero_outside : class_of_spec number (raw_count 0) ≡ Outside (raw_count 0)
+  pub zero_shown : dash_of number (raw_count 0) ≡ Shown dash.Outside
   -- raw 1 to 255 are values, and read as what they are
-  pub reads : (n : ℕ) → 1 ≤ n → n ≤ 255 → classOf number (rawCount n) ≡ Value (record { 0 = pos (n * 1000) })
-  pub shows : (n : ℕ) → 1 ≤ n → n ≤ 255 → (x : Float) × ((dashOf number (rawCount n) ≡ Shown (dash.Value x)) × IsWhole x (pos n))
+  pub reads : (n : ℕ) → 1 ≤ n → n ≤ 255 → class_of_spec number (raw_count n) ≡ Value (record { 0 = pos (n * 1000) })
+  pub shows : (n : ℕ) → 1 ≤ n → n ≤ 255 → (x : Float) × ((dash_of number (raw_count n) ≡ Shown (dash.Value x)) × IsWhole x (pos n))
   -- raw 0 is refused with 27, and the frame stays as lent
-  pub zero-refused : (words : List ℕ) (identifier : ℕ) (vs lent : List ℕ) (m : Message) (i : ℕ) → ComesTo number words identifier vs lent m i
+  pub zero_refused : (words : List ℕ) (identifier : ℕ) (vs lent : List ℕ) (m : Message) (i : ℕ) → ComesTo number words identifier vs lent m i
       → get_or vs i 0 ≡ 0 → packing words identifier vs lent ≡ (ReservedOrOutside, lent)
   -- raw 1 to 255 is not: the values behind it decide
   pub sent : (words : List ℕ) (identifier : ℕ) (vs lent : List ℕ) (m : Message) (i : ℕ) → ComesTo number words identifier vs lent m i
-      → 1 ≤ get_or vs i 0 → get_or vs i 0 ≤ 255 → (packing words identifier vs lent).0 ≡ judgedValues (drop (suc i) m.placements) (drop (suc i) vs)
+      → 1 ≤ get_or vs i 0 → get_or vs i 0 ≤ 255 → (packing words identifier vs lent).0 ≡ judged_values (drop (suc i) m.placements) (drop (suc i) vs)

@@ -3,7 +3,7 @@
 -- differ." Assumes nothing: these are definitions.
 use Rattle.std.specs.Prelude.{◌≡◌, ℕ, ◌<◌, ◌≤◌, length, get_or}
 use mathlib.Core.List.{List, [], ◌∷◌, Memᴰ}
-use Rattle.record.specs.Place.{placeKey}
+use Rattle.record.specs.Place.{place_key}
 use Rattle.chains.specs.Chain.{Different}
 use Rattle.chains.specs.Spread.{Distinct}
 use Rattle.line.specs.declared.Line.{Line}
@@ -17,13 +17,13 @@ pub record RLine : Type 0 where
   pub gateway : ℕ
   pub bus : ℕ
   pub identifier : ℕ
-  pub to-bus : ℕ
-  pub to-identifier : ℕ
+  pub to_bus : ℕ
+  pub to_identifier : ℕ
 
 -- an R line from a place to a place: its buses and identifiers are within their limits
 pub record InLimits (l : RLine) : Type 0 where
   pub from : IsPlace l.bus l.identifier
-  pub to : IsPlace l.to-bus l.to-identifier
+  pub to : IsPlace l.to_bus l.to_identifier
 
 -- all of them are
 pub data AllInLimits : List RLine → Type 0 where
@@ -31,44 +31,44 @@ pub data AllInLimits : List RLine → Type 0 where
   more : {l : RLine} {ls : List RLine} → InLimits l → AllInLimits ls → AllInLimits (l ∷ ls)
 
 -- the R lines of a text, in their order
-unfoldable pub rLinesIn : List Line → List RLine
-rLinesIn [] = []
-rLinesIn (line.Message i ∷ ls) = rLinesIn ls
-rLinesIn (line.Signal n s ∷ ls) = rLinesIn ls
-rLinesIn (line.Route g a i b j ∷ ls) = record { gateway = g; bus = a; identifier = i; to-bus = b; to-identifier = j } ∷ rLinesIn ls
-rLinesIn (line.IllFormed ∷ ls) = rLinesIn ls
+unfoldable pub r_lines_in : List Line → List RLine
+r_lines_in [] = []
+r_lines_in (line.Message i ∷ ls) = r_lines_in ls
+r_lines_in (line.Signal n s ∷ ls) = r_lines_in ls
+r_lines_in (line.Route g a i b j ∷ ls) = record { gateway = g; bus = a; identifier = i; to_bus = b; to_identifier = j } ∷ r_lines_in ls
+r_lines_in (line.IllFormed ∷ ls) = r_lines_in ls
 
-abbrev pub textRLines : List ℕ → List RLine
-textRLines text = rLinesIn (meanings text)
+abbrev pub text_rlines : List ℕ → List RLine
+text_rlines text = r_lines_in (meanings text)
 
 -- what stands where there is no such line
-abbrev pub noLine : RLine
-noLine = record { gateway = 0; bus = 0; identifier = 0; to-bus = 0; to-identifier = 0 }
+abbrev pub no_line_spec : RLine
+no_line_spec = record { gateway = 0; bus = 0; identifier = 0; to_bus = 0; to_identifier = 0 }
 
 -- the k-th of them
-abbrev pub rLineAt : List RLine → ℕ → RLine
-rLineAt ls k = get_or ls k noLine
+abbrev pub r_line_at : List RLine → ℕ → RLine
+r_line_at ls k = get_or ls k no_line_spec
 
 module _ (ls : List RLine) where
   -- lines, by their index among the R lines, each starting at the bus and identifier where the one before ended; there may be none
   abbrev pub LineWalk : ℕ → ℕ → List ℕ → ℕ → ℕ → Type 0
-  LineWalk bus identifier [] to-bus to-identifier = (bus ≡ to-bus) × (identifier ≡ to-identifier)
-  LineWalk bus identifier (k ∷ c) to-bus to-identifier =
-      (k < length ls) × ((rLineAt ls k).bus ≡ bus) × ((rLineAt ls k).identifier ≡ identifier) × LineWalk (rLineAt ls k).to-bus (rLineAt ls k).to-identifier c to-bus to-identifier
+  LineWalk bus identifier [] to_bus to_identifier = (bus ≡ to_bus) × (identifier ≡ to_identifier)
+  LineWalk bus identifier (k ∷ c) to_bus to_identifier =
+      (k < length ls) × ((r_line_at ls k).bus ≡ bus) × ((r_line_at ls k).identifier ≡ identifier) × LineWalk (r_line_at ls k).to_bus (r_line_at ls k).to_identifier c to_bus to_identifier
 
   -- a chain is one or more of them
   abbrev pub LineChain : ℕ → ℕ → List ℕ → ℕ → ℕ → Type 0
-  LineChain bus identifier [] to-bus to-identifier = ⊥
-  LineChain bus identifier (k ∷ c) to-bus to-identifier = LineWalk bus identifier (k ∷ c) to-bus to-identifier
+  LineChain bus identifier [] to_bus to_identifier = ⊥
+  LineChain bus identifier (k ∷ c) to_bus to_identifier = LineWalk bus identifier (k ∷ c) to_bus to_identifier
 
   -- a chain that returns to the bus and identifier it left
   pub record Returning (bus identifier : ℕ) (chain : List ℕ) : Type 0 where
     pub closed : LineChain bus identifier chain bus identifier
 
   -- two different chains that join the same two places
-  pub record Joining (bus identifier to-bus to-identifier : ℕ) (chain another : List ℕ) : Type 0 where
-    pub one : LineChain bus identifier chain to-bus to-identifier
-    pub other : LineChain bus identifier another to-bus to-identifier
+  pub record Joining (bus identifier to_bus to_identifier : ℕ) (chain another : List ℕ) : Type 0 where
+    pub one : LineChain bus identifier chain to_bus to_identifier
+    pub other : LineChain bus identifier another to_bus to_identifier
     pub different : Different chain another
 
   -- the k-th R line lies on a closed chain
@@ -83,17 +83,17 @@ module _ (ls : List RLine) where
   pub record BeginsPair (k : ℕ) : Type 0 where
     pub bus : ℕ
     pub identifier : ℕ
-    pub to-bus : ℕ
-    pub to-identifier : ℕ
+    pub to_bus : ℕ
+    pub to_identifier : ℕ
     pub rest : List ℕ
     pub another : List ℕ
-    pub joining : Joining bus identifier to-bus to-identifier (k ∷ rest) another
+    pub joining : Joining bus identifier to_bus to_identifier (k ∷ rest) another
 
   -- places, each by its number, list what chains reach from a bus and identifier: every such place, nothing else, each once, and no more
   -- than there are R lines
   pub record ListsPlaces (bus identifier : ℕ) (places : List ℕ) : Type 0 where
-    pub every : (to-bus to-identifier : ℕ) (c : List ℕ) → LineChain bus identifier c to-bus to-identifier → Memᴰ (placeKey to-bus to-identifier) places
+    pub every : (to_bus to_identifier : ℕ) (c : List ℕ) → LineChain bus identifier c to_bus to_identifier → Memᴰ (place_key to_bus to_identifier) places
     pub only : (place : ℕ) → Memᴰ place places
-        → (to-bus to-identifier : ℕ) × (c : List ℕ) × (place ≡ placeKey to-bus to-identifier) × LineChain bus identifier c to-bus to-identifier
+        → (to_bus to_identifier : ℕ) × (c : List ℕ) × (place ≡ place_key to_bus to_identifier) × LineChain bus identifier c to_bus to_identifier
     pub once : Distinct places
     pub few : length places ≤ length ls

@@ -12,22 +12,22 @@ use lib.Ieee.Back.{round_whole}
 use lib.Ieee.Exact.{HasValue}
 use lib.Ieee.Fits.{down_pos}
 use lib.Ieee.Scale.{round_same}
-use Rattle.rows.specs.Rule.{exactDoubles}
+use Rattle.rows.specs.Rule.{exact_doubles}
 use Rattle.catalogue.specs.declared.Thousandths.{Thousandths}
-use Rattle.doubles.specs.Doubles.{doubleOf, inUnits, IsWhole, nearestTo, Small}
+use Rattle.doubles.specs.Doubles.{double_of, in_units_spec, IsWhole, nearest_to, Small}
 
 -- ---- nothing is lost
 
 -- the machine's own test of a cast
-pub cast_fits : (z : ℤ) → nat_abs z ≤ exactDoubles → T (in_float binary64 z)
+pub cast_fits : (z : ℤ) → nat_abs z ≤ exact_doubles → T (in_float binary64 z)
 unfolding in_float
 cast_fits (pos n) h = le→leb n (2 ^ 53) h
 cast_fits (negsuc n) h = lt→ltb n (2 ^ 53) (omega (arith, h))
 
-pub without-loss : (z : ℤ) → nat_abs z ≤ exactDoubles → IsWhole (doubleOf z) z
+pub without_loss : (z : ℤ) → nat_abs z ≤ exact_doubles → IsWhole (double_of z) z
 unfolding of_int
-without-loss (pos n) h = round_whole binary64 false n h
-without-loss (negsuc n) h = round_whole binary64 true (suc n) h
+without_loss (pos n) h = round_whole binary64 false n h
+without_loss (negsuc n) h = round_whole binary64 true (suc n) h
 
 -- ---- 1000
 
@@ -35,13 +35,13 @@ without-loss (negsuc n) h = round_whole binary64 true (suc n) h
 abbrev thousand : Float
 thousand = fin false 125 (pos 3)
 
-pub as-coded : of_bits binary64 0x408f_4000_0000_0000 ≡ doubleOf (pos 1000)
+pub as_coded : of_bits binary64 0x408f_4000_0000_0000 ≡ double_of (pos 1000)
 unfolding of_bits of_int round
-as-coded = refl
+as_coded = refl
 
-is-thousand : doubleOf (pos 1000) ≡ thousand
+is_thousand : double_of (pos 1000) ≡ thousand
 unfolding of_int round
-is-thousand = refl
+is_thousand = refl
 
 -- ---- one rounding
 
@@ -62,41 +62,41 @@ divided (fin t m e) s n v = go t v.0
     go true q = same true ∙ ap (λ (u : Bool). round binary64 u n 1000) q
     go false q = same false ∙ ap (λ (u : Bool). round binary64 u n 1000) q
 
-by-thousand : (z : ℤ) → nat_abs z ≤ exactDoubles → div binary64 (doubleOf z) thousand ≡ nearestTo z 1000
-unfolding nearestTo
-by-thousand (pos n) h = divided (doubleOf (pos n)) false n (without-loss (pos n) h)
-by-thousand (negsuc n) h = divided (doubleOf (negsuc n)) true (suc n) (without-loss (negsuc n) h)
+by_thousand : (z : ℤ) → nat_abs z ≤ exact_doubles → div binary64 (double_of z) thousand ≡ nearest_to z 1000
+unfolding nearest_to
+by_thousand (pos n) h = divided (double_of (pos n)) false n (without_loss (pos n) h)
+by_thousand (negsuc n) h = divided (double_of (negsuc n)) true (suc n) (without_loss (negsuc n) h)
 
 -- the reading is the double nearest to the exact quotient
-pub rounded-once : (t : Thousandths) → Small t → inUnits t ≡ nearestTo t.0 1000
-unfolding inUnits
-rounded-once t h = ap (div binary64 (doubleOf t.0)) is-thousand ∙ by-thousand t.0 h
+pub rounded_once : (t : Thousandths) → Small t → in_units_spec t ≡ nearest_to t.0 1000
+unfolding in_units_spec
+rounded_once t h = ap (div binary64 (double_of t.0)) is_thousand ∙ by_thousand t.0 h
 
 -- ---- multiples of 1000
 
-fewer-neg : (m k : ℕ) → m ≡ suc k * 1000 → nat_abs (neg_ℤ (pos m)) ≤ exactDoubles → suc k ≤ exactDoubles
-fewer-neg zero k e h = absurd (omega (arith, e))
-fewer-neg (suc n) k e h = omega (arith, e, h)
+fewer_neg : (m k : ℕ) → m ≡ suc k * 1000 → nat_abs (neg_ℤ (pos m)) ≤ exact_doubles → suc k ≤ exact_doubles
+fewer_neg zero k e h = absurd (omega (arith, e))
+fewer_neg (suc n) k e h = omega (arith, e, h)
 
-fewer : (k : ℤ) → nat_abs (k *ℤ pos 1000) ≤ exactDoubles → nat_abs k ≤ exactDoubles
+fewer : (k : ℤ) → nat_abs (k *ℤ pos 1000) ≤ exact_doubles → nat_abs k ≤ exact_doubles
 fewer (pos k) h = omega (arith, h)
-fewer (negsuc k) h = fewer-neg (suc k * 1000) k refl h
+fewer (negsuc k) h = fewer_neg (suc k * 1000) k refl h
 
-below-zero : (m k : ℕ) → m ≡ suc k * 1000 → nearestTo (neg_ℤ (pos m)) 1000 ≡ doubleOf (negsuc k)
-unfolding nearestTo of_int
-below-zero zero k e = absurd (omega (arith, e))
-below-zero (suc n) k e = round_same binary64 true (suc n) 1000 (suc k) 1 (lit< tt) (lit< tt) (mul-one (suc n) ∙ e)
+below_zero : (m k : ℕ) → m ≡ suc k * 1000 → nearest_to (neg_ℤ (pos m)) 1000 ≡ double_of (negsuc k)
+unfolding nearest_to of_int
+below_zero zero k e = absurd (omega (arith, e))
+below_zero (suc n) k e = round_same binary64 true (suc n) 1000 (suc k) 1 (lit< tt) (lit< tt) (mul-one (suc n) ∙ e)
 
-whole-nearest : (k : ℤ) → nearestTo (k *ℤ pos 1000) 1000 ≡ doubleOf k
-unfolding nearestTo of_int
-whole-nearest (pos k) = round_same binary64 false (k * 1000) 1000 k 1 (lit< tt) (lit< tt) (mul-one (k * 1000))
-whole-nearest (negsuc k) = below-zero (suc k * 1000) k refl
+whole_nearest : (k : ℤ) → nearest_to (k *ℤ pos 1000) 1000 ≡ double_of k
+unfolding nearest_to of_int
+whole_nearest (pos k) = round_same binary64 false (k * 1000) 1000 k 1 (lit< tt) (lit< tt) (mul-one (k * 1000))
+whole_nearest (negsuc k) = below_zero (suc k * 1000) k refl
 
 -- "Where the thousandths are a multiple of 1000 the result must be that whole number exactly."
-pub whole-exact : (t : Thousandths) (k : ℤ) → Small t → t.0 ≡ k *ℤ pos 1000 → IsWhole (inUnits t) k
-whole-exact t k h e =
-    let same : inUnits t ≡ doubleOf k = rounded-once t h ∙ ap (λ (z : ℤ). nearestTo z 1000) e ∙ whole-nearest k in
-    subst⁻¹ (λ (x : Float). IsWhole x k) same (without-loss k (fewer k (subst (λ (z : ℤ). nat_abs z ≤ exactDoubles) e h)))
+pub whole_exact : (t : Thousandths) (k : ℤ) → Small t → t.0 ≡ k *ℤ pos 1000 → IsWhole (in_units_spec t) k
+whole_exact t k h e =
+    let same : in_units_spec t ≡ double_of k = rounded_once t h ∙ ap (λ (z : ℤ). nearest_to z 1000) e ∙ whole_nearest k in
+    subst⁻¹ (λ (x : Float). IsWhole x k) same (without_loss k (fewer k (subst (λ (z : ℤ). nat_abs z ≤ exact_doubles) e h)))
 
 -- ---- the bits
 
@@ -105,9 +105,9 @@ unfolding odd is_nan
 odd_is d s zero k l = tt
 odd_is d s (suc q) k l = tt
 
-units-is : (s : Bool) (q k : ℕ) → T (not (is_nan (units binary64 s q k)))
+units_is : (s : Bool) (q k : ℕ) → T (not (is_nan (units binary64 s q k)))
 unfolding units is_nan
-units-is s q k = go (ltb (q * 2 ^ k) (2 ^ (low binary64 + suc (emax binary64))))
+units_is s q k = go (ltb (q * 2 ^ k) (2 ^ (low binary64 + suc (emax binary64))))
   where
     go : (t : Bool) → T (not (is_nan (cond t (odd (suc (prec binary64)) s q k (low binary64)) (inf s))))
     go true = odd_is (suc (prec binary64)) s q k (low binary64)
@@ -119,13 +119,13 @@ round_is s a b =
     let n = a * 2 ^ low binary64 in
     let k = size (n / b) - prec binary64 in
     let u = b * 2 ^ k in
-    units-is s (nearest (n / u) (compare (n % u * 2) u)) k
+    units_is s (nearest (n / u) (compare (n % u * 2) u)) k
 
-nearest-is : (z : ℤ) → T (not (is_nan (nearestTo z 1000)))
-unfolding nearestTo
-nearest-is (pos n) = round_is false n 1000
-nearest-is (negsuc n) = round_is true (suc n) 1000
+nearest_is : (z : ℤ) → T (not (is_nan (nearest_to z 1000)))
+unfolding nearest_to
+nearest_is (pos n) = round_is false n 1000
+nearest_is (negsuc n) = round_is true (suc n) 1000
 
 -- no reading is a NaN, so each has one pattern of bits
-pub no_nan : (t : Thousandths) → Small t → T (not (is_nan (inUnits t)))
-no_nan t h = subst⁻¹ (λ (x : Float). T (not (is_nan x))) (rounded-once t h) (nearest-is t.0)
+pub no_nan : (t : Thousandths) → Small t → T (not (is_nan (in_units_spec t)))
+no_nan t h = subst⁻¹ (λ (x : Float). T (not (is_nan x))) (rounded_once t h) (nearest_is t.0)

@@ -5,18 +5,18 @@ use Rattle.std.specs.Prelude.{ℕ, suc, ◌≤◌, true, false, ℤ, pos, negsuc
 use Rattle.std.specs.Float.{binary64}
 use Rattle.std.specs.Float.Ieee.{round, div, of_int}
 use Rattle.std.specs.Float.Ieee.Exact.{HasValue}
-use Rattle.rows.specs.Rule.{exactDoubles}
+use Rattle.rows.specs.Rule.{exact_doubles}
 use Rattle.catalogue.specs.declared.Thousandths.{Thousandths}
 use Rattle.catalogue.specs.declared.Class.{Class}
 use Rattle.catalogue.specs.declared.Class.TheVariants.{Value, Invalid, Absent, Error, Reserved, Outside, NotInCatalogue, TooWide}
 
 -- a whole number turned into a double
-abbrev pub doubleOf : ℤ → Float
-doubleOf z = of_int binary64 z
+abbrev pub double_of : ℤ → Float
+double_of z = of_int binary64 z
 
 -- that double divided once by 1000: a reading in the printed unit
-unfoldable pub inUnits : Thousandths → Float
-inUnits t = div binary64 (doubleOf t.0) (doubleOf (pos 1000))
+unfoldable pub in_units_spec : Thousandths → Float
+in_units_spec t = div binary64 (double_of t.0) (double_of (pos 1000))
 
 -- ---- what the theorems say of it
 
@@ -26,13 +26,13 @@ IsWhole x (pos n) = HasValue x false n 1
 IsWhole x (negsuc n) = HasValue x true (suc n) 1
 
 -- the double nearest to an exact quotient, of two equally near ones the even: what one rounding makes of z / d
-unfoldable pub nearestTo : ℤ → ℕ → Float
-nearestTo (pos n) d = round binary64 false n d
-nearestTo (negsuc n) d = round binary64 true (suc n) d
+unfoldable pub nearest_to : ℤ → ℕ → Float
+nearest_to (pos n) d = round binary64 false n d
+nearest_to (negsuc n) d = round binary64 true (suc n) d
 
 -- thousandths of which a double loses nothing
 abbrev pub Small : Thousandths → Type 0
-Small t = nat_abs t.0 ≤ exactDoubles
+Small t = nat_abs t.0 ≤ exact_doubles
 
 -- something holds of the thousandths of a class, where it is a value
 abbrev pub OfValue : (Thousandths → Type 0) → Class → Type 0

@@ -3,14 +3,14 @@
 ghost use Rattle.std.specs.Prelude.{◌≡◌};
 ghost use Rattle.std.specs.Float.{binary64};
 ghost use Rattle.std.specs.Float.Ieee.{to_bits};
-ghost use Rattle.doubles.specs.Doubles.{inUnits, Small};
+ghost use Rattle.doubles.specs.Doubles.{in_units_spec, Small};
 
 use catalogue::Thousandths;
 
 // The thousandths as a double, which loses nothing, divided once by 1000.
 pub fn in_units(reading: Thousandths) -> f64
     requires { Small reading }
-    ensures { result ≡ inUnits reading }
+    ensures { result ≡ in_units_spec reading }
 {
     reading.0 as f64 / 1000.0
 }
@@ -18,7 +18,7 @@ pub fn in_units(reading: Thousandths) -> f64
 // The bits of that double, as one number.
 pub fn bits_in_units(reading: Thousandths) -> u64
     requires { Small reading }
-    ensures { result ≡ to_bits binary64 (inUnits reading) }
+    ensures { result ≡ to_bits binary64 (in_units_spec reading) }
 {
     f64::to_bits(in_units(reading))
 }

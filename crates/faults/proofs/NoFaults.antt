@@ -8,48 +8,48 @@ use borrow.Author.Tests.{eq-eqb}
 use lib.Dec.{T, eqb}
 use lib.ListN.{set}
 use lib.Seq.{get_or-set_other}
-use Rattle.faults.specs.Rows.{firstRow, toldRow, counted, levelRows, oneBitRows, emergencyRows, fireRow}
-use Rattle.faults.specs.Counts.{levelOf, standsAt, howMany, all_of, any_of, highestOf}
-use Rattle.faults.specs.Sum.{isEmergency, sum_of}
+use Rattle.faults.specs.Rows.{first_row, told_row, counted, level_rows, one_bit_rows, emergency_rows, fire_row}
+use Rattle.faults.specs.Counts.{level_of_spec, stands_at_spec, how_many_spec, all_of, any_of, highest_of_spec}
+use Rattle.faults.specs.Sum.{is_emergency_spec, sum_of}
 
 -- the row's count stands at another place than i
 abbrev away : ℕ → ℕ → Bool
-away i row = not (eqb (row - firstRow) i)
+away i row = not (eqb (row - first_row) i)
 
 module _ (counts : List ℕ) (i v : ℕ) where
   split : (row : ℕ) (rs : List ℕ) → T (all_of (away i) (row ∷ rs)) → T (away i row) × T (all_of (away i) rs)
   unfolding all_of
   split row rs h = and_yes (away i row) (all_of (away i) rs) h
 
-  same_count : (row : ℕ) → T (away i row) → levelOf (set counts i v) row ≡ levelOf counts row
-  same_count row h = get_or-set_other counts i (row - firstRow) v 0 (λ e. rw (eq-eqb (row - firstRow) i e) at h)
+  same_count : (row : ℕ) → T (away i row) → level_of_spec (set counts i v) row ≡ level_of_spec counts row
+  same_count row h = get_or-set_other counts i (row - first_row) v 0 (λ e. rw (eq-eqb (row - first_row) i e) at h)
 
-  same-many : (wanted : ℕ) (rs : List ℕ) → T (all_of (away i) rs) → howMany (standsAt (set counts i v) wanted) rs ≡ howMany (standsAt counts wanted) rs
-  unfolding howMany all_of
-  same-many wanted [] h = refl
-  same-many wanted (row ∷ rs) h = simp (same_count row (split row rs h).0, same-many wanted rs (split row rs h).1)
+  same_many : (wanted : ℕ) (rs : List ℕ) → T (all_of (away i) rs) → how_many_spec (stands_at_spec (set counts i v) wanted) rs ≡ how_many_spec (stands_at_spec counts wanted) rs
+  unfolding how_many_spec all_of
+  same_many wanted [] h = refl
+  same_many wanted (row ∷ rs) h = simp (same_count row (split row rs h).0, same_many wanted rs (split row rs h).1)
 
-  same-highest : (rs : List ℕ) → T (all_of (away i) rs) → highestOf (levelOf (set counts i v)) rs ≡ highestOf (levelOf counts) rs
-  unfolding highestOf all_of
-  same-highest [] h = refl
-  same-highest (row ∷ rs) h = simp (same_count row (split row rs h).0, same-highest rs (split row rs h).1)
+  same_highest : (rs : List ℕ) → T (all_of (away i) rs) → highest_of_spec (level_of_spec (set counts i v)) rs ≡ highest_of_spec (level_of_spec counts) rs
+  unfolding highest_of_spec all_of
+  same_highest [] h = refl
+  same_highest (row ∷ rs) h = simp (same_count row (split row rs h).0, same_highest rs (split row rs h).1)
 
-  same-any : (wanted : ℕ) (rs : List ℕ) → T (all_of (away i) rs) → any_of (standsAt (set counts i v) wanted) rs ≡ any_of (standsAt counts wanted) rs
+  same_any : (wanted : ℕ) (rs : List ℕ) → T (all_of (away i) rs) → any_of (stands_at_spec (set counts i v) wanted) rs ≡ any_of (stands_at_spec counts wanted) rs
   unfolding any_of all_of
-  same-any wanted [] h = refl
-  same-any wanted (row ∷ rs) h = simp (same_count row (split row rs h).0, same-any wanted rs (split row rs h).1)
+  same_any wanted [] h = refl
+  same_any wanted (row ∷ rs) h = simp (same_count row (split row rs h).0, same_any wanted rs (split row rs h).1)
 
   -- where none of the rows that are summed stands at place i, what stands there is of no account
-  same_sum : T (all_of (away i) levelRows) → T (all_of (away i) oneBitRows) → T (all_of (away i) emergencyRows) → T (away i fireRow) → T (away i toldRow)
+  same_sum : T (all_of (away i) level_rows) → T (all_of (away i) one_bit_rows) → T (all_of (away i) emergency_rows) → T (away i fire_row) → T (away i told_row)
       → sum_of (set counts i v) ≡ sum_of counts
-  unfolding isEmergency
+  unfolding is_emergency_spec
   same_sum l o e f a =
-      simp (same-highest levelRows l, same-many 1 levelRows l, same-many 2 levelRows l, same-many 3 levelRows l, same-many 1 oneBitRows o, same-any 3 emergencyRows e, same_count fireRow f, same_count toldRow a)
+      simp (same_highest level_rows l, same_many 1 level_rows l, same_many 2 level_rows l, same_many 3 level_rows l, same_many 1 one_bit_rows o, same_any 3 emergency_rows e, same_count fire_row f, same_count told_row a)
 
-pub balanced-is-no-fault : (counts : List ℕ) (v : ℕ) → sum_of (set counts (1922 - firstRow) v) ≡ sum_of counts
+pub balanced_is_no_fault : (counts : List ℕ) (v : ℕ) → sum_of (set counts (1922 - first_row) v) ≡ sum_of counts
 unfolding all_of counted
-balanced-is-no-fault counts v = same_sum counts 21 v tt tt tt tt tt
+balanced_is_no_fault counts v = same_sum counts 21 v tt tt tt tt tt
 
-pub number-is-no-fault : (counts : List ℕ) (v : ℕ) → sum_of (set counts (1923 - firstRow) v) ≡ sum_of counts
+pub number_is_no_fault : (counts : List ℕ) (v : ℕ) → sum_of (set counts (1923 - first_row) v) ≡ sum_of counts
 unfolding all_of counted
-number-is-no-fault counts v = same_sum counts 22 v tt tt tt tt tt
+number_is_no_fault counts v = same_sum counts 22 v tt tt tt tt tt

@@ -4,9 +4,9 @@
 // another length, or with a count too wide for its signal, is refused and nothing is summed. `specs/Sum.antt` says what
 // is counted over which rows.
 ghost use Rattle.std.specs.Prelude.{◌≡◌, cond, ◌≤◌, max, length};
-ghost use Rattle.faults.specs.Rows.{rowCount, rowsBetween, levelRows, oneBitRows, InTable};
-ghost use Rattle.faults.specs.Counts.{rawOf, levelOf, standsAt, rawBelow, howMany, all_of, highestOf};
-ghost use Rattle.faults.specs.Sum.{all_fit, isEmergency, answerTo};
+ghost use Rattle.faults.specs.Rows.{row_count, rows_between, level_rows, one_bit_rows, InTable};
+ghost use Rattle.faults.specs.Counts.{raw_of_spec, level_of_spec, stands_at_spec, raw_below, how_many_spec, all_of, highest_of_spec};
+ghost use Rattle.faults.specs.Sum.{all_fit, is_emergency_spec, answer_to};
 
 use catalogue::Raw;
 
@@ -52,14 +52,14 @@ const FIVE_BITS: u32 = 32;
 // The raw count of a row.
 fn raw_of(counts: &[u32], row: usize) -> Raw
     requires { InTable (length counts.now) row row }
-    ensures { result ≡ rawOf counts.now row }
+    ensures { result ≡ raw_of_spec counts.now row }
 {
     Raw(counts[row - FIRST_ROW])
 }
 
 fn level_of(counts: &[u32], row: usize) -> u32
     requires { InTable (length counts.now) row row }
-    ensures { result ≡ levelOf counts.now row }
+    ensures { result ≡ level_of_spec counts.now row }
 {
     let raw = raw_of(counts, row);
     raw.0
@@ -67,7 +67,7 @@ fn level_of(counts: &[u32], row: usize) -> u32
 
 fn stands_at(counts: &[u32], row: usize, wanted: u32) -> bool
     requires { InTable (length counts.now) row row }
-    ensures { result ≡ standsAt counts.now wanted row }
+    ensures { result ≡ stands_at_spec counts.now wanted row }
 {
     let raw = raw_of(counts, row);
     raw.0 == wanted
@@ -75,7 +75,7 @@ fn stands_at(counts: &[u32], row: usize, wanted: u32) -> bool
 
 fn is_below(counts: &[u32], row: usize, limit: u32) -> bool
     requires { InTable (length counts.now) row row }
-    ensures { result ≡ rawBelow counts.now limit row }
+    ensures { result ≡ raw_below counts.now limit row }
 {
     let raw = raw_of(counts, row);
     raw.0 < limit
@@ -96,7 +96,7 @@ fn greater(a: u32, b: u32) -> u32
 // How many of the rows `from` to `to` stand at `wanted`.
 fn how_many(counts: &[u32], from: usize, to: usize, wanted: u32) -> u32
     requires { InTable (length counts.now) from to }
-    ensures { (result ≡ howMany (standsAt counts.now wanted) (rowsBetween from to)) × (result ≤ rowCount) }
+    ensures { (result ≡ how_many_spec (stands_at_spec counts.now wanted) (rows_between from to)) × (result ≤ row_count) }
 {
     let mut n: u32 = 0;
     let mut row: usize = from;
@@ -110,7 +110,7 @@ fn how_many(counts: &[u32], from: usize, to: usize, wanted: u32) -> u32
 // The highest count among the rows `from` to `to`.
 fn highest_of(counts: &[u32], from: usize, to: usize) -> u32
     requires { InTable (length counts.now) from to }
-    ensures { result ≡ highestOf (levelOf counts.now) (rowsBetween from to) }
+    ensures { result ≡ highest_of_spec (level_of_spec counts.now) (rows_between from to) }
 {
     let mut highest: u32 = 0;
     let mut row: usize = from;
@@ -124,7 +124,7 @@ fn highest_of(counts: &[u32], from: usize, to: usize) -> u32
 // Whether each of the rows `from` to `to` has a count below `limit`.
 fn all_below(counts: &[u32], from: usize, to: usize, limit: u32) -> bool
     requires { InTable (length counts.now) from to }
-    ensures { result ≡ all_of (rawBelow counts.now limit) (rowsBetween from to) }
+    ensures { result ≡ all_of (raw_below counts.now limit) (rows_between from to) }
 {
     let mut all = true;
     let mut row: usize = from;
@@ -136,7 +136,7 @@ fn all_below(counts: &[u32], from: usize, to: usize, limit: u32) -> bool
 }
 
 fn all_fit(counts: &[u32]) -> bool
-    requires { length counts.now ≡ rowCount }
+    requires { length counts.now ≡ row_count }
     ensures { result ≡ all_fit counts.now }
 {
     all_below(counts, FIRST_ROW, 1914, TWO_BITS)
@@ -148,8 +148,8 @@ fn all_fit(counts: &[u32]) -> bool
 }
 
 fn highest_level(counts: &[u32]) -> u32
-    requires { length counts.now ≡ rowCount }
-    ensures { result ≡ highestOf (levelOf counts.now) levelRows }
+    requires { length counts.now ≡ row_count }
+    ensures { result ≡ highest_of_spec (level_of_spec counts.now) level_rows }
 {
     greater(
         highest_of(counts, 1902, 1914),
@@ -158,15 +158,15 @@ fn highest_level(counts: &[u32]) -> u32
 }
 
 fn levels_at(counts: &[u32], level: u32) -> u32
-    requires { length counts.now ≡ rowCount }
-    ensures { result ≡ howMany (standsAt counts.now level) levelRows }
+    requires { length counts.now ≡ row_count }
+    ensures { result ≡ how_many_spec (stands_at_spec counts.now level) level_rows }
 {
     how_many(counts, 1902, 1914, level) + how_many(counts, 1925, 1925, level)
 }
 
 fn one_bit_faults(counts: &[u32]) -> u32
-    requires { length counts.now ≡ rowCount }
-    ensures { result ≡ howMany (standsAt counts.now 1) oneBitRows }
+    requires { length counts.now ≡ row_count }
+    ensures { result ≡ how_many_spec (stands_at_spec counts.now 1) one_bit_rows }
 {
     how_many(counts, 1915, 1921, 1)
         + how_many(counts, 1924, 1924, 1)
@@ -174,8 +174,8 @@ fn one_bit_faults(counts: &[u32]) -> u32
 }
 
 fn is_emergency(counts: &[u32]) -> bool
-    requires { length counts.now ≡ rowCount }
-    ensures { result ≡ isEmergency counts.now }
+    requires { length counts.now ≡ row_count }
+    ensures { result ≡ is_emergency_spec counts.now }
 {
     stands_at(counts, 1902, 3)
         | stands_at(counts, 1903, 3)
@@ -187,7 +187,7 @@ fn is_emergency(counts: &[u32]) -> bool
 
 // The fault sum over the raw counts of 1901 to 1927, in that order.
 pub fn sum(counts: &[u32]) -> FaultAnswer
-    ensures { result ≡ answerTo counts.now }
+    ensures { result ≡ answer_to counts.now }
 {
     if counts.len() != ROW_COUNT {
         return FaultAnswer::NotTwentySeven;

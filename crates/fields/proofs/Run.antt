@@ -13,57 +13,57 @@ use lib.Seq.{drop-cons, length-take-le, get_or-take}
 use borrow.Author.Tests.{eq-eqb, ne_eqb, lt-ltb, le-ltb, ltb-true, ltb-false}
 use Rattle.numerals.specs.declared.Number.{Number}
 use Rattle.numerals.specs.declared.Number.TheVariants as number
-use Rattle.numerals.specs.Numeral.{digitValue, numeralFrom, needlessZero, decimal}
+use Rattle.numerals.specs.Numeral.{digit_value, numeral_from, needless_zero, decimal}
 use Rattle.numerals.proofs.Reading.{grows}
 use Rattle.parts.specs.Parts.{index_of}
 use Rattle.fields.specs.declared.Front.{Front}
 use Rattle.fields.specs.declared.Front.TheVariants.{Found, Nothing}
-use Rattle.fields.specs.Front.{ofDigits, numberBefore}
+use Rattle.fields.specs.Front.{of_digits, number_before}
 
 -- the digits of the rest up to `stop`, after i digits of the value v
 unfoldable pub run_from : ℕ → ℕ → ℕ → List ℕ → Front
 run_from stop v i [] = Nothing
 run_from stop v i (b ∷ l) =
-    cond (eqb b stop) (Found v i) (cond (ltb (digitValue b) 10) (run_from stop (v * 10 + digitValue b) (suc i) l) Nothing)
+    cond (eqb b stop) (Found v i) (cond (ltb (digit_value b) 10) (run_from stop (v * 10 + digit_value b) (suc i) l) Nothing)
 
 -- 1 to 5 of them, and no needless zero before them
 unfoldable pub checked : List ℕ → Front → Front
 checked text Nothing = Nothing
 checked text (Found v i) =
-    cond (ltb i 1) Nothing (cond (ltb 5 i) Nothing (cond (needlessZero (take i text)) Nothing (Found v i)))
+    cond (ltb i 1) Nothing (cond (ltb 5 i) Nothing (cond (needless_zero (take i text)) Nothing (Found v i)))
 
 run_none : (stop v i : ℕ) (l : List ℕ) → length l ≤ index_of stop l → run_from stop v i l ≡ Nothing
 unfolding run_from index_of
 run_none stop v i [] h = refl
-run_none stop v i (b ∷ l) h = by (eqb b stop) (ltb (digitValue b) 10) h (run_none stop (v * 10 + digitValue b) (suc i) l)
+run_none stop v i (b ∷ l) h = by (eqb b stop) (ltb (digit_value b) 10) h (run_none stop (v * 10 + digit_value b) (suc i) l)
   where
-    by : (p q : Bool) → suc (length l) ≤ cond p 0 (suc (index_of stop l)) → (length l ≤ index_of stop l → run_from stop (v * 10 + digitValue b) (suc i) l ≡ Nothing)
-        → cond p (Found v i) (cond q (run_from stop (v * 10 + digitValue b) (suc i) l) Nothing) ≡ Nothing
+    by : (p q : Bool) → suc (length l) ≤ cond p 0 (suc (index_of stop l)) → (length l ≤ index_of stop l → run_from stop (v * 10 + digit_value b) (suc i) l ≡ Nothing)
+        → cond p (Found v i) (cond q (run_from stop (v * 10 + digit_value b) (suc i) l) Nothing) ≡ Nothing
     by true q h r = absurd (omega arith)
     by false true h r = r (omega arith)
     by false false h r = refl
 
-run-found : (stop v i : ℕ) (l : List ℕ) → index_of stop l < length l
-    → run_from stop v i l ≡ ofDigits (numeralFrom 10 v (take (index_of stop l) l)) (i + index_of stop l)
-unfolding run_from index_of numeralFrom
-run-found stop v i [] h = absurd (omega arith)
-run-found stop v i (b ∷ l) h = by (eqb b stop) (ltb (digitValue b) 10) refl h (run-found stop (v * 10 + digitValue b) (suc i) l)
+run_found : (stop v i : ℕ) (l : List ℕ) → index_of stop l < length l
+    → run_from stop v i l ≡ of_digits (numeral_from 10 v (take (index_of stop l) l)) (i + index_of stop l)
+unfolding run_from index_of numeral_from
+run_found stop v i [] h = absurd (omega arith)
+run_found stop v i (b ∷ l) h = by (eqb b stop) (ltb (digit_value b) 10) refl h (run_found stop (v * 10 + digit_value b) (suc i) l)
   where
-    by : (p q : Bool) → ltb (digitValue b) 10 ≡ q → cond p 0 (suc (index_of stop l)) < suc (length l)
-        → (index_of stop l < length l → run_from stop (v * 10 + digitValue b) (suc i) l ≡ ofDigits (numeralFrom 10 (v * 10 + digitValue b) (take (index_of stop l) l)) (suc i + index_of stop l))
-        → cond p (Found v i) (cond q (run_from stop (v * 10 + digitValue b) (suc i) l) Nothing)
-        ≡ ofDigits (numeralFrom 10 v (take (cond p 0 (suc (index_of stop l))) (b ∷ l))) (i + cond p 0 (suc (index_of stop l)))
+    by : (p q : Bool) → ltb (digit_value b) 10 ≡ q → cond p 0 (suc (index_of stop l)) < suc (length l)
+        → (index_of stop l < length l → run_from stop (v * 10 + digit_value b) (suc i) l ≡ of_digits (numeral_from 10 (v * 10 + digit_value b) (take (index_of stop l) l)) (suc i + index_of stop l))
+        → cond p (Found v i) (cond q (run_from stop (v * 10 + digit_value b) (suc i) l) Nothing)
+        ≡ of_digits (numeral_from 10 v (take (cond p 0 (suc (index_of stop l))) (b ∷ l))) (i + cond p 0 (suc (index_of stop l)))
     by true q e h r = ap (λ (k : ℕ). Found v k) (sym (add-zero i))
-    by false true e h r = rw e (r (omega arith) ∙ ap (ofDigits (numeralFrom 10 (v * 10 + digitValue b) (take (index_of stop l) l))) (omega (arith, add-suc i (index_of stop l), suc-add i (index_of stop l))))
+    by false true e h r = rw e (r (omega arith) ∙ ap (of_digits (numeral_from 10 (v * 10 + digit_value b) (take (index_of stop l) l))) (omega (arith, add-suc i (index_of stop l), suc-add i (index_of stop l))))
     by false false e h r = rw e
 
 -- the form of a number, tested before or after its digits are read
-check-digits : (text l : List ℕ) (k : ℕ) → l ≡ take k text → length l ≡ k → ofDigits (decimal l) k ≡ checked text (ofDigits (numeralFrom 10 0 l) k)
+check_digits : (text l : List ℕ) (k : ℕ) → l ≡ take k text → length l ≡ k → of_digits (decimal l) k ≡ checked text (of_digits (numeral_from 10 0 l) k)
 unfolding decimal checked
-check-digits text l k e s = by (numeralFrom 10 0 l) (ltb k 1) (ltb 5 k) (needlessZero l) refl refl refl
+check_digits text l k e s = by (numeral_from 10 0 l) (ltb k 1) (ltb 5 k) (needless_zero l) refl refl refl
   where
-    by : (n : Number) (a b z : Bool) → ltb k 1 ≡ a → ltb 5 k ≡ b → needlessZero l ≡ z
-        → ofDigits (cond (ltb (length l) 1) number.Not (cond (ltb 5 (length l)) number.Not (cond (needlessZero l) number.Not n))) k ≡ checked text (ofDigits n k)
+    by : (n : Number) (a b z : Bool) → ltb k 1 ≡ a → ltb 5 k ≡ b → needless_zero l ≡ z
+        → of_digits (cond (ltb (length l) 1) number.Not (cond (ltb 5 (length l)) number.Not (cond (needless_zero l) number.Not n))) k ≡ checked text (of_digits n k)
     by number.Not true b z p q r = rw (s, p)
     by number.Not false true z p q r = rw (s, p, q)
     by number.Not false false true p q r = rw (s, p, q, r)
@@ -73,73 +73,73 @@ check-digits text l k e s = by (numeralFrom 10 0 l) (ltb k 1) (ltb 5 k) (needles
     by (number.Is v) false false true p q r = rw (s, p, q, ← e, r)
     by (number.Is v) false false false p q r = rw (s, p, q, ← e, r)
 
-before-is : (stop : ℕ) (text : List ℕ) → numberBefore decimal stop text ≡ checked text (run_from stop 0 0 text)
-unfolding numberBefore checked
-before-is stop text = by (ltb (index_of stop text) (length text)) refl
+before_is : (stop : ℕ) (text : List ℕ) → number_before decimal stop text ≡ checked text (run_from stop 0 0 text)
+unfolding number_before checked
+before_is stop text = by (ltb (index_of stop text) (length text)) refl
   where
     by : (q : Bool) → ltb (index_of stop text) (length text) ≡ q
-        → cond q (ofDigits (decimal (take (index_of stop text) text)) (index_of stop text)) Nothing ≡ checked text (run_from stop 0 0 text)
+        → cond q (of_digits (decimal (take (index_of stop text) text)) (index_of stop text)) Nothing ≡ checked text (run_from stop 0 0 text)
     by true q =
         let h : index_of stop text < length text = ltb-true _ _ q in
         let s : length (take (index_of stop text) text) ≡ index_of stop text = length-take-le _ _ (omega arith) in
-        rw (run-found stop 0 0 text h, zero-add (index_of stop text)) (check-digits text _ (index_of stop text) refl s)
+        rw (run_found stop 0 0 text h, zero-add (index_of stop text)) (check_digits text _ (index_of stop text) refl s)
     by false q = rw (run_none stop 0 0 text (ltb-false _ _ q))
 
 -- over 5 digits
 too_many : (stop v i : ℕ) (text l : List ℕ) → 5 < i → checked text (run_from stop v i l) ≡ Nothing
 unfolding run_from checked
 too_many stop v i text [] h = refl
-too_many stop v i text (b ∷ l) h = by (eqb b stop) (ltb (digitValue b) 10) (too_many stop (v * 10 + digitValue b) (suc i) text l (omega arith))
+too_many stop v i text (b ∷ l) h = by (eqb b stop) (ltb (digit_value b) 10) (too_many stop (v * 10 + digit_value b) (suc i) text l (omega arith))
   where
     full : checked text (Found v i) ≡ Nothing
     full = let few : 1 ≤ i = omega arith in rw (le-ltb _ _ few, lt-ltb _ _ h)
 
-    by : (p q : Bool) → checked text (run_from stop (v * 10 + digitValue b) (suc i) l) ≡ Nothing
-        → checked text (cond p (Found v i) (cond q (run_from stop (v * 10 + digitValue b) (suc i) l) Nothing)) ≡ Nothing
+    by : (p q : Bool) → checked text (run_from stop (v * 10 + digit_value b) (suc i) l) ≡ Nothing
+        → checked text (cond p (Found v i) (cond q (run_from stop (v * 10 + digit_value b) (suc i) l) Nothing)) ≡ Nothing
     by true q r = full
     by false true r = r
     by false false r = refl
 
 -- i digits of the text are passed, and their value is v
 pub record Passed (text : List ℕ) (stop v i : ℕ) : Type 0 where
-  pub answer : checked text (run_from stop v i (drop i text)) ≡ numberBefore decimal stop text
+  pub answer : checked text (run_from stop v i (drop i text)) ≡ number_before decimal stop text
   pub below : v < 10 ^ i
   pub few : i ≤ 5
   pub within : i ≤ length text
 
 pub none_passed : (text : List ℕ) (stop : ℕ) → Passed text stop 0 0
 none_passed text stop =
-    record { answer = sym (before-is stop text); below = rw (pow-zero 10) (omega arith); few = omega arith; within = omega arith }
+    record { answer = sym (before_is stop text); below = rw (pow-zero 10) (omega arith); few = omega arith; within = omega arith }
 
 -- so it fits
 pub small : {text : List ℕ} {stop v i : ℕ} → Passed text stop v i → v < 100000
 small {text} {stop} {v} {i} p = lt_of_lt_of_le p.below (pow-le-pow_right {n = 10} (omega arith) {i = i} {j = 5} p.few)
 
-first_of : (text : List ℕ) (i : ℕ) → 1 < i → i ≤ length text → needlessZero (take i text) ≡ eqb (get_or text 0 0) 48
-unfolding needlessZero
+first_of : (text : List ℕ) (i : ℕ) → 1 < i → i ≤ length text → needless_zero (take i text) ≡ eqb (get_or text 0 0) 48
+unfolding needless_zero
 first_of text i h w =
     let s : length (take i text) ≡ i = length-take-le i text w in
     let z : 0 < i = omega arith in
     rw (s, lt-ltb _ _ h, get_or-take i text 0 0 z)
 
 module _ {text : List ℕ} {stop v i : ℕ} (p : Passed text stop v i) where
-  pub no_stop : length text ≤ i → Nothing ≡ numberBefore decimal stop text
+  pub no_stop : length text ≤ i → Nothing ≡ number_before decimal stop text
   unfolding run_from checked
   no_stop h = rw (drop_of_length-le text h) at p.answer
 
   module _ (h : i < length text) where
     module _ (e : get_or text i 0 ≡ stop) where
-      here : checked text (Found v i) ≡ numberBefore decimal stop text
+      here : checked text (Found v i) ≡ number_before decimal stop text
       unfolding run_from
       here = rw (drop-cons text i 0 h, eq-eqb _ _ e) at p.answer
 
-      pub empty-field : i ≡ 0 → Nothing ≡ numberBefore decimal stop text
+      pub empty_field : i ≡ 0 → Nothing ≡ number_before decimal stop text
       unfolding checked
-      empty-field z = let f : i < 1 = omega arith in rw (lt-ltb _ _ f) at here
+      empty_field z = let f : i < 1 = omega arith in rw (lt-ltb _ _ f) at here
 
-      pub one-digit : i ≡ 1 → Found v 1 ≡ numberBefore decimal stop text
-      unfolding checked needlessZero
-      one-digit z =
+      pub one_digit : i ≡ 1 → Found v 1 ≡ number_before decimal stop text
+      unfolding checked needless_zero
+      one_digit z =
           let f : 1 ≤ i = omega arith in
           let g : i ≤ 5 = p.few in
           let s : length (take i text) ≤ 1 = omega (arith, length-take-le i text p.within) in
@@ -149,40 +149,40 @@ module _ {text : List ℕ} {stop v i : ℕ} (p : Passed text stop v i) where
         many : 1 < i
         many = omega arith
 
-        checks : cond (eqb (get_or text 0 0) 48) Nothing (Found v i) ≡ numberBefore decimal stop text
+        checks : cond (eqb (get_or text 0 0) 48) Nothing (Found v i) ≡ number_before decimal stop text
         unfolding checked
         checks =
             let f : 1 ≤ i = omega (arith, many) in
             let g : i ≤ 5 = p.few in
             rw (le-ltb _ _ f, le-ltb _ _ g, first_of text i many p.within) at here
 
-        pub zero-first : get_or text 0 0 ≡ 48 → Nothing ≡ numberBefore decimal stop text
-        zero-first q = rw (eq-eqb _ _ q) at checks
+        pub zero_first : get_or text 0 0 ≡ 48 → Nothing ≡ number_before decimal stop text
+        zero_first q = rw (eq-eqb _ _ q) at checks
 
-        pub all_digits : (get_or text 0 0 ≡ 48 → ⊥) → Found v i ≡ numberBefore decimal stop text
+        pub all_digits : (get_or text 0 0 ≡ 48 → ⊥) → Found v i ≡ number_before decimal stop text
         all_digits q = rw (ne_eqb _ _ q) at checks
 
     module _ (n : get_or text i 0 ≡ stop → ⊥) where
-      next : checked text (cond (ltb (digitValue (get_or text i 0)) 10) (run_from stop (v * 10 + digitValue (get_or text i 0)) (suc i) (drop (suc i) text)) Nothing) ≡ numberBefore decimal stop text
+      next : checked text (cond (ltb (digit_value (get_or text i 0)) 10) (run_from stop (v * 10 + digit_value (get_or text i 0)) (suc i) (drop (suc i) text)) Nothing) ≡ number_before decimal stop text
       unfolding run_from
       next = rw (drop-cons text i 0 h, ne_eqb _ _ n) at p.answer
 
-      pub six-digits : i ≡ 5 → Nothing ≡ numberBefore decimal stop text
+      pub six_digits : i ≡ 5 → Nothing ≡ number_before decimal stop text
       unfolding checked
-      six-digits f = by (ltb (digitValue (get_or text i 0)) 10) next
+      six_digits f = by (ltb (digit_value (get_or text i 0)) 10) next
         where
-          by : (q : Bool) → checked text (cond q (run_from stop (v * 10 + digitValue (get_or text i 0)) (suc i) (drop (suc i) text)) Nothing) ≡ numberBefore decimal stop text
-              → Nothing ≡ numberBefore decimal stop text
-          by true r = sym (too_many stop (v * 10 + digitValue (get_or text i 0)) (suc i) text (drop (suc i) text) (omega arith)) ∙ r
+          by : (q : Bool) → checked text (cond q (run_from stop (v * 10 + digit_value (get_or text i 0)) (suc i) (drop (suc i) text)) Nothing) ≡ number_before decimal stop text
+              → Nothing ≡ number_before decimal stop text
+          by true r = sym (too_many stop (v * 10 + digit_value (get_or text i 0)) (suc i) text (drop (suc i) text) (omega arith)) ∙ r
           by false r = r
 
-      module _ (d : ℕ) (e : d ≡ digitValue (get_or text i 0)) where
-        pub no_digit : 10 ≤ d → Nothing ≡ numberBefore decimal stop text
+      module _ (d : ℕ) (e : d ≡ digit_value (get_or text i 0)) where
+        pub no_digit : 10 ≤ d → Nothing ≡ number_before decimal stop text
         unfolding checked
         no_digit t = rw (← e, le-ltb _ _ t) at next
 
-        pub one-passed : (i ≡ 5 → ⊥) → d < 10 → Passed text stop (v * 10 + d) (i + 1)
-        one-passed f t =
+        pub one_passed : (i ≡ 5 → ⊥) → d < 10 → Passed text stop (v * 10 + d) (i + 1)
+        one_passed f t =
             record {
               answer = rw add-one (rw (← e, lt-ltb _ _ t) at next);
               below = grows 10 v d i p.below t;

@@ -14,9 +14,9 @@ use Rattle.numerals.specs.declared.Number.TheVariants as number
 use Rattle.parts.specs.Parts.{index_of}
 use Rattle.parts.specs.Joined.{Lacks}
 use Rattle.parts.proofs.Seek.{index_at}
-use Rattle.parts.proofs.Joins.{index-after}
+use Rattle.parts.proofs.Joins.{index_after}
 use Rattle.fields.specs.declared.Front.TheVariants.{Found, Nothing}
-use Rattle.fields.specs.Front.{ofDigits, numberBefore}
+use Rattle.fields.specs.Front.{of_digits, number_before}
 
 -- n in k bytes, the byte `stop`, and what is after it
 pub record Field (form : List ℕ → Number) (stop : ℕ) (text : List ℕ) (n k : ℕ) : Type 0 where
@@ -26,9 +26,9 @@ pub record Field (form : List ℕ → Number) (stop : ℕ) (text : List ℕ) (n 
   pub parts : text ≡ take k text ++ stop ∷ drop (k + 1) text
 
 module _ (form : List ℕ → Number) (stop : ℕ) where
-  pub found-field : (text : List ℕ) (n k : ℕ) → Found n k ≡ numberBefore form stop text → Field form stop text n k
-  unfolding numberBefore
-  found-field text n k e = by (ltb (index_of stop text) (length text)) refl (form (take (index_of stop text) text)) refl e
+  pub found_field : (text : List ℕ) (n k : ℕ) → Found n k ≡ number_before form stop text → Field form stop text n k
+  unfolding number_before
+  found_field text n k e = by (ltb (index_of stop text) (length text)) refl (form (take (index_of stop text) text)) refl e
     where
       never : {B : Type 0} → Found n k ≡ Nothing → B
       never e = absurd (let z : ◌≡◌ {A = ℕ} 0 1 = cc in omega arith)
@@ -43,7 +43,7 @@ module _ (form : List ℕ → Number) (stop : ℕ) where
           }
 
       by : (q : Bool) → ltb (index_of stop text) (length text) ≡ q → (f : Number) → form (take (index_of stop text) text) ≡ f
-          → Found n k ≡ cond q (ofDigits f (index_of stop text)) Nothing → Field form stop text n k
+          → Found n k ≡ cond q (of_digits f (index_of stop text)) Nothing → Field form stop text n k
       by true q (number.Is v) f e =
           let x : n ≡ v = cc in
           let y : k ≡ index_of stop text = cc in
@@ -52,14 +52,14 @@ module _ (form : List ℕ → Number) (stop : ℕ) where
       by false q v f e = never e
 
   module _ (p rest : List ℕ) (n : ℕ) (free : Lacks stop p) (reads : form p ≡ number.Is n) where
-    pub field_found : Found n (length p) ≡ numberBefore form stop (p ++ stop ∷ rest)
-    unfolding numberBefore
+    pub field_found : Found n (length p) ≡ number_before form stop (p ++ stop ∷ rest)
+    unfolding number_before
     field_found =
         let h : length p < length (p ++ stop ∷ rest) = simp length-append (omega arith) in
-        rw (index-after stop p rest free, lt-ltb _ _ h, take-append_seam p (stop ∷ rest), reads)
+        rw (index_after stop p rest free, lt-ltb _ _ h, take-append_seam p (stop ∷ rest), reads)
 
     -- so nothing is not what is found
-    pub not-nothing : {A : Type 0} {text : List ℕ} → text ≡ p ++ stop ∷ rest → Nothing ≡ numberBefore form stop text → A
-    not-nothing e q =
-        let x : Found n (length p) ≡ Nothing = field_found ∙ ap (numberBefore form stop) (sym e) ∙ sym q in
+    pub not_nothing : {A : Type 0} {text : List ℕ} → text ≡ p ++ stop ∷ rest → Nothing ≡ number_before form stop text → A
+    not_nothing e q =
+        let x : Found n (length p) ≡ Nothing = field_found ∙ ap (number_before form stop) (sym e) ∙ sym q in
         absurd (let z : ◌≡◌ {A = ℕ} 0 1 = cc in omega arith)

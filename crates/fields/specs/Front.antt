@@ -7,11 +7,11 @@ use Rattle.fields.specs.declared.Front.{Front}
 use Rattle.fields.specs.declared.Front.TheVariants.{Found, Nothing}
 
 -- a number of k digits
-abbrev pub ofDigits : Number → ℕ → Front
-ofDigits (number.Is n) k = Found n k
-ofDigits number.Not k = Nothing
+abbrev pub of_digits : Number → ℕ → Front
+of_digits (number.Is n) k = Found n k
+of_digits number.Not k = Nothing
 
 -- what stands before the first `stop`, read in one of the forms of a number; nothing where there is no `stop`
-unfoldable pub numberBefore : (List ℕ → Number) → ℕ → List ℕ → Front
-numberBefore form stop text =
-    cond (ltb (index_of stop text) (length text)) (ofDigits (form (take (index_of stop text) text)) (index_of stop text)) Nothing
+unfoldable pub number_before : (List ℕ → Number) → ℕ → List ℕ → Front
+number_before form stop text =
+    cond (ltb (index_of stop text) (length text)) (of_digits (form (take (index_of stop text) text)) (index_of stop text)) Nothing

@@ -2,8 +2,8 @@
 // pass, from the front, and the pass stops where it can be no such number. `stop`, the byte that ends the
 // field, is no digit.
 ghost use Rattle.std.specs.Prelude.{◌≡◌, ◌<◌};
-ghost use Rattle.numerals.specs.Numeral.{identifierDigits, identifier, zeroByte, decimal};
-ghost use Rattle.fields.specs.Front.{ofDigits, numberBefore};
+ghost use Rattle.numerals.specs.Numeral.{identifier_digits, identifier, zero_byte, decimal};
+ghost use Rattle.fields.specs.Front.{of_digits, number_before};
 
 use numerals::{IDENTIFIER_DIGITS, Number, digit, read_identifier};
 use parts::part_before;
@@ -20,7 +20,7 @@ pub enum Front {
 
 // 1 to 5 decimal digits, no needless leading zero, before the first `stop`.
 pub fn decimal_before(text: &[u8], stop: u8) -> Front
-    ensures { result ≡ numberBefore decimal stop text.now }
+    ensures { result ≡ number_before decimal stop text.now }
 {
     let mut v: u64 = 0;
     let mut i: usize = 0;
@@ -52,7 +52,7 @@ pub fn decimal_before(text: &[u8], stop: u8) -> Front
 }
 
 fn of_eight_digits(n: Number) -> Front
-    ensures { result ≡ ofDigits n identifierDigits }
+    ensures { result ≡ of_digits n identifier_digits }
 {
     match n {
         Number::Is(v) => Front::Found(v, IDENTIFIER_DIGITS),
@@ -62,8 +62,8 @@ fn of_eight_digits(n: Number) -> Front
 
 // Exactly 8 digits 0-9 A-F before the first `stop`.
 pub fn identifier_before(text: &[u8], stop: u8) -> Front
-    requires { stop < zeroByte }
-    ensures { result ≡ numberBefore identifier stop text.now }
+    requires { stop < zero_byte }
+    ensures { result ≡ number_before identifier stop text.now }
 {
     if text.len() <= IDENTIFIER_DIGITS {
         return Front::Nothing;

@@ -2,54 +2,54 @@
 use Rattle.std.specs.Prelude.{Bool, true, cond, ◌&&◌, List, [], ◌∷◌, ℕ, ◌+◌, ◌*◌, ◌%◌, eqb, ltb, leb, length}
 use Rattle.numerals.specs.declared.Number.{Number}
 use Rattle.numerals.specs.declared.Number.TheVariants.{Is, Not}
-use Rattle.numerals.specs.Numeral.{digitValue, identifier}
+use Rattle.numerals.specs.Numeral.{digit_value, identifier}
 use Rattle.parts.specs.Parts.{fields}
-use Rattle.bits.specs.Frame.{frameBytes}
+use Rattle.bits.specs.Frame.{frame_bytes}
 use Rattle.frame_lines.specs.declared.FrameLine.{FrameLine}
 use Rattle.frame_lines.specs.declared.FrameLine.TheVariants.{Frame, NotEightBytes, IllFormed}
 
 -- what a frame line says: an identifier and bytes, byte 0 first
 pub data FrameMeaning : Type 0 where
   frame : ℕ → List ℕ → FrameMeaning
-  illFormed : FrameMeaning
+  ill_formed_spec : FrameMeaning
 
 -- two digits for each byte of a frame: 16
-abbrev pub frameDigits : ℕ
-frameDigits = 2 * frameBytes
+abbrev pub frame_digits : ℕ
+frame_digits = 2 * frame_bytes
 
 -- each byte is a digit 0-9 A-F
-unfoldable pub allDigits : List ℕ → Bool
-allDigits [] = true
-allDigits (b ∷ t) = ltb (digitValue b) 16 && allDigits t
+unfoldable pub all_digits_spec : List ℕ → Bool
+all_digits_spec [] = true
+all_digits_spec (b ∷ t) = ltb (digit_value b) 16 && all_digits_spec t
 
 -- 0 to 16 digits, an even number of them
 unfoldable pub are_bytes : List ℕ → Bool
-are_bytes l = leb (length l) frameDigits && (eqb (length l % 2) 0 && allDigits l)
+are_bytes l = leb (length l) frame_digits && (eqb (length l % 2) 0 && all_digits_spec l)
 
 -- two digits a byte, the higher first
-unfoldable pub bytesIn : List ℕ → List ℕ
-bytesIn [] = []
-bytesIn (a ∷ []) = []
-bytesIn (a ∷ b ∷ t) = (16 * digitValue a + digitValue b) ∷ bytesIn t
+unfoldable pub bytes_in : List ℕ → List ℕ
+bytes_in [] = []
+bytes_in (a ∷ []) = []
+bytes_in (a ∷ b ∷ t) = (16 * digit_value a + digit_value b) ∷ bytes_in t
 
 -- by the identifier, with the digits after it
-abbrev pub saidBy : Number → List ℕ → FrameMeaning
-saidBy (Is i) l = cond (are_bytes l) (frame i (bytesIn l)) illFormed
-saidBy Not l = illFormed
+abbrev pub said_by : Number → List ℕ → FrameMeaning
+said_by (Is i) l = cond (are_bytes l) (frame i (bytes_in l)) ill_formed_spec
+said_by Not l = ill_formed_spec
 
 -- two fields: the identifier and the bytes
-unfoldable pub ofFrameFields : List (List ℕ) → FrameMeaning
-ofFrameFields [] = illFormed
-ofFrameFields (i ∷ []) = illFormed
-ofFrameFields (i ∷ l ∷ []) = saidBy (identifier i) l
-ofFrameFields (i ∷ l ∷ x ∷ fs) = illFormed
+unfoldable pub of_frame_fields : List (List ℕ) → FrameMeaning
+of_frame_fields [] = ill_formed_spec
+of_frame_fields (i ∷ []) = ill_formed_spec
+of_frame_fields (i ∷ l ∷ []) = said_by (identifier i) l
+of_frame_fields (i ∷ l ∷ x ∷ fs) = ill_formed_spec
 
 -- what the bytes of a line, without its newline, say
-unfoldable pub frameLineSays : List ℕ → FrameMeaning
-frameLineSays l = ofFrameFields (fields l)
+unfoldable pub frame_line_says : List ℕ → FrameMeaning
+frame_line_says l = of_frame_fields (fields l)
 
 -- document 01's number of each answer; 0 is no refusal
-abbrev pub frameLineNumber : FrameLine → ℕ
-frameLineNumber (Frame identifier word) = 0
-frameLineNumber (NotEightBytes identifier) = 21
-frameLineNumber IllFormed = 20
+abbrev pub frame_line_number : FrameLine → ℕ
+frame_line_number (Frame identifier word) = 0
+frame_line_number (NotEightBytes identifier) = 21
+frame_line_number IllFormed = 20

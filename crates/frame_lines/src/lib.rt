@@ -1,7 +1,7 @@
 // One frame line: an identifier, a tab, and the bytes of a frame as pairs of digits, byte 0 first. `read_frame_line` answers for
 // every slice and has no `requires`; `frame_of` is its room.
 ghost use Rattle.std.specs.Prelude.{◌≡◌};
-ghost use Rattle.frame_lines.specs.Meaning.{saidBy, frameLineSays};
+ghost use Rattle.frame_lines.specs.Meaning.{said_by, frame_line_says};
 ghost use Rattle.frame_lines.specs.Told.{told};
 
 use numerals::{IDENTIFIER_DIGITS, Number, digit, read_identifier};
@@ -24,7 +24,7 @@ pub enum FrameLine {
 
 // What digits after an identifier say. Each byte is put highest, and moves down as others follow.
 fn frame_of(identifier: u32, digits: &[u8]) -> FrameLine
-    ensures { result ≡ told (saidBy (Number.Is identifier) digits.now) }
+    ensures { result ≡ told (said_by (Number.Is identifier) digits.now) }
 {
     if digits.len() > FRAME_DIGITS {
         return FrameLine::IllFormed;
@@ -54,7 +54,7 @@ fn frame_of(identifier: u32, digits: &[u8]) -> FrameLine
 
 // What a frame line, without its newline, says.
 pub fn read_frame_line(line: &[u8]) -> FrameLine
-    ensures { result ≡ told (frameLineSays line.now) }
+    ensures { result ≡ told (frame_line_says line.now) }
 {
     if line.len() <= IDENTIFIER_DIGITS {
         return FrameLine::IllFormed;

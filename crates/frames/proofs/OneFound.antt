@@ -7,12 +7,12 @@ use Prim.Native.Nat.{ℕ}
 use lib.Dec.{eqb}
 use borrow.Author.Tests.{eqb-true, eqb-false}
 use Rattle.books.specs.Book.{identifiers}
-use Rattle.books.specs.Words.{messagesOf, messagesTaken}
-use Rattle.record.specs.Columns.{messageCountOf}
+use Rattle.books.specs.Words.{messages_of, messages_taken_spec}
+use Rattle.record.specs.Columns.{message_count_of}
 use Rattle.frames.specs.Lookup.{first_at, before, Finds}
 use Rattle.frames.specs.declared.lookup.MessageFound.{MessageFound}
 use Rattle.frames.specs.declared.lookup.MessageFound.TheVariants.{Signals, Nothing}
-use Rattle.frames.proofs.Lookups.{ids-are, there-is, nothing, spans}
+use Rattle.frames.proofs.Lookups.{ids_are, there_is, nothing, spans}
 
 pub alone : (w : List ℕ) (identifier : ℕ) (f g : MessageFound) → Finds w identifier f → Finds w identifier g → f ≡ g
 alone w identifier (Signals a b) (Signals c d) p q =
@@ -25,17 +25,17 @@ pub record There (w : List ℕ) (identifier : ℕ) : Type 0 where
   pub found : MessageFound
   pub finds : Finds w identifier found
 
-pub there : (w : List ℕ) → messagesTaken w ≡ true → (identifier : ℕ) → There w identifier
-there w t identifier = go (eqb at (messageCountOf w)) refl
+pub there : (w : List ℕ) → messages_taken_spec w ≡ true → (identifier : ℕ) → There w identifier
+there w t identifier = go (eqb at (message_count_of w)) refl
   where
     at : ℕ
     at = before w identifier
 
-    first : at ≡ first_at identifier (identifiers (messagesOf w))
-    first = ap (first_at identifier) (ids-are w t)
+    first : at ≡ first_at identifier (identifiers (messages_of w))
+    first = ap (first_at identifier) (ids_are w t)
 
-    go : (b : Bool) → eqb at (messageCountOf w) ≡ b → There w identifier
-    go true e = record { found = Nothing; finds = nothing w t identifier at first (eqb-true at (messageCountOf w) e) }
+    go : (b : Bool) → eqb at (message_count_of w) ≡ b → There w identifier
+    go true e = record { found = Nothing; finds = nothing w t identifier at first (eqb-true at (message_count_of w) e) }
     go false e =
-        let inside = there-is w t identifier at first (eqb-false at (messageCountOf w) e) in
+        let inside = there_is w t identifier at first (eqb-false at (message_count_of w) e) in
         record { found = Signals _ _; finds = spans w t identifier at first inside }

@@ -14,13 +14,13 @@ use contract.Lifetimes.{Lfts}
 use contract.Monad.{Fun}
 use denote.Ref.{MutBor, at_last}
 use lib.IntN.{ℤ}
-use Rattle.only.specs.Only.{Only, only-this}
-use Rattle.books.specs.Words.{messagesTaken}
+use Rattle.only.specs.Only.{Only, only_this}
+use Rattle.books.specs.Words.{messages_taken_spec}
 use Rattle.framing.specs.declared.Reading.{Reading}
 use Rattle.framing.specs.declared.Packing.{Packing}
 use Rattle.framing.specs.Reading.{Slices, reading}
 use Rattle.framing.specs.Packing.{packing}
-use Rattle.framing.proofs.CodedSlices.{codedSlices}
+use Rattle.framing.proofs.CodedSlices.{coded_slices}
 use Rattle.framing.specs.contracts.Reading as the-reading
 use Rattle.framing.specs.contracts.Packing as the-packing
 use Rattle.frames.specs.Lookup.{Finds}
@@ -32,22 +32,22 @@ use Rattle.frames.specs.contracts.read as read
 use Rattle.frames.specs.contracts.pack as pack
 
 module _ {M : Type 1} {𝓤 : Ura M} (𝓛 : Logic 𝓤) (mem : Memory → SProp 𝓤) (run : Routine → Fun 𝓤) where
-  pub one-read : (κs : Lfts 5) (book : MutBor (List ℕ)) (identifier : ℕ) (frame raws classes : MutBor (List ℕ)) (thousandths : MutBor (List ℤ))
+  pub one_read : (κs : Lfts 5) (book : MutBor (List ℕ)) (identifier : ℕ) (frame raws classes : MutBor (List ℕ)) (thousandths : MutBor (List ℤ))
       → Only 𝓤 (λ (x : Reading × Slices). (read.clauses 𝓛 mem run κs (book, (identifier, (frame, (raws, (classes, (thousandths, tt))))))).ensures tt x.0
       (book, (identifier, (frame, (at_last raws x.1.raws, (at_last classes x.1.classes, (at_last thousandths x.1.thousandths, tt)))))))
-  one-read κs book identifier frame raws classes thousandths =
-      only-this 𝓤 _ (coded× (the-reading.the_row).coded codedSlices)
+  one_read κs book identifier frame raws classes thousandths =
+      only_this 𝓤 _ (coded× (the-reading.the_row).coded coded_slices)
       (reading book.now identifier frame.now (record { raws = raws.now; classes = classes.now; thousandths = thousandths.now })) (λ x. refl)
 
-  pub one-pack : (κs : Lfts 3) (book : MutBor (List ℕ)) (identifier : ℕ) (values frame : MutBor (List ℕ))
+  pub one_pack : (κs : Lfts 3) (book : MutBor (List ℕ)) (identifier : ℕ) (values frame : MutBor (List ℕ))
       → Only 𝓤 (λ (x : Packing × List ℕ). (pack.clauses 𝓛 mem run κs (book, (identifier, (values, (frame, tt))))).ensures tt x.0 (book, (identifier, (values, (at_last frame x.1, tt)))))
-  one-pack κs book identifier values frame =
-      only-this 𝓤 _ (coded× (the-packing.the_row).coded (coded_list coded_ℕ)) (packing book.now identifier values.now frame.now) (λ x. refl)
+  one_pack κs book identifier values frame =
+      only_this 𝓤 _ (coded× (the-packing.the_row).coded (coded_list coded_ℕ)) (packing book.now identifier values.now frame.now) (λ x. refl)
 
   -- where its `requires` holds
-  pub one-find-message : (κs : Lfts 1) (book : MutBor (List ℕ)) (identifier : ℕ) → messagesTaken book.now ≡ true
+  pub one_find_message : (κs : Lfts 1) (book : MutBor (List ℕ)) (identifier : ℕ) → messages_taken_spec book.now ≡ true
       → Only 𝓤 (λ (f : MessageFound). (find-message.clauses 𝓛 mem run κs (book, (identifier, tt))).ensures tt f (book, (identifier, tt)))
-  one-find-message κs book identifier t =
+  one_find_message κs book identifier t =
       let here = there book.now t identifier in
       record {
         coded = (the-found.the_row).coded;

@@ -1,6 +1,6 @@
 // The message of a book that has an identifier, and where its signals stand in the columns.
 ghost use Rattle.std.specs.Prelude.{◌≡◌, true};
-ghost use Rattle.books.specs.Words.{messagesTaken};
+ghost use Rattle.books.specs.Words.{messages_taken_spec};
 ghost use Rattle.frames.specs.Lookup.{first_at, Finds};
 
 use record::{BOOK_WORDS, wide};
@@ -28,7 +28,7 @@ fn find(ids: &[u32], identifier: u32) -> usize
 
 // The signals of the message that has the identifier, in a book whose messages are those of a taken book.
 pub fn find_message(book: &[u32; BOOK_WORDS], identifier: u32) -> MessageFound
-    requires { messagesTaken book.now ≡ true }
+    requires { messages_taken_spec book.now ≡ true }
     ensures { Finds book.now identifier result }
 {
     let ids = record::ids(book);

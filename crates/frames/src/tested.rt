@@ -1,11 +1,11 @@
 // The work behind `read` and `pack`, by a book whose message and signal tables they have tested.
 ghost use Rattle.std.specs.Prelude.{◌≡◌, true};
 ghost use Rattle.bits.specs.Word.{bytes_of};
-ghost use Rattle.books.specs.Words.{messagesOf, messagesTaken};
+ghost use Rattle.books.specs.Words.{messages_of, messages_taken_spec};
 ghost use Rattle.framing.specs.Lending.{ReadsInto, PacksInto};
-ghost use Rattle.framing.specs.Messages.{messageWith};
-ghost use Rattle.framing.specs.Reading.{readByMessage, readByMessages};
-ghost use Rattle.framing.specs.Packing.{packByMessage};
+ghost use Rattle.framing.specs.Messages.{message_with};
+ghost use Rattle.framing.specs.Reading.{read_by_message, read_by_messages};
+ghost use Rattle.framing.specs.Packing.{pack_by_message};
 
 use crate::lookup::{MessageFound, find_message};
 use framing::{Packing, Reading};
@@ -23,8 +23,8 @@ fn read_word(
     classes: &mut [u8],
     thousandths: &mut [i64],
 ) -> Reading
-    requires { messagesTaken book.now ≡ true }
-    ensures { ReadsInto (readByMessage (messageWith identifier (messagesOf book.now)) (bytes_of word)) result raws classes thousandths }
+    requires { messages_taken_spec book.now ≡ true }
+    ensures { ReadsInto (read_by_message (message_with identifier (messages_of book.now)) (bytes_of word)) result raws classes thousandths }
 {
     match find_message(book, identifier) {
         MessageFound::Nothing => Reading::UnknownIdentifier,
@@ -53,8 +53,8 @@ pub fn read_tested(
     classes: &mut [u8],
     thousandths: &mut [i64],
 ) -> Reading
-    requires { messagesTaken book.now ≡ true }
-    ensures { ReadsInto (readByMessages (messagesOf book.now) identifier frame.now) result raws classes thousandths }
+    requires { messages_taken_spec book.now ≡ true }
+    ensures { ReadsInto (read_by_messages (messages_of book.now) identifier frame.now) result raws classes thousandths }
 {
     if frame.len() != FRAME_BYTES {
         return Reading::NotEightBytes;
@@ -76,8 +76,8 @@ pub fn pack_tested(
     values: &[u32],
     frame: &mut [u8],
 ) -> Packing
-    requires { messagesTaken book.now ≡ true }
-    ensures { PacksInto (packByMessage (messageWith identifier (messagesOf book.now)) values.now) result frame }
+    requires { messages_taken_spec book.now ≡ true }
+    ensures { PacksInto (pack_by_message (message_with identifier (messages_of book.now)) values.now) result frame }
 {
     match find_message(book, identifier) {
         MessageFound::Nothing => Packing::UnknownIdentifier,

@@ -9,14 +9,14 @@ use lib.Dec.{eqb, leb}
 use lib.ListN.{length}
 use borrow.Author.Tests.{eqb-true, eq-eqb, leb-true, le-leb}
 use Rattle.books.specs.Book.{Message}
-use Rattle.books.specs.Words.{messagesOf, messagesTaken}
+use Rattle.books.specs.Words.{messages_of, messages_taken_spec}
 use Rattle.framing.specs.declared.Reading.TheVariants.{Read, NotABook, NotEightBytes, UnknownIdentifier, WrongChecksum, TooLittleRoom}
 use Rattle.framing.specs.declared.Packing.{Packing}
 use Rattle.framing.specs.declared.Packing.TheVariants as Pack
-use Rattle.bits.specs.Frame.{frameBytes}
-use Rattle.framing.specs.Messages.{messageWith}
-use Rattle.framing.specs.Reading.{Slices, checksumHolds, room, readings, readByMessage, readByMessages, reading, readingNumber}
-use Rattle.framing.specs.Packing.{judgedValues, packedFrame, packByMessage, packing, packingNumber}
+use Rattle.bits.specs.Frame.{frame_bytes}
+use Rattle.framing.specs.Messages.{message_with}
+use Rattle.framing.specs.Reading.{Slices, checksum_holds, room, readings, read_by_message, read_by_messages, reading, reading_number}
+use Rattle.framing.specs.Packing.{judged_values, packed_frame, pack_by_message, packing, packing_number}
 
 -- a test before a refusal: where the answer is no refusal, the test held
 passes : {A X : Type 0} (number : A → ℕ) (n : ℕ) (held : Bool) (other : A × X) (refused : A) (lent : X) → number refused ≡ suc n
@@ -27,76 +27,76 @@ passes number n false other refused lent h e = absurd (omega arith)
 -- ---- reading
 
 pub record WasRead (words : List ℕ) (identifier : ℕ) (frame : List ℕ) (lent : Slices) (m : Message) : Type 0 where
-  pub taken : messagesTaken words ≡ true
-  pub eight : length frame ≡ frameBytes
-  pub found : messageWith identifier (messagesOf words) ≡ some m
-  pub checked : checksumHolds m frame ≡ true
+  pub taken : messages_taken_spec words ≡ true
+  pub eight : length frame ≡ frame_bytes
+  pub found : message_with identifier (messages_of words) ≡ some m
+  pub checked : checksum_holds m frame ≡ true
   pub roomy : length m.placements ≤ room lent
 
 -- what has passed every test is read
 pub was_read : (words : List ℕ) (identifier : ℕ) (frame : List ℕ) (lent : Slices) (m : Message) → WasRead words identifier frame lent m
     → reading words identifier frame lent ≡ (Read (length m.placements), readings frame m.placements lent)
-unfolding reading readByMessages readByMessage
+unfolding reading read_by_messages read_by_message
 was_read words identifier frame lent m h =
-    rw (h.taken, eq-eqb (length frame) frameBytes h.eight, h.found, h.checked, le-leb (length m.placements) (room lent) h.roomy) refl
+    rw (h.taken, eq-eqb (length frame) frame_bytes h.eight, h.found, h.checked, le-leb (length m.placements) (room lent) h.roomy) refl
 
 -- and what is not refused has passed every test
-by-message : (o : Option Message) (frame : List ℕ) (lent : Slices) → readingNumber (readByMessage o frame lent).0 ≡ 0
-    → (m : Message) × (o ≡ some m) × (checksumHolds m frame ≡ true) × (length m.placements ≤ room lent)
-unfolding readByMessage
-by-message none frame lent e = absurd (omega arith)
-by-message (some m) frame lent e =
-    let c = passes readingNumber 22 (checksumHolds m frame) _ WrongChecksum lent refl e in
-    let r = passes readingNumber 23 (leb (length m.placements) (room lent)) _ TooLittleRoom lent refl c.1 in
+by_message : (o : Option Message) (frame : List ℕ) (lent : Slices) → reading_number (read_by_message o frame lent).0 ≡ 0
+    → (m : Message) × (o ≡ some m) × (checksum_holds m frame ≡ true) × (length m.placements ≤ room lent)
+unfolding read_by_message
+by_message none frame lent e = absurd (omega arith)
+by_message (some m) frame lent e =
+    let c = passes reading_number 22 (checksum_holds m frame) _ WrongChecksum lent refl e in
+    let r = passes reading_number 23 (leb (length m.placements) (room lent)) _ TooLittleRoom lent refl c.1 in
     (m, refl, c.0, leb-true (length m.placements) (room lent) r.0)
 
-pub read-was : (words : List ℕ) (identifier : ℕ) (frame : List ℕ) (lent : Slices) → readingNumber (reading words identifier frame lent).0 ≡ 0
+pub read_was : (words : List ℕ) (identifier : ℕ) (frame : List ℕ) (lent : Slices) → reading_number (reading words identifier frame lent).0 ≡ 0
     → (m : Message) × WasRead words identifier frame lent m
-unfolding reading readByMessages
-read-was words identifier frame lent e =
-    let a = passes readingNumber 11 (messagesTaken words) _ NotABook lent refl e in
-    let b = passes readingNumber 20 (eqb (length frame) frameBytes) _ NotEightBytes lent refl a.1 in
-    let c = by-message (messageWith identifier (messagesOf words)) frame lent b.1 in
-    (c.0, record { taken = a.0; eight = eqb-true (length frame) frameBytes b.0; found = c.1; checked = c.2; roomy = c.3 })
+unfolding reading read_by_messages
+read_was words identifier frame lent e =
+    let a = passes reading_number 11 (messages_taken_spec words) _ NotABook lent refl e in
+    let b = passes reading_number 20 (eqb (length frame) frame_bytes) _ NotEightBytes lent refl a.1 in
+    let c = by_message (message_with identifier (messages_of words)) frame lent b.1 in
+    (c.0, record { taken = a.0; eight = eqb-true (length frame) frame_bytes b.0; found = c.1; checked = c.2; roomy = c.3 })
 
 -- ---- packing
 
 pub record WasPacked (words : List ℕ) (identifier : ℕ) (vs lent : List ℕ) (m : Message) : Type 0 where
-  pub taken : messagesTaken words ≡ true
-  pub found : messageWith identifier (messagesOf words) ≡ some m
+  pub taken : messages_taken_spec words ≡ true
+  pub found : message_with identifier (messages_of words) ≡ some m
   pub many : length vs ≡ length m.placements
-  pub eight : length lent ≡ frameBytes
-  pub good : judgedValues m.placements vs ≡ Pack.Packed
+  pub eight : length lent ≡ frame_bytes
+  pub good : judged_values m.placements vs ≡ Pack.Packed
 
-pub was-packed : (words : List ℕ) (identifier : ℕ) (vs lent : List ℕ) (m : Message) → WasPacked words identifier vs lent m
-    → packing words identifier vs lent ≡ (Pack.Packed, packedFrame m vs)
-unfolding packing packByMessage
-was-packed words identifier vs lent m h =
-    rw (h.taken, h.found, eq-eqb (length vs) (length m.placements) h.many, eq-eqb (length lent) frameBytes h.eight, h.good) refl
+pub was_packed : (words : List ℕ) (identifier : ℕ) (vs lent : List ℕ) (m : Message) → WasPacked words identifier vs lent m
+    → packing words identifier vs lent ≡ (Pack.Packed, packed_frame m vs)
+unfolding packing pack_by_message
+was_packed words identifier vs lent m h =
+    rw (h.taken, h.found, eq-eqb (length vs) (length m.placements) h.many, eq-eqb (length lent) frame_bytes h.eight, h.good) refl
 
 -- and what is not refused has passed every test
-no-refusal : (r : Packing) → packingNumber r ≡ 0 → r ≡ Pack.Packed
-no-refusal Pack.Packed e = refl
-no-refusal Pack.NotABook e = absurd (omega arith)
-no-refusal Pack.UnknownIdentifier e = absurd (omega arith)
-no-refusal Pack.WrongCountOfValues e = absurd (omega arith)
-no-refusal Pack.NotEightBytes e = absurd (omega arith)
-no-refusal Pack.TooWide e = absurd (omega arith)
-no-refusal Pack.ReservedOrOutside e = absurd (omega arith)
+no_refusal : (r : Packing) → packing_number r ≡ 0 → r ≡ Pack.Packed
+no_refusal Pack.Packed e = refl
+no_refusal Pack.NotABook e = absurd (omega arith)
+no_refusal Pack.UnknownIdentifier e = absurd (omega arith)
+no_refusal Pack.WrongCountOfValues e = absurd (omega arith)
+no_refusal Pack.NotEightBytes e = absurd (omega arith)
+no_refusal Pack.TooWide e = absurd (omega arith)
+no_refusal Pack.ReservedOrOutside e = absurd (omega arith)
 
-by_values : (o : Option Message) (vs lent : List ℕ) → packingNumber (packByMessage o vs lent).0 ≡ 0
-    → (m : Message) × (o ≡ some m) × (length vs ≡ length m.placements) × (length lent ≡ frameBytes) × (judgedValues m.placements vs ≡ Pack.Packed)
-unfolding packByMessage
+by_values : (o : Option Message) (vs lent : List ℕ) → packing_number (pack_by_message o vs lent).0 ≡ 0
+    → (m : Message) × (o ≡ some m) × (length vs ≡ length m.placements) × (length lent ≡ frame_bytes) × (judged_values m.placements vs ≡ Pack.Packed)
+unfolding pack_by_message
 by_values none vs lent e = absurd (omega arith)
 by_values (some m) vs lent e =
-    let c = passes packingNumber 24 (eqb (length vs) (length m.placements)) _ Pack.WrongCountOfValues lent refl e in
-    let f = passes packingNumber 20 (eqb (length lent) frameBytes) _ Pack.NotEightBytes lent refl c.1 in
-    (m, refl, eqb-true (length vs) (length m.placements) c.0, eqb-true (length lent) frameBytes f.0, no-refusal (judgedValues m.placements vs) f.1)
+    let c = passes packing_number 24 (eqb (length vs) (length m.placements)) _ Pack.WrongCountOfValues lent refl e in
+    let f = passes packing_number 20 (eqb (length lent) frame_bytes) _ Pack.NotEightBytes lent refl c.1 in
+    (m, refl, eqb-true (length vs) (length m.placements) c.0, eqb-true (length lent) frame_bytes f.0, no_refusal (judged_values m.placements vs) f.1)
 
-pub packed-was : (words : List ℕ) (identifier : ℕ) (vs lent : List ℕ) → packingNumber (packing words identifier vs lent).0 ≡ 0
+pub packed_was : (words : List ℕ) (identifier : ℕ) (vs lent : List ℕ) → packing_number (packing words identifier vs lent).0 ≡ 0
     → (m : Message) × WasPacked words identifier vs lent m
 unfolding packing
-packed-was words identifier vs lent e =
-    let a = passes packingNumber 11 (messagesTaken words) _ Pack.NotABook lent refl e in
-    let c = by_values (messageWith identifier (messagesOf words)) vs lent a.1 in
+packed_was words identifier vs lent e =
+    let a = passes packing_number 11 (messages_taken_spec words) _ Pack.NotABook lent refl e in
+    let c = by_values (message_with identifier (messages_of words)) vs lent a.1 in
     (c.0, record { taken = a.0; found = c.1; many = c.2; eight = c.3; good = c.4 })

@@ -7,30 +7,30 @@ use Prim.Native.Nat.{ℕ, ◌^◌, ◌≤◌, ◌<◌}
 use native.Mathlib.Omega.{arith}
 use lib.ListN.{length}
 use borrow.Author.Tests.{lt-leb}
-use Rattle.bits.proofs.Weights.{raw-lt}
+use Rattle.bits.proofs.Weights.{raw_lt}
 use Rattle.books.specs.Book.{Placement, Message}
-use Rattle.books.specs.Words.{messagesOf, messagesTaken}
-use Rattle.books.proofs.Columns.{taken-stands}
+use Rattle.books.specs.Words.{messages_of, messages_taken_spec}
+use Rattle.books.proofs.Columns.{taken_stands}
 use Rattle.rows.specs.declared.Row.{Row}
 use Rattle.catalogue.specs.declared.Raw.{Raw}
-use Rattle.catalogue.specs.Find.{row_of, bitsIn, bitsOf}
-use Rattle.catalogue.specs.Class.{classFor, classOf, classNumber}
-use Rattle.catalogue.proofs.OneClass.{not-refused}
-use Rattle.framing.specs.Messages.{messageWith, count_of, placedClass}
-use Rattle.framing.specs.Demand.{placementAt}
-use Rattle.framing.proofs.WellPlaced.{Sits, sits-at, sound-message}
+use Rattle.catalogue.specs.Find.{row_of, bits_in_spec, bits_of_spec}
+use Rattle.catalogue.specs.Class.{class_for, class_of_spec, class_number}
+use Rattle.catalogue.proofs.OneClass.{not_refused}
+use Rattle.framing.specs.Messages.{message_with, count_of, placed_class}
+use Rattle.framing.specs.Demand.{placement_at}
+use Rattle.framing.proofs.WellPlaced.{Sits, sits_at, sound_message}
 
-known-class : (o : Option Row) (raw : Raw) → 1 ≤ bitsIn o → raw.0 < 2 ^ bitsIn o → classNumber (classFor o raw) ≡ 0
-known-class none raw h k = absurd (omega arith)
-known-class (some r) raw h k = rw (lt-leb (2 ^ r.bits) raw.0 k) (not-refused raw r)
+known_class : (o : Option Row) (raw : Raw) → 1 ≤ bits_in_spec o → raw.0 < 2 ^ bits_in_spec o → class_number (class_for o raw) ≡ 0
+known_class none raw h k = absurd (omega arith)
+known_class (some r) raw h k = rw (lt-leb (2 ^ r.bits) raw.0 k) (not_refused raw r)
 
-pub read-class : (frame : List ℕ) (p : Placement) → Sits p → classNumber (placedClass frame p) ≡ 0
-unfolding classOf bitsOf
-read-class frame p s = known-class (row_of p.number) (record { 0 = count_of frame p }) s.fits.some (raw-lt frame p.start (bitsOf p.number))
+pub read_class : (frame : List ℕ) (p : Placement) → Sits p → class_number (placed_class frame p) ≡ 0
+unfolding class_of_spec bits_of_spec
+read_class frame p s = known_class (row_of p.number) (record { 0 = count_of frame p }) s.fits.some (raw_lt frame p.start (bits_of_spec p.number))
 
 -- each signal that a message of a taken book places
-pub placed-class : (words : List ℕ) (identifier : ℕ) (m : Message) → messagesTaken words ≡ true → messageWith identifier (messagesOf words) ≡ some m
-    → (frame : List ℕ) (i : ℕ) → i < length m.placements → classNumber (placedClass frame (placementAt m i)) ≡ 0
-placed-class words identifier m t found frame i h =
-    read-class frame (placementAt m i)
-    (sits-at (sound-message identifier (messagesOf words) m (taken-stands words t).1 found) (record { number = 0; start = 0 }) i h)
+pub placed_class_law : (words : List ℕ) (identifier : ℕ) (m : Message) → messages_taken_spec words ≡ true → message_with identifier (messages_of words) ≡ some m
+    → (frame : List ℕ) (i : ℕ) → i < length m.placements → class_number (placed_class frame (placement_at m i)) ≡ 0
+placed_class_law words identifier m t found frame i h =
+    read_class frame (placement_at m i)
+    (sits_at (sound_message identifier (messages_of words) m (taken_stands words t).1 found) (record { number = 0; start = 0 }) i h)

@@ -13,5 +13,5 @@ same_parts : (s t : Slices) → parts s ≡ parts t → s ≡ t
 unfolding parts
 same_parts s t e = λ i. record { raws = (e i).0; classes = (e i).1.0; thousandths = (e i).1.1 }
 
-pub codedSlices : Coded Slices
-codedSlices = coded_via (coded× (coded_list coded_ℕ) (coded× (coded_list coded_ℕ) (coded_list coded_ℤ))) parts same_parts
+pub coded_slices : Coded Slices
+coded_slices = coded_via (coded× (coded_list coded_ℕ) (coded× (coded_list coded_ℕ) (coded_list coded_ℤ))) parts same_parts

@@ -11,15 +11,15 @@ use lib.Dec.{eqb, leb, ltb}
 use lib.ListN.{length}
 use borrow.Author.Tests.{ltb-true, ltb-false, le-leb}
 use Rattle.books.specs.Book.{Placement, Message}
-use Rattle.books.specs.Lines.{frameBits}
-use Rattle.books.specs.Words.{messagesOf, messagesTaken}
-use Rattle.books.proofs.Columns.{taken-stands}
-use Rattle.bits.specs.Frame.{frameBytes}
+use Rattle.books.specs.Lines.{frame_bits}
+use Rattle.books.specs.Words.{messages_of, messages_taken_spec}
+use Rattle.books.proofs.Columns.{taken_stands}
+use Rattle.bits.specs.Frame.{frame_bytes}
 use Rattle.framing.specs.declared.Reading.{Reading}
 use Rattle.framing.specs.declared.Reading.TheVariants.{Read, NotABook, NotEightBytes, WrongChecksum, TooLittleRoom}
-use Rattle.framing.specs.Messages.{messageWith}
-use Rattle.framing.specs.Reading.{Slices, checksumHolds, room, readings, readByMessage, readByMessages, reading, readingNumber}
-use Rattle.framing.proofs.WellPlaced.{Sits, BesideAll, WellPlaced, sound-message}
+use Rattle.framing.specs.Messages.{message_with}
+use Rattle.framing.specs.Reading.{Slices, checksum_holds, room, readings, read_by_message, read_by_messages, reading, reading_number}
+use Rattle.framing.proofs.WellPlaced.{Sits, BesideAll, WellPlaced, sound_message}
 
 -- how many placements start below n
 below : ℕ → List Placement → ℕ
@@ -35,21 +35,21 @@ none_below (p ∷ ps) = go (ltb p.start 0) refl (none_below ps)
     go true e h = let z = ltb-true p.start 0 e in absurd (omega arith)
     go false e h = h
 
-all-below : {ps : List Placement} → WellPlaced ps → below frameBits ps ≡ length ps
+all_below_law : {ps : List Placement} → WellPlaced ps → below frame_bits ps ≡ length ps
 unfolding below
-all-below WellPlaced.none = refl
-all-below (WellPlaced.more {p} {ps} s b r) = go (ltb p.start frameBits) refl (all-below r)
+all_below_law WellPlaced.none = refl
+all_below_law (WellPlaced.more {p} {ps} s b r) = go (ltb p.start frame_bits) refl (all_below_law r)
   where
-    go : (t : Bool) → ltb p.start frameBits ≡ t → below frameBits ps ≡ length ps → cond t (suc (below frameBits ps)) (below frameBits ps) ≡ suc (length ps)
+    go : (t : Bool) → ltb p.start frame_bits ≡ t → below frame_bits ps ≡ length ps → cond t (suc (below frame_bits ps)) (below frame_bits ps) ≡ suc (length ps)
     go true e h = ap suc h
-    go false e h = let z = ltb-false p.start frameBits e in absurd (omega (arith, s.fits.some, s.fits.inside))
+    go false e h = let z = ltb-false p.start frame_bits e in absurd (omega (arith, s.fits.some, s.fits.inside))
 
 -- no other starts where q does
-none-there : {q : Placement} {ps : List Placement} → Sits q → BesideAll q ps → WellPlaced ps → below (suc q.start) ps ≡ below q.start ps
+none_there : {q : Placement} {ps : List Placement} → Sits q → BesideAll q ps → WellPlaced ps → below (suc q.start) ps ≡ below q.start ps
 unfolding below
-none-there sq BesideAll.none WellPlaced.none = refl
-none-there {q} sq (BesideAll.more {p} {ps} b bs) (WellPlaced.more sp _ r) =
-    go (ltb p.start (suc q.start)) (ltb p.start q.start) refl refl (none-there sq bs r)
+none_there sq BesideAll.none WellPlaced.none = refl
+none_there {q} sq (BesideAll.more {p} {ps} b bs) (WellPlaced.more sp _ r) =
+    go (ltb p.start (suc q.start)) (ltb p.start q.start) refl refl (none_there sq bs r)
   where
     go : (x y : Bool) → ltb p.start (suc q.start) ≡ x → ltb p.start q.start ≡ y → below (suc q.start) ps ≡ below q.start ps
         → cond x (suc (below (suc q.start) ps)) (below (suc q.start) ps) ≡ cond y (suc (below q.start ps)) (below q.start ps)
@@ -77,41 +77,41 @@ one_more n (WellPlaced.more {p} {ps} s b r) = go (ltb p.start (suc n)) (ltb p.st
         let z = ltb-true p.start (suc n) d in
         let w = ltb-false p.start n e in
         let at : p.start ≡ n = omega arith in
-        let same : below (suc n) ps ≡ below n ps = subst (λ (k : ℕ). below (suc k) ps ≡ below k ps) at (none-there s b r) in
+        let same : below (suc n) ps ≡ below n ps = subst (λ (k : ℕ). below (suc k) ps ≡ below k ps) at (none_there s b r) in
         omega arith
     go false true d e h = omega arith
     go false false d e h = h
 
-few-below : (n : ℕ) {ps : List Placement} → WellPlaced ps → below n ps ≤ n
-few-below zero {ps} s = omega (arith, none_below ps)
-few-below (suc n) s = omega (arith, one_more n s, few-below n s)
+few_below : (n : ℕ) {ps : List Placement} → WellPlaced ps → below n ps ≤ n
+few_below zero {ps} s = omega (arith, none_below ps)
+few_below (suc n) s = omega (arith, one_more n s, few_below n s)
 
-few : {ps : List Placement} → WellPlaced ps → length ps ≤ frameBits
-few s = omega (arith, few-below frameBits s, all-below s)
+few : {ps : List Placement} → WellPlaced ps → length ps ≤ frame_bits
+few s = omega (arith, few_below frame_bits s, all_below_law s)
 
 -- no message of a taken book has more than 64 signals
-pub few-signals : (words : List ℕ) (identifier : ℕ) (m : Message) → messagesTaken words ≡ true → messageWith identifier (messagesOf words) ≡ some m → length m.placements ≤ frameBits
-few-signals words identifier m t found = few (sound-message identifier (messagesOf words) m (taken-stands words t).1 found)
+pub few_signals : (words : List ℕ) (identifier : ℕ) (m : Message) → messages_taken_spec words ≡ true → message_with identifier (messages_of words) ≡ some m → length m.placements ≤ frame_bits
+few_signals words identifier m t found = few (sound_message identifier (messages_of words) m (taken_stands words t).1 found)
 
-enough : (o : Option Message) (frame : List ℕ) (lent : Slices) → ((m : Message) → o ≡ some m → length m.placements ≤ room lent) → readingNumber (readByMessage o frame lent).0 ≡ readingNumber TooLittleRoom → ⊥
-unfolding readByMessage
+enough : (o : Option Message) (frame : List ℕ) (lent : Slices) → ((m : Message) → o ≡ some m → length m.placements ≤ room lent) → reading_number (read_by_message o frame lent).0 ≡ reading_number TooLittleRoom → ⊥
+unfolding read_by_message
 enough none frame lent h e = omega arith
-enough (some m) frame lent h e = go (checksumHolds m frame) (leb (length m.placements) (room lent)) (le-leb (length m.placements) (room lent) (h m refl)) e
+enough (some m) frame lent h e = go (checksum_holds m frame) (leb (length m.placements) (room lent)) (le-leb (length m.placements) (room lent) (h m refl)) e
   where
     go : (a b : Bool) → b ≡ true
-        → readingNumber (cond {A = Reading × Slices} a (cond b (Read (length m.placements), readings frame m.placements lent) (TooLittleRoom, lent)) (WrongChecksum, lent)).0 ≡ 24 → ⊥
+        → reading_number (cond {A = Reading × Slices} a (cond b (Read (length m.placements), readings frame m.placements lent) (TooLittleRoom, lent)) (WrongChecksum, lent)).0 ≡ 24 → ⊥
     go a false k e = let z : ◌≡◌ {A = ℕ} 0 1 = cc in omega arith
     go true true k e = omega arith
     go false true k e = omega arith
 
 -- and slices with room for 64 readings are never too small (24)
-pub room-enough : (words : List ℕ) (identifier : ℕ) (frame : List ℕ) (lent : Slices) → frameBits ≤ room lent
-    → readingNumber (reading words identifier frame lent).0 ≡ readingNumber TooLittleRoom → ⊥
-unfolding reading readByMessages
-room-enough words identifier frame lent h e = go (messagesTaken words) (eqb (length frame) frameBytes) refl e
+pub room_enough : (words : List ℕ) (identifier : ℕ) (frame : List ℕ) (lent : Slices) → frame_bits ≤ room lent
+    → reading_number (reading words identifier frame lent).0 ≡ reading_number TooLittleRoom → ⊥
+unfolding reading read_by_messages
+room_enough words identifier frame lent h e = go (messages_taken_spec words) (eqb (length frame) frame_bytes) refl e
   where
-    go : (a b : Bool) → messagesTaken words ≡ a
-        → readingNumber (cond {A = Reading × Slices} a (cond b (readByMessage (messageWith identifier (messagesOf words)) frame lent) (NotEightBytes, lent)) (NotABook, lent)).0 ≡ 24 → ⊥
-    go true true t e = enough (messageWith identifier (messagesOf words)) frame lent (λ m found. omega (arith, few-signals words identifier m t found)) e
+    go : (a b : Bool) → messages_taken_spec words ≡ a
+        → reading_number (cond {A = Reading × Slices} a (cond b (read_by_message (message_with identifier (messages_of words)) frame lent) (NotEightBytes, lent)) (NotABook, lent)).0 ≡ 24 → ⊥
+    go true true t e = enough (message_with identifier (messages_of words)) frame lent (λ m found. omega (arith, few_signals words identifier m t found)) e
     go true false t e = omega arith
     go false b t e = omega arith

@@ -1,5 +1,5 @@
 -- The frame that putting makes holds every count at its place, the checksum where the message places it, and 1 in every other bit:
--- so it is the packed frame (`put-sent`). Assumes nothing.
+-- so it is the packed frame (`put_sent`). Assumes nothing.
 use mathlib.Core.Path.{◌≡◌, refl, sym, ap, ◌∙◌, subst}
 use mathlib.Core.Bool.{Bool, true, false, ◌||◌}
 use mathlib.Core.Logic.{◌⊎◌, inl, inr, ⊎_elim}
@@ -10,121 +10,121 @@ use lib.Dec.{eqb, lit<, lit≤}
 use lib.ListN.{length}
 use borrow.Author.Tests.{eqb-true}
 use Rattle.bits.specs.Word.{bytes_of}
-use Rattle.bits.specs.Frame.{frameBit, countAt}
-use Rattle.bits.specs.Checksum.{checksumOf}
+use Rattle.bits.specs.Frame.{frame_bit, count_at}
+use Rattle.bits.specs.Checksum.{checksum_of}
 use Rattle.bits.proofs.Placing.{ones}
-use Rattle.bits.proofs.Weights.{read-bytes, bytes-bit, of-bytes}
+use Rattle.bits.proofs.Weights.{read_bytes, bytes_bit, of_bytes}
 use Rattle.books.specs.Book.{Placement, Message, numbers}
-use Rattle.books.specs.Lines.{isIn, frameBits}
-use Rattle.catalogue.specs.Find.{bitsOf}
+use Rattle.books.specs.Lines.{is_in, frame_bits}
+use Rattle.catalogue.specs.Find.{bits_of_spec}
 use Rattle.framing.specs.declared.Packing.{Packing}
 use Rattle.framing.specs.declared.Packing.TheVariants.{Packed, NotABook, UnknownIdentifier, WrongCountOfValues, NotEightBytes, TooWide, ReservedOrOutside}
-use Rattle.framing.specs.Messages.{checksumNumber, checksumStart, checksumBits, placesChecksum}
-use Rattle.framing.specs.Packing.{judgedValues, packedFrame, packedOr}
-use Rattle.framing.specs.Putting.{allOnes, put, withChecksum, putFrame}
+use Rattle.framing.specs.Messages.{checksum_number, checksum_start, checksum_bits, places_checksum}
+use Rattle.framing.specs.Packing.{judged_values, packed_frame, packed_or}
+use Rattle.framing.specs.Putting.{all_ones, put, with_checksum, put_frame}
 use Rattle.framing.specs.Packed.{CarriesValues, HasChecksum, Unplaced, IsPacked}
 use Rattle.framing.proofs.WellPlaced.{WellPlaced}
-use Rattle.framing.proofs.Putting.{Accepted, accepted, accepted-many, Off, put_keeps, put-lt, Has, put_has}
-use Rattle.framing.proofs.Summing.{check-bits, clear, placed-there, summed-lt, summed-keeps, summed-sum, summed-has}
-use Rattle.framing.proofs.PackedOnce.{packed-frame}
+use Rattle.framing.proofs.Putting.{Accepted, accepted, accepted_many, Off, put_keeps, put_lt, Has, put_has}
+use Rattle.framing.proofs.Summing.{check_bits, clear, placed_there, summed_lt, summed_keeps, summed_sum, summed_has}
+use Rattle.framing.proofs.PackedOnce.{packed_frame_law}
 
 -- what a word has, its bytes carry
-carries : (w : ℕ) → w < 2 ^ frameBits → {ps : List Placement} {vs : List ℕ} → WellPlaced ps → Has w ps vs → CarriesValues (bytes_of w) ps vs
+carries : (w : ℕ) → w < 2 ^ frame_bits → {ps : List Placement} {vs : List ℕ} → WellPlaced ps → Has w ps vs → CarriesValues (bytes_of w) ps vs
 unfolding CarriesValues
 carries w hw WellPlaced.none Has.none = tt
 carries w hw (WellPlaced.more sits b s) (Has.more {p} {ps} {v} {vs} e h) =
-    (λ n. read-bytes w p.start (bitsOf p.number) hw sits.fits.inside ∙ e n, carries w hw s h)
+    (λ n. read_bytes w p.start (bits_of_spec p.number) hw sits.fits.inside ∙ e n, carries w hw s h)
 
 -- a message that places 503 after one more placement still places it
-places-more : (p : Placement) (ps : List Placement) → placesChecksum ps ≡ true → placesChecksum (p ∷ ps) ≡ true
-unfolding isIn
-places-more p ps e = go (eqb checksumNumber p.number) (isIn checksumNumber (numbers ps)) e
+places_more : (p : Placement) (ps : List Placement) → places_checksum ps ≡ true → places_checksum (p ∷ ps) ≡ true
+unfolding is_in
+places_more p ps e = go (eqb checksum_number p.number) (is_in checksum_number (numbers ps)) e
   where
     go : (a b : Bool) → b ≡ true → a || b ≡ true
     go true b e = refl
     go false b e = e
 
 -- where the field at 503's place is this sum, each placement of 503 has it
-pub sum-placed : (f : List ℕ) (sum : ℕ) {ps : List Placement} → WellPlaced ps → (placesChecksum ps ≡ true → countAt f checksumStart checksumBits ≡ sum) → HasChecksum f sum ps
+pub sum_placed : (f : List ℕ) (sum : ℕ) {ps : List Placement} → WellPlaced ps → (places_checksum ps ≡ true → count_at f checksum_start checksum_bits ≡ sum) → HasChecksum f sum ps
 unfolding HasChecksum
-sum-placed f sum WellPlaced.none h = tt
-sum-placed f sum (WellPlaced.more {p} {ps} sits b s) h = (
-  λ e. ap (λ (k : ℕ). countAt f k (bitsOf p.number)) (sits.check e) ∙ ap (countAt f checksumStart) (check-bits p e) ∙ h (placed-there p ps e),
-  sum-placed f sum s (λ e. h (places-more p ps e)),
+sum_placed f sum WellPlaced.none h = tt
+sum_placed f sum (WellPlaced.more {p} {ps} sits b s) h = (
+  λ e. ap (λ (k : ℕ). count_at f k (bits_of_spec p.number)) (sits.check e) ∙ ap (count_at f checksum_start) (check_bits p e) ∙ h (placed_there p ps e),
+  sum_placed f sum s (λ e. h (places_more p ps e)),
 )
 
-unplaced-off : (k : ℕ) (ps : List Placement) → Unplaced k ps → Off k 1 ps
+unplaced_off : (k : ℕ) (ps : List Placement) → Unplaced k ps → Off k 1 ps
 unfolding Unplaced
-unplaced-off k [] u = Off.none
-unplaced-off k (p ∷ ps) u = Off.more (λ _. ⊎_elim (λ h. inr (omega arith)) inl u.0) (unplaced-off k ps u.1)
+unplaced_off k [] u = Off.none
+unplaced_off k (p ∷ ps) u = Off.more (λ _. ⊎_elim (λ h. inr (omega arith)) inl u.0) (unplaced_off k ps u.1)
 
 -- a bit of no placement is none of 503's
-unplaced-check : (k : ℕ) {ps : List Placement} → WellPlaced ps → Unplaced k ps → placesChecksum ps ≡ true → (k + 1 ≤ checksumStart) ⊎ (frameBits ≤ k)
-unfolding Unplaced isIn
-unplaced-check k WellPlaced.none u h = let z : ◌≡◌ {A = ℕ} 0 1 = cc in absurd (omega arith)
-unplaced-check k (WellPlaced.more {p} {ps} sits b s) u h = go (eqb checksumNumber p.number) refl h (unplaced-check k s u.1)
+unplaced_check : (k : ℕ) {ps : List Placement} → WellPlaced ps → Unplaced k ps → places_checksum ps ≡ true → (k + 1 ≤ checksum_start) ⊎ (frame_bits ≤ k)
+unfolding Unplaced is_in
+unplaced_check k WellPlaced.none u h = let z : ◌≡◌ {A = ℕ} 0 1 = cc in absurd (omega arith)
+unplaced_check k (WellPlaced.more {p} {ps} sits b s) u h = go (eqb checksum_number p.number) refl h (unplaced_check k s u.1)
   where
-    here : p.number ≡ checksumNumber → (k + 1 ≤ checksumStart) ⊎ (frameBits ≤ k)
+    here : p.number ≡ checksum_number → (k + 1 ≤ checksum_start) ⊎ (frame_bits ≤ k)
     here e =
-        let a : p.start ≡ checksumStart = sits.check e in
-        let c : bitsOf p.number ≡ checksumBits = check-bits p e in
+        let a : p.start ≡ checksum_start = sits.check e in
+        let c : bits_of_spec p.number ≡ checksum_bits = check_bits p e in
         ⊎_elim (λ x. inl (omega arith)) (λ x. inr (omega arith)) u.0
 
-    go : (t : Bool) → eqb checksumNumber p.number ≡ t → t || isIn checksumNumber (numbers ps) ≡ true
-        → (isIn checksumNumber (numbers ps) ≡ true → (k + 1 ≤ checksumStart) ⊎ (frameBits ≤ k)) → (k + 1 ≤ checksumStart) ⊎ (frameBits ≤ k)
-    go true e h rest = here (sym (eqb-true checksumNumber p.number e))
+    go : (t : Bool) → eqb checksum_number p.number ≡ t → t || is_in checksum_number (numbers ps) ≡ true
+        → (is_in checksum_number (numbers ps) ≡ true → (k + 1 ≤ checksum_start) ⊎ (frame_bits ≤ k)) → (k + 1 ≤ checksum_start) ⊎ (frame_bits ≤ k)
+    go true e h rest = here (sym (eqb-true checksum_number p.number e))
     go false e h rest = rest h
 
 module _ (m : Message) (vs : List ℕ) (s : WellPlaced m.placements) (a : Accepted m.placements vs) where
   abbrev Carrying : ℕ
-  Carrying = put allOnes m.placements vs
+  Carrying = put all_ones m.placements vs
 
   abbrev Whole : ℕ
-  Whole = withChecksum m.identifier m.placements Carrying
+  Whole = with_checksum m.identifier m.placements Carrying
 
-  whole-lt : Whole < 2 ^ frameBits
-  whole-lt = summed-lt m.identifier Carrying m.placements (put-lt allOnes s a (lit< tt))
+  whole_lt : Whole < 2 ^ frame_bits
+  whole_lt = summed_lt m.identifier Carrying m.placements (put_lt all_ones s a (lit< tt))
 
-  bit-one : (k : ℕ) → k < frameBits → Unplaced k m.placements → frameBit (bytes_of Whole) k ≡ 1
-  bit-one k h u =
-      bytes-bit Whole k whole-lt h
-      ∙ summed-keeps m.identifier Carrying m.placements k 1 (unplaced-check k s u)
-      ∙ put_keeps allOnes k 1 a (unplaced-off k m.placements u)
+  bit_one : (k : ℕ) → k < frame_bits → Unplaced k m.placements → frame_bit (bytes_of Whole) k ≡ 1
+  bit_one k h u =
+      bytes_bit Whole k whole_lt h
+      ∙ summed_keeps m.identifier Carrying m.placements k 1 (unplaced_check k s u)
+      ∙ put_keeps all_ones k 1 a (unplaced_off k m.placements u)
       ∙ ones k 1 (omega arith)
 
-  put-checksum : placesChecksum m.placements ≡ true → countAt (putFrame m vs) checksumStart checksumBits ≡ checksumOf m.identifier (putFrame m vs)
-  unfolding putFrame
-  put-checksum e = read-bytes Whole checksumStart checksumBits whole-lt (lit≤ tt) ∙ summed-sum m.identifier Carrying m.placements e
+  put_checksum : places_checksum m.placements ≡ true → count_at (put_frame m vs) checksum_start checksum_bits ≡ checksum_of m.identifier (put_frame m vs)
+  unfolding put_frame
+  put_checksum e = read_bytes Whole checksum_start checksum_bits whole_lt (lit≤ tt) ∙ summed_sum m.identifier Carrying m.placements e
 
-  put-packed : IsPacked m vs (putFrame m vs)
-  unfolding putFrame
-  put-packed =
+  put_packed : IsPacked m vs (put_frame m vs)
+  unfolding put_frame
+  put_packed =
       record {
-        bytes = (of-bytes Whole).many;
-        small = (of-bytes Whole).small;
-        counts = carries Whole whole-lt s (summed-has m.identifier Carrying m.placements (clear s) (put_has allOnes s a));
-        checksum = sum-placed (bytes_of Whole) (checksumOf m.identifier (bytes_of Whole)) s put-checksum;
-        ones = bit-one;
+        bytes = (of_bytes Whole).many;
+        small = (of_bytes Whole).small;
+        counts = carries Whole whole_lt s (summed_has m.identifier Carrying m.placements (clear s) (put_has all_ones s a));
+        checksum = sum_placed (bytes_of Whole) (checksum_of m.identifier (bytes_of Whole)) s put_checksum;
+        ones = bit_one;
       }
 
   -- what putting makes is the frame that is sent
-  pub put-sent : putFrame m vs ≡ packedFrame m vs
-  put-sent = packed-frame m vs s (accepted-many a) (putFrame m vs) put-packed
+  pub put_sent : put_frame m vs ≡ packed_frame m vs
+  put_sent = packed_frame_law m vs s (accepted_many a) (put_frame m vs) put_packed
 
-  pub is-packed : IsPacked m vs (packedFrame m vs)
-  is-packed = subst (IsPacked m vs) put-sent put-packed
+  pub is_packed : IsPacked m vs (packed_frame m vs)
+  is_packed = subst (IsPacked m vs) put_sent put_packed
 
   -- the field at 503's place is the checksum of the frame
-  pub own-checksum : placesChecksum m.placements ≡ true → countAt (packedFrame m vs) checksumStart checksumBits ≡ checksumOf m.identifier (packedFrame m vs)
-  own-checksum e = subst (λ (f : List ℕ). countAt f checksumStart checksumBits ≡ checksumOf m.identifier f) put-sent (put-checksum e)
+  pub own_checksum : places_checksum m.placements ≡ true → count_at (packed_frame m vs) checksum_start checksum_bits ≡ checksum_of m.identifier (packed_frame m vs)
+  own_checksum e = subst (λ (f : List ℕ). count_at f checksum_start checksum_bits ≡ checksum_of m.identifier f) put_sent (put_checksum e)
 
 -- refused or not, it makes no difference to the lent frame which of the two is written
-pub put-or : (m : Message) (vs lent : List ℕ) → WellPlaced m.placements → length vs ≡ length m.placements
-    → packedOr (judgedValues m.placements vs) (putFrame m vs) lent ≡ packedOr (judgedValues m.placements vs) (packedFrame m vs) lent
-put-or m vs lent s n = go (judgedValues m.placements vs) refl
+pub put_or : (m : Message) (vs lent : List ℕ) → WellPlaced m.placements → length vs ≡ length m.placements
+    → packed_or (judged_values m.placements vs) (put_frame m vs) lent ≡ packed_or (judged_values m.placements vs) (packed_frame m vs) lent
+put_or m vs lent s n = go (judged_values m.placements vs) refl
   where
-    go : (r : Packing) → judgedValues m.placements vs ≡ r → packedOr r (putFrame m vs) lent ≡ packedOr r (packedFrame m vs) lent
-    go Packed e = put-sent m vs s (accepted m.placements vs n e)
+    go : (r : Packing) → judged_values m.placements vs ≡ r → packed_or r (put_frame m vs) lent ≡ packed_or r (packed_frame m vs) lent
+    go Packed e = put_sent m vs s (accepted m.placements vs n e)
     go NotABook e = refl
     go UnknownIdentifier e = refl
     go WrongCountOfValues e = refl

@@ -12,15 +12,15 @@ abbrev pub Lent : Type 0 → Type 0
 Lent X = Both (Bor (List X)) (Bor (List X))
 
 -- the three slices of a reading, as they were lent, and as they are left
-abbrev pub slicesLent : Lent ℕ → Lent ℕ → Lent ℤ → Slices
-slicesLent raws classes thousandths = record { raws = raws.entry.now; classes = classes.entry.now; thousandths = thousandths.entry.now }
+abbrev pub slices_lent : Lent ℕ → Lent ℕ → Lent ℤ → Slices
+slices_lent raws classes thousandths = record { raws = raws.entry.now; classes = classes.entry.now; thousandths = thousandths.entry.now }
 
-abbrev pub slicesLeft : Lent ℕ → Lent ℕ → Lent ℤ → Slices
-slicesLeft raws classes thousandths = record { raws = raws.exit.now; classes = classes.exit.now; thousandths = thousandths.exit.now }
+abbrev pub slices_left : Lent ℕ → Lent ℕ → Lent ℤ → Slices
+slices_left raws classes thousandths = record { raws = raws.exit.now; classes = classes.exit.now; thousandths = thousandths.exit.now }
 
 -- the answer, with the slices left, is what a reading makes of the slices lent
 abbrev pub ReadsInto : (Slices → Reading × Slices) → Reading → Lent ℕ → Lent ℕ → Lent ℤ → Type 0
-ReadsInto by answer raws classes thousandths = ◌≡◌ {A = Reading × Slices} (answer, slicesLeft raws classes thousandths) (by (slicesLent raws classes thousandths))
+ReadsInto by answer raws classes thousandths = ◌≡◌ {A = Reading × Slices} (answer, slices_left raws classes thousandths) (by (slices_lent raws classes thousandths))
 
 -- the answer, with the frame left, is what a packing makes of the frame lent
 abbrev pub PacksInto : (List ℕ → Packing × List ℕ) → Packing → Lent ℕ → Type 0

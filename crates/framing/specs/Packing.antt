@@ -4,28 +4,28 @@
 -- of this one and no other. specs/Putting.antt is how the code goes about it. Assumes nothing: these are definitions.
 use Rattle.std.specs.Prelude.{Bool, true, false, cond, List, [], ◌∷◌, map, ℕ, zero, suc, ◌+◌, ◌-◌, ◌*◌, ◌/◌, ◌%◌, ◌^◌, eqb, leb, length}
 use Rattle.std.proofs.Math.Option.{Option, none, some}
-use Rattle.books.specs.Belonging.{bitBelongs}
+use Rattle.books.specs.Belonging.{bit_belongs}
 use Rattle.books.specs.Book.{Placement, Message}
-use Rattle.books.specs.Words.{messagesOf, messagesTaken}
-use Rattle.bits.specs.Frame.{frameBytes}
-use Rattle.bits.specs.Checksum.{checksumOf}
-use Rattle.catalogue.specs.Find.{bitsOf}
-use Rattle.catalogue.specs.Class.{classOf}
+use Rattle.books.specs.Words.{messages_of, messages_taken_spec}
+use Rattle.bits.specs.Frame.{frame_bytes}
+use Rattle.bits.specs.Checksum.{checksum_of}
+use Rattle.catalogue.specs.Find.{bits_of_spec}
+use Rattle.catalogue.specs.Class.{class_of_spec}
 use Rattle.catalogue.specs.declared.Class.{Class}
 use Rattle.catalogue.specs.declared.Class.TheVariants as Of
 use Rattle.framing.specs.declared.Packing.{Packing}
 use Rattle.framing.specs.declared.Packing.TheVariants.{Packed, NotABook, UnknownIdentifier, WrongCountOfValues, NotEightBytes, TooWide, ReservedOrOutside}
-use Rattle.framing.specs.Messages.{checksumNumber, messageWith}
+use Rattle.framing.specs.Messages.{checksum_number, message_with}
 
 -- document 01's number for each answer; 0 is no refusal
-abbrev pub packingNumber : Packing → ℕ
-packingNumber Packed = 0
-packingNumber NotABook = 12
-packingNumber UnknownIdentifier = 22
-packingNumber WrongCountOfValues = 25
-packingNumber NotEightBytes = 21
-packingNumber TooWide = 26
-packingNumber ReservedOrOutside = 27
+abbrev pub packing_number : Packing → ℕ
+packing_number Packed = 0
+packing_number NotABook = 12
+packing_number UnknownIdentifier = 22
+packing_number WrongCountOfValues = 25
+packing_number NotEightBytes = 21
+packing_number TooWide = 26
+packing_number ReservedOrOutside = 27
 
 -- a count of this class is sent; reserved and outside are not. The last two don't come: a placed signal is in the catalogue
 -- (proofs/Classes.antt), and one too wide is refused before
@@ -40,28 +40,28 @@ packable Of.NotInCatalogue = false
 packable Of.TooWide = false
 
 -- the first bad position, with 26 before 27; 503 is skipped
-unfoldable pub judgedValues : List Placement → List ℕ → Packing
-judgedValues [] vs = Packed
-judgedValues (p ∷ ps) [] = Packed
-judgedValues (p ∷ ps) (v ∷ vs) =
-    cond (eqb p.number checksumNumber) (judgedValues ps vs)
-    (cond (leb (2 ^ bitsOf p.number) v) TooWide
-    (cond (packable (classOf p.number (record { 0 = v }))) (judgedValues ps vs)
+unfoldable pub judged_values : List Placement → List ℕ → Packing
+judged_values [] vs = Packed
+judged_values (p ∷ ps) [] = Packed
+judged_values (p ∷ ps) (v ∷ vs) =
+    cond (eqb p.number checksum_number) (judged_values ps vs)
+    (cond (leb (2 ^ bits_of_spec p.number) v) TooWide
+    (cond (packable (class_of_spec p.number (record { 0 = v }))) (judged_values ps vs)
     ReservedOrOutside))
 
 -- ---- the frame that is sent, bit by bit
 
 -- the value that is sent: of 503 the checksum, whatever is given
-abbrev pub valueSent : ℕ → Placement → ℕ → ℕ
-valueSent checksum p v = cond (eqb p.number checksumNumber) checksum v
+abbrev pub value_sent : ℕ → Placement → ℕ → ℕ
+value_sent checksum p v = cond (eqb p.number checksum_number) checksum v
 
 -- what is sent at frame bit k: the bit of the value placed there, whose weight 2^j is at frame bit start + j, and 1 where none is placed
-unfoldable pub bitSent : ℕ → List Placement → List ℕ → ℕ → ℕ
-bitSent checksum [] vs k = 1
-bitSent checksum (p ∷ ps) [] k = 1
-bitSent checksum (p ∷ ps) (v ∷ vs) k =
-    cond (bitBelongs p k) (valueSent checksum p v / 2 ^ (k - p.start) % 2)
-    (bitSent checksum ps vs k)
+unfoldable pub bit_sent : ℕ → List Placement → List ℕ → ℕ → ℕ
+bit_sent checksum [] vs k = 1
+bit_sent checksum (p ∷ ps) [] k = 1
+bit_sent checksum (p ∷ ps) (v ∷ vs) k =
+    cond (bit_belongs p k) (value_sent checksum p v / 2 ^ (k - p.start) % 2)
+    (bit_sent checksum ps vs k)
 
 -- the number of these n bits, bit j by its weight 2^j
 unfoldable pub weighed : (ℕ → ℕ) → ℕ → ℕ
@@ -76,36 +76,36 @@ abbrev pub frame_of : (ℕ → ℕ) → List ℕ
 frame_of bit = map (byte_of bit) (0 ∷ 1 ∷ 2 ∷ 3 ∷ 4 ∷ 5 ∷ 6 ∷ 7 ∷ [])
 
 -- the frame that is sent of these values, with this checksum
-abbrev pub frameSent : ℕ → List Placement → List ℕ → List ℕ
-frameSent checksum ps vs = frame_of (bitSent checksum ps vs)
+abbrev pub frame_sent : ℕ → List Placement → List ℕ → List ℕ
+frame_sent checksum ps vs = frame_of (bit_sent checksum ps vs)
 
 -- 503 is filled last, with the checksum of the frame, which does not look at 503's own bits: they are 0 till then
-unfoldable pub packedFrame : Message → List ℕ → List ℕ
-packedFrame m vs = frameSent (checksumOf m.identifier (frameSent 0 m.placements vs)) m.placements vs
+unfoldable pub packed_frame : Message → List ℕ → List ℕ
+packed_frame m vs = frame_sent (checksum_of m.identifier (frame_sent 0 m.placements vs)) m.placements vs
 
 -- values that are judged good are packed, others leave the frame as lent
-abbrev pub packedOr : Packing → List ℕ → List ℕ → List ℕ
-packedOr Packed packed lent = packed
-packedOr NotABook packed lent = lent
-packedOr UnknownIdentifier packed lent = lent
-packedOr WrongCountOfValues packed lent = lent
-packedOr NotEightBytes packed lent = lent
-packedOr TooWide packed lent = lent
-packedOr ReservedOrOutside packed lent = lent
+abbrev pub packed_or : Packing → List ℕ → List ℕ → List ℕ
+packed_or Packed packed lent = packed
+packed_or NotABook packed lent = lent
+packed_or UnknownIdentifier packed lent = lent
+packed_or WrongCountOfValues packed lent = lent
+packed_or NotEightBytes packed lent = lent
+packed_or TooWide packed lent = lent
+packed_or ReservedOrOutside packed lent = lent
 
 -- values packed by their message
-unfoldable pub packByMessage : Option Message → List ℕ → List ℕ → Packing × List ℕ
-packByMessage none vs lent = (UnknownIdentifier, lent)
-packByMessage (some m) vs lent =
+unfoldable pub pack_by_message : Option Message → List ℕ → List ℕ → Packing × List ℕ
+pack_by_message none vs lent = (UnknownIdentifier, lent)
+pack_by_message (some m) vs lent =
     cond (eqb (length vs) (length m.placements))
-    (cond (eqb (length lent) frameBytes)
-    (judgedValues m.placements vs, packedOr (judgedValues m.placements vs) (packedFrame m vs) lent)
+    (cond (eqb (length lent) frame_bytes)
+    (judged_values m.placements vs, packed_or (judged_values m.placements vs) (packed_frame m vs) lent)
     (NotEightBytes, lent))
     (WrongCountOfValues, lent)
 
 -- values packed by the words of a book
 unfoldable pub packing : List ℕ → ℕ → List ℕ → List ℕ → Packing × List ℕ
 packing words identifier vs lent =
-    cond (messagesTaken words)
-    (packByMessage (messageWith identifier (messagesOf words)) vs lent)
+    cond (messages_taken_spec words)
+    (pack_by_message (message_with identifier (messages_of words)) vs lent)
     (NotABook, lent)

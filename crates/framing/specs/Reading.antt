@@ -3,52 +3,52 @@
 use Rattle.std.specs.Prelude.{Bool, cond, ◌||◌, not, List, map, ℕ, min, eqb, leb, ℤ, pos, length}
 use Rattle.std.proofs.Math.Option.{Option, none, some}
 use Rattle.books.specs.Book.{Placement, Message}
-use Rattle.books.specs.Words.{messagesOf, messagesTaken}
-use Rattle.bits.specs.Frame.{frameBytes, countAt}
-use Rattle.bits.specs.Checksum.{checksumOf}
+use Rattle.books.specs.Words.{messages_of, messages_taken_spec}
+use Rattle.bits.specs.Frame.{frame_bytes, count_at}
+use Rattle.bits.specs.Checksum.{checksum_of}
 use Rattle.catalogue.specs.declared.Class.{Class}
 use Rattle.catalogue.specs.declared.Class.TheVariants.{Value, Invalid, Absent, Error, Reserved, Outside, NotInCatalogue, TooWide}
 use Rattle.framing.specs.declared.Reading.{Reading}
 use Rattle.framing.specs.declared.Reading.TheVariants.{Read, NotABook, NotEightBytes, UnknownIdentifier, WrongChecksum, TooLittleRoom}
-use Rattle.framing.specs.Messages.{checksumStart, checksumBits, messageWith, placesChecksum, count_of, placedClass, written}
+use Rattle.framing.specs.Messages.{checksum_start, checksum_bits, message_with, places_checksum, count_of, placed_class, written}
 
 -- document 01's number for each answer; 0 is no refusal
-abbrev pub readingNumber : Reading → ℕ
-readingNumber (Read n) = 0
-readingNumber NotABook = 12
-readingNumber NotEightBytes = 21
-readingNumber UnknownIdentifier = 22
-readingNumber WrongChecksum = 23
-readingNumber TooLittleRoom = 24
+abbrev pub reading_number : Reading → ℕ
+reading_number (Read n) = 0
+reading_number NotABook = 12
+reading_number NotEightBytes = 21
+reading_number UnknownIdentifier = 22
+reading_number WrongChecksum = 23
+reading_number TooLittleRoom = 24
 
 -- the code of a class in the lent slice of classes; the last two do not come there, as a placed signal is in the catalogue and its count
 -- fits (proofs/Classes.antt)
-abbrev pub classCode : Class → ℕ
-classCode (Value t) = 0
-classCode (Invalid r) = 1
-classCode (Absent r) = 2
-classCode (Error r) = 3
-classCode (Reserved r) = 4
-classCode (Outside r) = 5
-classCode NotInCatalogue = 6
-classCode TooWide = 7
+abbrev pub class_code : Class → ℕ
+class_code (Value t) = 0
+class_code (Invalid r) = 1
+class_code (Absent r) = 2
+class_code (Error r) = 3
+class_code (Reserved r) = 4
+class_code (Outside r) = 5
+class_code NotInCatalogue = 6
+class_code TooWide = 7
 
 -- the thousandths of a value; 0 where the class is no value
-abbrev pub thousandthsOf : Class → ℤ
-thousandthsOf (Value t) = t.0
-thousandthsOf (Invalid r) = pos 0
-thousandthsOf (Absent r) = pos 0
-thousandthsOf (Error r) = pos 0
-thousandthsOf (Reserved r) = pos 0
-thousandthsOf (Outside r) = pos 0
-thousandthsOf NotInCatalogue = pos 0
-thousandthsOf TooWide = pos 0
+abbrev pub thousandths_of_spec : Class → ℤ
+thousandths_of_spec (Value t) = t.0
+thousandths_of_spec (Invalid r) = pos 0
+thousandths_of_spec (Absent r) = pos 0
+thousandths_of_spec (Error r) = pos 0
+thousandths_of_spec (Reserved r) = pos 0
+thousandths_of_spec (Outside r) = pos 0
+thousandths_of_spec NotInCatalogue = pos 0
+thousandths_of_spec TooWide = pos 0
 
 -- a message that places 503 is checked: the whole field is the checksum
-unfoldable pub checksumHolds : Message → List ℕ → Bool
-checksumHolds m frame =
-    not (placesChecksum m.placements) ||
-    eqb (countAt frame checksumStart checksumBits) (checksumOf m.identifier frame)
+unfoldable pub checksum_holds : Message → List ℕ → Bool
+checksum_holds m frame =
+    not (places_checksum m.placements) ||
+    eqb (count_at frame checksum_start checksum_bits) (checksum_of m.identifier frame)
 
 -- the three lent slices: raw counts, class codes, thousandths
 pub record Slices : Type 0 where
@@ -65,30 +65,30 @@ abbrev pub readings : List ℕ → List Placement → Slices → Slices
 readings frame ps lent =
     record {
       raws = written (map (λ (p : Placement). count_of frame p) ps) lent.raws;
-      classes = written (map (λ (p : Placement). classCode (placedClass frame p)) ps) lent.classes;
-      thousandths = written (map (λ (p : Placement). thousandthsOf (placedClass frame p)) ps) lent.thousandths;
+      classes = written (map (λ (p : Placement). class_code (placed_class frame p)) ps) lent.classes;
+      thousandths = written (map (λ (p : Placement). thousandths_of_spec (placed_class frame p)) ps) lent.thousandths;
     }
 
 -- a frame of 8 bytes read by its message
-unfoldable pub readByMessage : Option Message → List ℕ → Slices → Reading × Slices
-readByMessage none frame lent = (UnknownIdentifier, lent)
-readByMessage (some m) frame lent =
-    cond (checksumHolds m frame)
+unfoldable pub read_by_message : Option Message → List ℕ → Slices → Reading × Slices
+read_by_message none frame lent = (UnknownIdentifier, lent)
+read_by_message (some m) frame lent =
+    cond (checksum_holds m frame)
     (cond (leb (length m.placements) (room lent))
     (Read (length m.placements), readings frame m.placements lent)
     (TooLittleRoom, lent))
     (WrongChecksum, lent)
 
 -- a frame read by the messages of a taken book
-unfoldable pub readByMessages : List Message → ℕ → List ℕ → Slices → Reading × Slices
-readByMessages ms identifier frame lent =
-    cond (eqb (length frame) frameBytes)
-    (readByMessage (messageWith identifier ms) frame lent)
+unfoldable pub read_by_messages : List Message → ℕ → List ℕ → Slices → Reading × Slices
+read_by_messages ms identifier frame lent =
+    cond (eqb (length frame) frame_bytes)
+    (read_by_message (message_with identifier ms) frame lent)
     (NotEightBytes, lent)
 
 -- a frame read by the words of a book
 unfoldable pub reading : List ℕ → ℕ → List ℕ → Slices → Reading × Slices
 reading words identifier frame lent =
-    cond (messagesTaken words)
-    (readByMessages (messagesOf words) identifier frame lent)
+    cond (messages_taken_spec words)
+    (read_by_messages (messages_of words) identifier frame lent)
     (NotABook, lent)

@@ -14,11 +14,11 @@ pub record Passed (P : ℕ → Bool) (n i : ℕ) : Type 0 where
 pub passed_start : (P : ℕ → Bool) (n : ℕ) → Passed P n 0
 passed_start P n = record { within = omega arith; none = λ k l. absurd (omega arith) }
 
-pub passed-more : (P : ℕ → Bool) (n i : ℕ) → Passed P n i → i < n → P i ≡ false → Passed P n (i + 1)
-passed-more P n i h l e = record { within = omega arith; none = below_more (λ (k : ℕ). P k ≡ false) i h.none e }
+pub passed_more : (P : ℕ → Bool) (n i : ℕ) → Passed P n i → i < n → P i ≡ false → Passed P n (i + 1)
+passed_more P n i h l e = record { within = omega arith; none = below_more (λ (k : ℕ). P k ≡ false) i h.none e }
 
-pub first-here : (P : ℕ → Bool) (n i : ℕ) → Passed P n i → P i ≡ true → FirstPassing P n i
-first-here P n i h e = record { within = h.within; before = h.none; found = λ l. e }
+pub first_here : (P : ℕ → Bool) (n i : ℕ) → Passed P n i → P i ≡ true → FirstPassing P n i
+first_here P n i h e = record { within = h.within; before = h.none; found = λ l. e }
 
-pub first-none : (P : ℕ → Bool) (n i : ℕ) → Passed P n i → n ≤ i → FirstPassing P n i
-first-none P n i h l = record { within = h.within; before = h.none; found = λ l'. absurd (omega arith) }
+pub first_none : (P : ℕ → Bool) (n i : ℕ) → Passed P n i → n ≤ i → FirstPassing P n i
+first_none P n i h l = record { within = h.within; before = h.none; found = λ l'. absurd (omega arith) }

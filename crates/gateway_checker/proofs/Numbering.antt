@@ -7,11 +7,11 @@ use lib.ListN.{length, get_or, take, drop, length-append, get_or-append}
 use lib.Seq.{get_or-take, get_or-drop, get_or-append-add}
 use Rattle.masks.specs.Bit.{width}
 use Rattle.numbering.specs.Numbers.{FirstAt, Numbered}
-use Rattle.numbering.proofs.Firsts.{number_of, number-first}
+use Rattle.numbering.proofs.Firsts.{number_of, number_first}
 use Rattle.reach.specs.Led.{Numbers}
 use Rattle.verdict.specs.Verdicts.{Judged}
 use Rattle.verdict.specs.declared.Verdict.{Verdict}
-use Rattle.verdict.proofs.Renaming.{Renames, judged-renamed}
+use Rattle.verdict.proofs.Renaming.{Renames, judged_renamed}
 
 -- places and their numbers give each other their names
 module _ (fs ts numbers starts ends : List ℕ) (same : length fs ≡ length ts) (numbered : Numbered (ts ++ fs) numbers)
@@ -20,16 +20,16 @@ module _ (fs ts numbers starts ends : List ℕ) (same : length fs ≡ length ts)
   abbrev n : ℕ
   n = length fs
 
-  start-at : (j : ℕ) → j < n → FirstAt (ts ++ fs) (n + j) (get_or starts j 0)
+  start_at : (j : ℕ) → j < n → FirstAt (ts ++ fs) (n + j) (get_or starts j 0)
   unfolding Numbered
-  start-at j l =
+  start_at j l =
       subst (λ (r : ℕ). FirstAt (ts ++ fs) (n + j) r)
       (sym (ap (λ (x : List ℕ). get_or x j 0) is-starts ∙ get_or-take (n + n - n) (drop n numbers) j 0 (omega arith) ∙ get_or-drop n numbers j 0))
       (numbered (n + j) (omega (arith, length-append ts fs)))
 
-  end-at : (j : ℕ) → j < n → FirstAt (ts ++ fs) j (get_or ends j 0)
+  end_at : (j : ℕ) → j < n → FirstAt (ts ++ fs) j (get_or ends j 0)
   unfolding Numbered
-  end-at j l =
+  end_at j l =
       subst (λ (r : ℕ). FirstAt (ts ++ fs) j r)
       (sym (ap (λ (x : List ℕ). get_or x j 0) is-ends ∙ get_or-take (n - 0) (drop 0 numbers) j 0 (omega arith)))
       (numbered j (omega (arith, length-append ts fs)))
@@ -40,26 +40,26 @@ module _ (fs ts numbers starts ends : List ℕ) (same : length fs ≡ length ts)
   to_at : (j : ℕ) → j < n → get_or (ts ++ fs) j 0 ≡ get_or ts j 0
   to_at j l = get_or-append ts fs 0 j (omega arith)
 
-  pub low-numbers : n ≤ width → Numbers starts ends
-  low-numbers few = record {
+  pub low_numbers : n ≤ width → Numbers starts ends
+  low_numbers few = record {
     same = omega (arith, start-count, end-count);
-    from = record { few = omega (arith, start-count); low = λ j l. let k : j < n = omega (arith, start-count) in omega (arith, (start-at j k).within) };
-    to = record { low = λ j l. let k : j < n = omega (arith, end-count) in omega (arith, (end-at j k).within) };
+    from = record { few = omega (arith, start-count); low = λ j l. let k : j < n = omega (arith, start-count) in omega (arith, (start_at j k).within) };
+    to = record { low = λ j l. let k : j < n = omega (arith, end-count) in omega (arith, (end_at j k).within) };
   }
 
-  renames-places : Renames fs ts starts ends (number_of (ts ++ fs))
-  renames-places = record {
+  renames_places : Renames fs ts starts ends (number_of (ts ++ fs))
+  renames_places = record {
     count = omega (arith, start-count);
-    from = λ j l. number-first (ts ++ fs) (n + j) _ (omega (arith, length-append ts fs)) (start-at j l) ∙ ap (number_of (ts ++ fs)) (from_at j);
-    to = λ j l. number-first (ts ++ fs) j _ (omega (arith, length-append ts fs)) (end-at j l) ∙ ap (number_of (ts ++ fs)) (to_at j l);
+    from = λ j l. number_first (ts ++ fs) (n + j) _ (omega (arith, length-append ts fs)) (start_at j l) ∙ ap (number_of (ts ++ fs)) (from_at j);
+    to = λ j l. number_first (ts ++ fs) j _ (omega (arith, length-append ts fs)) (end_at j l) ∙ ap (number_of (ts ++ fs)) (to_at j l);
   }
 
-  renames-numbers : Renames starts ends fs ts (λ x. get_or (ts ++ fs) x 0)
-  renames-numbers = record {
+  renames_numbers : Renames starts ends fs ts (λ x. get_or (ts ++ fs) x 0)
+  renames_numbers = record {
     count = omega (arith, start-count);
-    from = λ j l. sym ((start-at j (omega (arith, start-count))).same ∙ from_at j);
-    to = λ j l. let k : j < n = omega (arith, start-count) in sym ((end-at j k).same ∙ to_at j k);
+    from = λ j l. sym ((start_at j (omega (arith, start-count))).same ∙ from_at j);
+    to = λ j l. let k : j < n = omega (arith, start-count) in sym ((end_at j k).same ∙ to_at j k);
   }
 
-  pub judged-places : (v : Verdict) → Judged starts ends v → Judged fs ts v
-  judged-places v j = judged-renamed fs ts starts ends (number_of (ts ++ fs)) (λ x. get_or (ts ++ fs) x 0) renames-places renames-numbers v j
+  pub judged_places : (v : Verdict) → Judged starts ends v → Judged fs ts v
+  judged_places v j = judged_renamed fs ts starts ends (number_of (ts ++ fs)) (λ x. get_or (ts ++ fs) x 0) renames_places renames_numbers v j

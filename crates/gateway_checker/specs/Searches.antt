@@ -6,8 +6,8 @@ use Rattle.masks.specs.Bit.{width, bit, meeting}
 use Rattle.reach.specs.Led.{turn}
 
 -- route i leads on to where it starts
-abbrev pub leadsBack : List ℕ → List ℕ → ℕ → Bool
-leadsBack starts onward i = bit (get_or onward i 0) (get_or starts i 0)
+abbrev pub leads_back : List ℕ → List ℕ → ℕ → Bool
+leads_back starts onward i = bit (get_or onward i 0) (get_or starts i 0)
 
 -- route a had its turn among the first m, and before it one that starts where a does and leads on to a place that a leads on to
 abbrev pub ForksEarlier : List ℕ → List ℕ → Bool → ℕ → ℕ → Type 0
@@ -21,5 +21,5 @@ abbrev pub StartsAt : List ℕ → ℕ → ℕ → ℕ → Type 0
 StartsAt starts routes m x = (a : ℕ) × (a < m) × (bit routes a ≡ true) × (get_or starts a 0 ≡ x) × (x < width)
 
 -- route i forks, or leads on to where a route starts that does
-abbrev pub beginsBy : List ℕ → ℕ → ℕ → ℕ → Bool
-beginsBy onward forks places i = bit forks i || meeting (get_or onward i 0) places
+abbrev pub begins_by : List ℕ → ℕ → ℕ → ℕ → Bool
+begins_by onward forks places i = bit forks i || meeting (get_or onward i 0) places

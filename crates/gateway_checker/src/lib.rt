@@ -6,7 +6,7 @@ ghost use Rattle.chains.specs.Tells.{Tells};
 ghost use Rattle.chains.specs.Tests.{FirstPassing};
 ghost use Rattle.masks.specs.Bit.{width, bit};
 ghost use Rattle.reach.specs.Led.{Starts, Numbers};
-ghost use Rattle.gateway_checker.specs.Searches.{leadsBack, ForksEarlier, StartsAt, beginsBy};
+ghost use Rattle.gateway_checker.specs.Searches.{leads_back, ForksEarlier, StartsAt, begins_by};
 ghost use Rattle.verdict.specs.Verdicts.{Judged};
 
 use masks::WIDTH;
@@ -26,7 +26,7 @@ fn among(mask: u64, number: usize) -> bool
 // The first route that leads on to where it starts, or n.
 fn first_loop(starts: &[u8], onward: &[u64]) -> usize
     requires { Starts starts.now × (length starts.now ≤ length onward.now) }
-    ensures { FirstPassing (leadsBack starts.now onward.now) (length starts.now) result }
+    ensures { FirstPassing (leads_back starts.now onward.now) (length starts.now) result }
 {
     let mut i: usize = 0;
     while i < starts.len() {
@@ -80,7 +80,7 @@ fn starts_of(starts: &[u8], routes: u64) -> u64
 // The first route that forks or leads on to where one starts that does, or n.
 fn first_doubling(onward: &[u64], forks: u64, places: u64, n: usize) -> usize
     requires { (n ≤ width) × (n ≤ length onward.now) }
-    ensures { FirstPassing (beginsBy onward.now forks places) n result }
+    ensures { FirstPassing (begins_by onward.now forks places) n result }
 {
     let mut i: usize = 0;
     while i < n {

@@ -9,8 +9,8 @@ pub record WorkedLine : Type 0 where
   pub says : Line
 
 -- a dot is a tab
-unfoldable pub workedLines : List WorkedLine
-workedLines =
+unfoldable pub worked_lines : List WorkedLine
+worked_lines =
     -- M·18FF21F3
     record { line = 77 ∷ 9 ∷ 49 ∷ 56 ∷ 70 ∷ 70 ∷ 50 ∷ 49 ∷ 70 ∷ 51 ∷ []; says = Message 419373555 } ∷
     -- S·203·0

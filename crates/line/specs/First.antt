@@ -9,12 +9,12 @@ use Rattle.line.specs.declared.Line.TheVariants.{IllFormed}
 use Rattle.line.specs.declared.ReadLine.{ReadLine}
 use Rattle.line.specs.declared.Origin.{Origin}
 use Rattle.line.specs.declared.Origin.TheVariants.{From, Nowhere}
-use Rattle.line.specs.Meaning.{routeOf, ofRoute}
-use Rattle.line.specs.LineAt.{readLine, firstLine}
+use Rattle.line.specs.Meaning.{route_of, of_route}
+use Rattle.line.specs.LineAt.{read_line, first_line}
 
 -- a text whose first line is ill formed
-abbrev pub illFormed : List ℕ → ReadLine
-illFormed text = readLine IllFormed (firstLine text).next
+abbrev pub ill_formed_spec : List ℕ → ReadLine
+ill_formed_spec text = read_line IllFormed (first_line text).next
 
 -- a text that begins with a kind of line and a tab
 pub record OfKind (letter : ℕ) (text : List ℕ) : Type 0 where
@@ -23,24 +23,24 @@ pub record OfKind (letter : ℕ) (text : List ℕ) : Type 0 where
   pub parted : get_or text 1 0 ≡ tab
 
 -- the first line of a text of which `passed` bytes stand before what is left of it, by how the fields that are left are read
-unfoldable pub lineLeft : (List (List ℕ) → Line) → ℕ → List ℕ → ReadLine
-lineLeft say passed left =
-    cond (ltb (index_of newline left) (length left)) (readLine (say (fields (take (index_of newline left) left))) (passed + index_of newline left + 1))
-    (readLine IllFormed (passed + length left))
+unfoldable pub line_left : (List (List ℕ) → Line) → ℕ → List ℕ → ReadLine
+line_left say passed left =
+    cond (ltb (index_of newline left) (length left)) (read_line (say (fields (take (index_of newline left) left))) (passed + index_of newline left + 1))
+    (read_line IllFormed (passed + length left))
 
 -- what the values after the from place say: bus, identifier
-unfoldable pub ofToPlace : ℕ → ℕ → ℕ → List (List ℕ) → Line
-ofToPlace g a i [] = IllFormed
-ofToPlace g a i (b ∷ []) = IllFormed
-ofToPlace g a i (b ∷ j ∷ []) = routeOf (Is g) (Is a) (Is i) (decimal b) (identifier j)
-ofToPlace g a i (b ∷ j ∷ x ∷ fs) = IllFormed
+unfoldable pub of_to_place : ℕ → ℕ → ℕ → List (List ℕ) → Line
+of_to_place g a i [] = IllFormed
+of_to_place g a i (b ∷ []) = IllFormed
+of_to_place g a i (b ∷ j ∷ []) = route_of (Is g) (Is a) (Is i) (decimal b) (identifier j)
+of_to_place g a i (b ∷ j ∷ x ∷ fs) = IllFormed
 
 -- the values of an R line begin with these in k bytes: only the to place is left to read
 pub record ToPlaceLeft (values : List ℕ) (g a i k : ℕ) : Type 0 where
   pub inside : k ≤ length values
-  pub rest : (passed : ℕ) → lineLeft ofRoute passed values ≡ lineLeft (ofToPlace g a i) (passed + k) (drop k values)
+  pub rest : (passed : ℕ) → line_left of_route passed values ≡ line_left (of_to_place g a i) (passed + k) (drop k values)
 
 -- what was read of the values of an R line up to its to place; where nothing was, the line is ill formed
 abbrev pub OriginOf : List ℕ → Origin → Type 0
 OriginOf values (From g a i k) = ToPlaceLeft values g a i k
-OriginOf values Nowhere = (passed : ℕ) → (lineLeft ofRoute passed values).line ≡ IllFormed
+OriginOf values Nowhere = (passed : ℕ) → (line_left of_route passed values).line ≡ IllFormed

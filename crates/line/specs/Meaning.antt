@@ -8,74 +8,74 @@ use Rattle.line.specs.declared.Line.{Line}
 use Rattle.line.specs.declared.Line.TheVariants.{Message, Signal, Route, IllFormed}
 
 -- the kinds of line: the bytes M, S and R
-abbrev pub letterM : ℕ
-letterM = 77
+abbrev pub letter_m : ℕ
+letter_m = 77
 
-abbrev pub letterS : ℕ
-letterS = 83
+abbrev pub letter_s : ℕ
+letter_s = 83
 
-abbrev pub letterR : ℕ
-letterR = 82
+abbrev pub letter_r : ℕ
+letter_r = 82
 
 -- a line of well formed numbers; ill formed where one is not
-abbrev pub messageOf : Number → Line
-messageOf (Is i) = Message i
-messageOf Not = IllFormed
+abbrev pub message_of : Number → Line
+message_of (Is i) = Message i
+message_of Not = IllFormed
 
-abbrev pub signalOf : Number → Number → Line
-signalOf (Is n) (Is s) = Signal n s
-signalOf (Is n) Not = IllFormed
-signalOf Not s = IllFormed
+abbrev pub signal_of : Number → Number → Line
+signal_of (Is n) (Is s) = Signal n s
+signal_of (Is n) Not = IllFormed
+signal_of Not s = IllFormed
 
-abbrev pub routeOf : Number → Number → Number → Number → Number → Line
-routeOf (Is g) (Is a) (Is i) (Is b) (Is j) = Route g a i b j
-routeOf (Is g) (Is a) (Is i) (Is b) Not = IllFormed
-routeOf (Is g) (Is a) (Is i) Not j = IllFormed
-routeOf (Is g) (Is a) Not b j = IllFormed
-routeOf (Is g) Not i b j = IllFormed
-routeOf Not a i b j = IllFormed
+abbrev pub route_of : Number → Number → Number → Number → Number → Line
+route_of (Is g) (Is a) (Is i) (Is b) (Is j) = Route g a i b j
+route_of (Is g) (Is a) (Is i) (Is b) Not = IllFormed
+route_of (Is g) (Is a) (Is i) Not j = IllFormed
+route_of (Is g) (Is a) Not b j = IllFormed
+route_of (Is g) Not i b j = IllFormed
+route_of Not a i b j = IllFormed
 
 -- `M` identifier
-unfoldable pub ofMessage : List (List ℕ) → Line
-ofMessage [] = IllFormed
-ofMessage (i ∷ []) = messageOf (identifier i)
-ofMessage (i ∷ x ∷ fs) = IllFormed
+unfoldable pub of_message : List (List ℕ) → Line
+of_message [] = IllFormed
+of_message (i ∷ []) = message_of (identifier i)
+of_message (i ∷ x ∷ fs) = IllFormed
 
 -- `S` signal number, start
-unfoldable pub ofSignal : List (List ℕ) → Line
-ofSignal [] = IllFormed
-ofSignal (n ∷ []) = IllFormed
-ofSignal (n ∷ s ∷ []) = signalOf (decimal n) (decimal s)
-ofSignal (n ∷ s ∷ x ∷ fs) = IllFormed
+unfoldable pub of_signal : List (List ℕ) → Line
+of_signal [] = IllFormed
+of_signal (n ∷ []) = IllFormed
+of_signal (n ∷ s ∷ []) = signal_of (decimal n) (decimal s)
+of_signal (n ∷ s ∷ x ∷ fs) = IllFormed
 
 -- `R` gateway, bus, identifier, bus, identifier: the gateway, from place, to place; "a line without it is gateway 0"
-unfoldable pub ofRoute : List (List ℕ) → Line
-ofRoute [] = IllFormed
-ofRoute (a ∷ []) = IllFormed
-ofRoute (a ∷ i ∷ []) = IllFormed
-ofRoute (a ∷ i ∷ b ∷ []) = IllFormed
-ofRoute (a ∷ i ∷ b ∷ j ∷ []) = routeOf (Is 0) (decimal a) (identifier i) (decimal b) (identifier j)
-ofRoute (g ∷ a ∷ i ∷ b ∷ j ∷ []) = routeOf (decimal g) (decimal a) (identifier i) (decimal b) (identifier j)
-ofRoute (g ∷ a ∷ i ∷ b ∷ j ∷ x ∷ fs) = IllFormed
+unfoldable pub of_route : List (List ℕ) → Line
+of_route [] = IllFormed
+of_route (a ∷ []) = IllFormed
+of_route (a ∷ i ∷ []) = IllFormed
+of_route (a ∷ i ∷ b ∷ []) = IllFormed
+of_route (a ∷ i ∷ b ∷ j ∷ []) = route_of (Is 0) (decimal a) (identifier i) (decimal b) (identifier j)
+of_route (g ∷ a ∷ i ∷ b ∷ j ∷ []) = route_of (decimal g) (decimal a) (identifier i) (decimal b) (identifier j)
+of_route (g ∷ a ∷ i ∷ b ∷ j ∷ x ∷ fs) = IllFormed
 
 -- by the kind, what the fields after it say
-unfoldable pub ofKind : ℕ → List (List ℕ) → Line
-ofKind k fs =
-    cond (eqb k letterM) (ofMessage fs)
-    (cond (eqb k letterS) (ofSignal fs) (cond (eqb k letterR) (ofRoute fs) IllFormed))
+unfoldable pub of_kind : ℕ → List (List ℕ) → Line
+of_kind k fs =
+    cond (eqb k letter_m) (of_message fs)
+    (cond (eqb k letter_s) (of_signal fs) (cond (eqb k letter_r) (of_route fs) IllFormed))
 
 -- the first field is the kind, one byte
 unfoldable pub of_fields : List (List ℕ) → Line
 of_fields [] = IllFormed
 of_fields ([] ∷ fs) = IllFormed
-of_fields ((k ∷ []) ∷ fs) = ofKind k fs
+of_fields ((k ∷ []) ∷ fs) = of_kind k fs
 of_fields ((k ∷ b ∷ l) ∷ fs) = IllFormed
 
 -- what the bytes of a line, without its newline, say
-unfoldable pub lineMeaning : List ℕ → Line
-lineMeaning l = of_fields (fields l)
+unfoldable pub line_meaning : List ℕ → Line
+line_meaning l = of_fields (fields l)
 
 -- a line of a text: "last newline missing" is ill formed, whatever else stands there
-unfoldable pub meaningOf : TextLine → Line
-meaningOf (ended l) = lineMeaning l
-meaningOf (unended l) = IllFormed
+unfoldable pub meaning_of : TextLine → Line
+meaning_of (ended l) = line_meaning l
+meaning_of (unended l) = IllFormed

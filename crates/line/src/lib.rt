@@ -2,9 +2,9 @@
 // `line_at` answers for every text and place. It reads the line in one pass from its front; only where the line is ill formed is its
 // newline looked for. The other functions are its rooms, one for each kind of line.
 ghost use Rattle.std.specs.Prelude.{◌≡◌};
-ghost use Rattle.line.specs.Meaning.{letterM, letterS, letterR};
-ghost use Rattle.line.specs.LineAt.{firstLine, line_at};
-ghost use Rattle.line.specs.First.{OfKind, OriginOf, illFormed};
+ghost use Rattle.line.specs.Meaning.{letter_m, letter_s, letter_r};
+ghost use Rattle.line.specs.LineAt.{first_line, line_at};
+ghost use Rattle.line.specs.First.{OfKind, OriginOf, ill_formed_spec};
 
 use fields::{Front, decimal_before, identifier_before};
 use parts::{NEWLINE, TAB, find, part_after, part_from};
@@ -34,7 +34,7 @@ enum Origin {
 
 // A first line that is none of these.
 fn ill_formed(text: &[u8]) -> ReadLine
-    ensures { result ≡ illFormed text.now }
+    ensures { result ≡ ill_formed_spec text.now }
 {
     let end = find(text, NEWLINE);
     let next = if end < text.len() { end + 1 } else { end };
@@ -46,8 +46,8 @@ fn ill_formed(text: &[u8]) -> ReadLine
 
 // `M` identifier
 fn message(text: &[u8]) -> ReadLine
-    requires { OfKind letterM text.now }
-    ensures { result ≡ firstLine text.now }
+    requires { OfKind letter_m text.now }
+    ensures { result ≡ first_line text.now }
 {
     let fields = part_from(text, 2);
     let Front::Found(id, _) = identifier_before(fields, NEWLINE) else {
@@ -61,8 +61,8 @@ fn message(text: &[u8]) -> ReadLine
 
 // `S` signal number, start
 fn signal(text: &[u8]) -> ReadLine
-    requires { OfKind letterS text.now }
-    ensures { result ≡ firstLine text.now }
+    requires { OfKind letter_s text.now }
+    ensures { result ≡ first_line text.now }
 {
     let fields = part_from(text, 2);
     let Front::Found(number, k) = decimal_before(fields, TAB) else {
@@ -102,8 +102,8 @@ fn origin_of(fields: &[u8]) -> Origin
 
 // `R` bus, identifier, bus, identifier: from place, to place; or the gateway before them
 fn route(text: &[u8]) -> ReadLine
-    requires { OfKind letterR text.now }
-    ensures { result ≡ firstLine text.now }
+    requires { OfKind letter_r text.now }
+    ensures { result ≡ first_line text.now }
 {
     let fields = part_from(text, 2);
     let Origin::From(gateway, from_bus, from_id, k) = origin_of(fields) else {
@@ -125,7 +125,7 @@ fn route(text: &[u8]) -> ReadLine
 
 // The first line of a text.
 fn read_first(text: &[u8]) -> ReadLine
-    ensures { result ≡ firstLine text.now }
+    ensures { result ≡ first_line text.now }
 {
     if text.len() < 2 {
         return ill_formed(text);

@@ -4,17 +4,17 @@ use mathlib.Core.Path.{◌≡◌, sym}
 use Prim.Native.Nat.{◌≤◌, ◌<◌}
 use lib.ListN.{length}
 use Rattle.line.specs.declared.Line.TheVariants.{IllFormed}
-use Rattle.line.specs.LineAt.{readLine, line_at, PassesLine}
+use Rattle.line.specs.LineAt.{read_line, line_at, PassesLine}
 use Rattle.line.proofs.Firsts.{passes_line, no_line}
 use Rattle.line_reader.specs.declared.LineReader.{LineReader}
-use Rattle.line_reader.specs.Reader.{readerAt, nextLine, OneLine}
+use Rattle.line_reader.specs.Reader.{reader_at_spec, next_line_spec, OneLine}
 
-pub one_line : (reader : LineReader) → reader.at < length reader.text.now → OneLine reader (nextLine reader).0 (nextLine reader).1
+pub one_line : (reader : LineReader) → reader.at < length reader.text.now → OneLine reader (next_line_spec reader).0 (next_line_spec reader).1
 one_line reader h =
     let p : PassesLine reader.text.now reader.at (line_at reader.text.now reader.at) = passes_line reader.text.now reader.at h in
     record { first = p.first; passes = p.parted; says = p.says }
 
-pub at-end : (reader : LineReader) → length reader.text.now ≤ reader.at → nextLine reader ≡ (IllFormed, reader)
-at-end reader h =
-    let e : line_at reader.text.now reader.at ≡ readLine IllFormed reader.at = sym (no_line reader.text.now reader.at h) in
-    λ i. ((e i).line, readerAt reader.text (e i).next)
+pub at_end : (reader : LineReader) → length reader.text.now ≤ reader.at → next_line_spec reader ≡ (IllFormed, reader)
+at_end reader h =
+    let e : line_at reader.text.now reader.at ≡ read_line IllFormed reader.at = sym (no_line reader.text.now reader.at h) in
+    λ i. ((e i).line, reader_at_spec reader.text (e i).next)

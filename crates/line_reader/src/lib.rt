@@ -3,7 +3,7 @@
 // loop over a text does: a reader is made at that place, and reads its line.
 ghost use Rattle.std.specs.Prelude.{◌≡◌};
 ghost use Rattle.line.specs.LineAt.{line_at};
-ghost use Rattle.line_reader.specs.Reader.{readerAt, nextLine};
+ghost use Rattle.line_reader.specs.Reader.{reader_at_spec, next_line_spec};
 
 use line::{Line, ReadLine, line_at};
 
@@ -15,14 +15,14 @@ pub struct LineReader<'a> {
 
 // A reader at a place of a text.
 pub fn reader_at<'a>(text: &'a [u8], at: usize) -> LineReader<'a>
-    ensures { result ≡ readerAt text.entry at }
+    ensures { result ≡ reader_at_spec text.entry at }
 {
     LineReader { text, at }
 }
 
 // The line at the reader's place; the reader is then at the next one.
 pub fn next_line<'s, 'a>(reader: &'s mut LineReader<'a>) -> Line
-    ensures { (result, reader.new) ≡ nextLine reader.old }
+    ensures { (result, reader.new) ≡ next_line_spec reader.old }
 {
     let read = line_at(reader.text, reader.at);
     reader.at = read.next;

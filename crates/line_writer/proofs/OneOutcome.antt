@@ -15,12 +15,12 @@ use contract.Monad.{Fun}
 use denote.Ref.{MutBor, at_last}
 use denote.Triple.Clauses.{AtExit}
 use Rattle.only.specs.Only.{Only}
-use Rattle.only.specs.Outcomes.{OneResult, result-is}
+use Rattle.only.specs.Outcomes.{OneResult, result_is}
 use Rattle.line.specs.declared.Line.TheVariants.{Message}
-use Rattle.books.specs.Book.{placement, routeBy}
-use Rattle.reading.specs.Written.{signalLine, routeLine, linesText}
-use Rattle.printing.proofs.OneOutcome.{one-put}
-use Rattle.reading.proofs.LineLengths.{message-long}
+use Rattle.books.specs.Book.{placement, route_by}
+use Rattle.reading.specs.Written.{signal_line, route_line, lines_text}
+use Rattle.printing.proofs.OneOutcome.{one_put}
+use Rattle.reading.proofs.LineLengths.{message_long}
 use Rattle.line_writer.specs.Fitting.{EveryMessageHas}
 use Rattle.line_writer.specs.contracts.message_length as message-length
 use Rattle.line_writer.specs.contracts.signal_length as signal-length
@@ -30,28 +30,28 @@ use Rattle.line_writer.specs.contracts.put_signal as put-signal
 use Rattle.line_writer.specs.contracts.put_route as put-route
 
 module _ {M : Type 1} {𝓤 : Ura M} (𝓛 : Logic 𝓤) (mem : Memory → SProp 𝓤) (run : Routine → Fun 𝓤) where
-  pub one-message-length : (e : AtExit message-length.ended tt) → Only 𝓤 (λ r. (message-length.clauses 𝓛 mem run tt tt).ensures tt r e)
-  one-message-length e = record {
+  pub one_message_length : (e : AtExit message-length.ended tt) → Only 𝓤 (λ r. (message-length.clauses 𝓛 mem run tt tt).ensures tt r e)
+  one_message_length e = record {
     coded = coded_ℕ;
     outcome = 11;
     Says = EveryMessageHas;
     says = λ r. refl;
-    there = λ i. sym (message-long i);
-    alone = λ r h. h 0 ∙ message-long 0;
+    there = λ i. sym (message_long i);
+    alone = λ r h. h 0 ∙ message_long 0;
   }
 
-pub one-signal-length : (M : Type 1) → OneResult M signal-length.ended signal-length.clauses
-one-signal-length M = result-is (λ c. length (linesText (signalLine (placement c.arguments.0 c.arguments.1.0) ∷ []))) refl
+pub one_signal_length : (M : Type 1) → OneResult M signal-length.ended signal-length.clauses
+one_signal_length M = result_is (λ c. length (lines_text (signal_line (placement c.arguments.0 c.arguments.1.0) ∷ []))) refl
 
-pub one-route-length : (M : Type 1) → OneResult M route-length.ended route-length.clauses
-one-route-length M = result-is (λ c. length (linesText (routeLine (routeBy c.arguments.0 c.arguments.1.0 c.arguments.1.1.0) ∷ []))) refl
+pub one_route_length : (M : Type 1) → OneResult M route-length.ended route-length.clauses
+one_route_length M = result_is (λ c. length (lines_text (route_line (route_by c.arguments.0 c.arguments.1.0 c.arguments.1.1.0) ∷ []))) refl
 
 module _ {M : Type 1} {𝓤 : Ura M} (𝓛 : Logic 𝓤) (mem : Memory → SProp 𝓤) (run : Routine → Fun 𝓤) (κs : Lfts 1) (out : MutBor (List ℕ)) (at : ℕ) where
-  pub one-put-message : (i : ℕ) → Only 𝓤 (λ (x : ℕ × List ℕ). (put-message.clauses 𝓛 mem run κs (out, (at, (i, tt)))).ensures tt x.0 (at_last out x.1, (at, (i, tt))))
-  one-put-message i = one-put 𝓤 _ out.now at (linesText (Message i ∷ [])) (λ x. refl)
+  pub one_put_message : (i : ℕ) → Only 𝓤 (λ (x : ℕ × List ℕ). (put-message.clauses 𝓛 mem run κs (out, (at, (i, tt)))).ensures tt x.0 (at_last out x.1, (at, (i, tt))))
+  one_put_message i = one_put 𝓤 _ out.now at (lines_text (Message i ∷ [])) (λ x. refl)
 
-  pub one-put-signal : (n s : ℕ) → Only 𝓤 (λ (x : ℕ × List ℕ). (put-signal.clauses 𝓛 mem run κs (out, (at, (n, (s, tt))))).ensures tt x.0 (at_last out x.1, (at, (n, (s, tt)))))
-  one-put-signal n s = one-put 𝓤 _ out.now at (linesText (signalLine (placement n s) ∷ [])) (λ x. refl)
+  pub one_put_signal : (n s : ℕ) → Only 𝓤 (λ (x : ℕ × List ℕ). (put-signal.clauses 𝓛 mem run κs (out, (at, (n, (s, tt))))).ensures tt x.0 (at_last out x.1, (at, (n, (s, tt)))))
+  one_put_signal n s = one_put 𝓤 _ out.now at (lines_text (signal_line (placement n s) ∷ [])) (λ x. refl)
 
-  pub one-put-route : (g p q : ℕ) → Only 𝓤 (λ (x : ℕ × List ℕ). (put-route.clauses 𝓛 mem run κs (out, (at, (g, (p, (q, tt)))))).ensures tt x.0 (at_last out x.1, (at, (g, (p, (q, tt))))))
-  one-put-route g p q = one-put 𝓤 _ out.now at (linesText (routeLine (routeBy g p q) ∷ [])) (λ x. refl)
+  pub one_put_route : (g p q : ℕ) → Only 𝓤 (λ (x : ℕ × List ℕ). (put-route.clauses 𝓛 mem run κs (out, (at, (g, (p, (q, tt)))))).ensures tt x.0 (at_last out x.1, (at, (g, (p, (q, tt))))))
+  one_put_route g p q = one_put 𝓤 _ out.now at (lines_text (route_line (route_by g p q) ∷ [])) (λ x. refl)

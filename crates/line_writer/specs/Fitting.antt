@@ -1,17 +1,17 @@
 -- What writing lines asks for, and how long M lines are. The working side: these say what the inner functions ask and keep. Assumes
 -- nothing: these are definitions.
 use Rattle.std.specs.Prelude.{ℕ, ◌+◌, ◌≤◌, ◌<◌, ◌≡◌, List, [], ◌∷◌, length}
-use Rattle.numerals.specs.Written.{decimalLimit}
+use Rattle.numerals.specs.Written.{decimal_limit}
 use Rattle.line.specs.declared.Line.{Line}
 use Rattle.line.specs.declared.Line.TheVariants.{Message, Signal, Route, IllFormed}
-use Rattle.reading.specs.Written.{linesText}
+use Rattle.reading.specs.Written.{lines_text}
 
 -- the numbers of an S line, and the gateway of an R line, have at most five digits; all others can be written whatever they are, as
 -- words of 32 bits
 abbrev pub FewDigits : Line → Type 0
 FewDigits (Message i) = Unit {0}
-FewDigits (Signal n s) = (n < decimalLimit) × (s < decimalLimit)
-FewDigits (Route g a i b j) = g < decimalLimit
+FewDigits (Signal n s) = (n < decimal_limit) × (s < decimal_limit)
+FewDigits (Route g a i b j) = g < decimal_limit
 FewDigits IllFormed = Unit {0}
 
 pub data AllFewDigits : List Line → Type 0 where
@@ -21,16 +21,16 @@ pub data AllFewDigits : List Line → Type 0 where
 -- lines that can be written so, and room for them at a place of a list
 pub record LinesFit (out : List ℕ) (at : ℕ) (ls : List Line) : Type 0 where
   pub digits : AllFewDigits ls
-  pub room : at + length (linesText ls) ≤ length out
+  pub room : at + length (lines_text ls) ≤ length out
 
 -- every M line has so many bytes, whatever its identifier
 abbrev pub EveryMessageHas : ℕ → Type 0
-EveryMessageHas n = (i : ℕ) → n ≡ length (linesText (Message i ∷ []))
+EveryMessageHas n = (i : ℕ) → n ≡ length (lines_text (Message i ∷ []))
 
 -- room for the two values of a place: a bus has one digit
-abbrev pub placeRoom : ℕ
-placeRoom = 10
+abbrev pub place_room : ℕ
+place_room = 10
 
 -- and for those of two, with the tab between them
-abbrev pub placesRoom : ℕ
-placesRoom = 21
+abbrev pub places_room : ℕ
+places_room = 21

@@ -4,10 +4,10 @@
 ghost use Rattle.std.specs.Prelude.{◌≡◌, [], ◌∷◌, ◌+◌, ◌≤◌, length};
 ghost use Rattle.parts.specs.Parts.{tab};
 ghost use Rattle.line.specs.declared.Line.TheVariants.{Message};
-ghost use Rattle.books.specs.Book.{placement, routeBy};
-ghost use Rattle.reading.specs.Written.{signalLine, routeLine, linesText, placeText, placesText};
+ghost use Rattle.books.specs.Book.{placement, route_by};
+ghost use Rattle.reading.specs.Written.{signal_line, route_line, lines_text, place_text, places_text};
 ghost use Rattle.printing.specs.Put.{Put};
-ghost use Rattle.line_writer.specs.Fitting.{EveryMessageHas, placeRoom, placesRoom, LinesFit};
+ghost use Rattle.line_writer.specs.Fitting.{EveryMessageHas, place_room, places_room, LinesFit};
 
 use parts::{NEWLINE, TAB};
 use printing::put_byte;
@@ -23,14 +23,14 @@ pub fn message_length() -> u32
 
 // How many bytes an S line has.
 pub fn signal_length(number: u32, start: u32) -> u32
-    ensures { result ≡ length (linesText (signalLine (placement number start) ∷ [])) }
+    ensures { result ≡ length (lines_text (signal_line (placement number start) ∷ [])) }
 {
     (4 + decimal_width(number) + decimal_width(start)) as u32
 }
 
 // How many bytes an R line has, by the route's gateway and the places that it leads from and to.
 pub fn route_length(gateway: u32, from: u32, to: u32) -> u32
-    ensures { result ≡ length (linesText (routeLine (routeBy gateway from to) ∷ [])) }
+    ensures { result ≡ length (lines_text (route_line (route_by gateway from to) ∷ [])) }
 {
     let buses = decimal_width(from / IDENTIFIER_LIMIT) + decimal_width(to / IDENTIFIER_LIMIT);
     (23 + decimal_width(gateway) + buses) as u32
@@ -47,7 +47,7 @@ fn put_kind(out: &mut [u8], at: usize, letter: u8) -> usize
 
 pub fn put_message(out: &mut [u8], at: usize, identifier: u32) -> usize
     requires { LinesFit out.old at (Message identifier ∷ []) }
-    ensures { Put out.old at (linesText (Message identifier ∷ [])) out.new result }
+    ensures { Put out.old at (lines_text (Message identifier ∷ [])) out.new result }
 {
     let value = put_kind(&mut *out, at, b'M');
     let end = put_identifier(&mut *out, value, identifier);
@@ -55,8 +55,8 @@ pub fn put_message(out: &mut [u8], at: usize, identifier: u32) -> usize
 }
 
 pub fn put_signal(out: &mut [u8], at: usize, number: u32, start: u32) -> usize
-    requires { LinesFit out.old at (signalLine (placement number start) ∷ []) }
-    ensures { Put out.old at (linesText (signalLine (placement number start) ∷ [])) out.new result }
+    requires { LinesFit out.old at (signal_line (placement number start) ∷ []) }
+    ensures { Put out.old at (lines_text (signal_line (placement number start) ∷ [])) out.new result }
 {
     let first = put_kind(&mut *out, at, b'S');
     let after_first = put_decimal(&mut *out, first, number);
@@ -67,8 +67,8 @@ pub fn put_signal(out: &mut [u8], at: usize, number: u32, start: u32) -> usize
 
 // The two values of a place: its bus, which has one digit, and its identifier.
 fn put_place(out: &mut [u8], at: usize, place: u32) -> usize
-    requires { at + placeRoom ≤ length out.old }
-    ensures { Put out.old at (placeText place) out.new result }
+    requires { at + place_room ≤ length out.old }
+    ensures { Put out.old at (place_text place) out.new result }
 {
     let after_bus = put_decimal(&mut *out, at, place / IDENTIFIER_LIMIT);
     let second = put_byte(&mut *out, after_bus, TAB);
@@ -77,8 +77,8 @@ fn put_place(out: &mut [u8], at: usize, place: u32) -> usize
 
 // The four values of two places, from place and to place.
 fn put_places(out: &mut [u8], at: usize, from: u32, to: u32) -> usize
-    requires { at + placesRoom ≤ length out.old }
-    ensures { Put out.old at (placesText from to) out.new result }
+    requires { at + places_room ≤ length out.old }
+    ensures { Put out.old at (places_text from to) out.new result }
 {
     let after_from = put_place(&mut *out, at, from);
     let second = put_byte(&mut *out, after_from, TAB);
@@ -87,8 +87,8 @@ fn put_places(out: &mut [u8], at: usize, from: u32, to: u32) -> usize
 
 // The line of a route, by its gateway and the places that it leads from and to.
 pub fn put_route(out: &mut [u8], at: usize, gateway: u32, from: u32, to: u32) -> usize
-    requires { LinesFit out.old at (routeLine (routeBy gateway from to) ∷ []) }
-    ensures { Put out.old at (linesText (routeLine (routeBy gateway from to) ∷ [])) out.new result }
+    requires { LinesFit out.old at (route_line (route_by gateway from to) ∷ []) }
+    ensures { Put out.old at (lines_text (route_line (route_by gateway from to) ∷ [])) out.new result }
 {
     let first = put_kind(&mut *out, at, b'R');
     let after_first = put_decimal(&mut *out, first, gateway);

@@ -12,15 +12,15 @@ pub record Moved (old : List ℕ) (from : ℕ) (new : List ℕ) (i : ℕ) : Type
   pub rest : drop i new ≡ drop i old
   pub size : length new ≡ length old
 
-pub none-moved : (old : List ℕ) (from : ℕ) → Moved old from old 0
-none-moved old from = record { front = refl; rest = refl; size = refl }
+pub none_moved : (old : List ℕ) (from : ℕ) → Moved old from old 0
+none_moved old from = record { front = refl; rest = refl; size = refl }
 
 -- what stands behind is as it was
 behind : (a b : List ℕ) (i k : ℕ) → drop i a ≡ drop i b → get_or a (i + k) 0 ≡ get_or b (i + k) 0
 behind a b i k e = sym (get_or-drop i a k 0) ∙ ap (λ (l : List ℕ). get_or l k 0) e ∙ get_or-drop i b k 0
 
-pub byte-moved : {old new : List ℕ} {from i : ℕ} → Moved old from new i → from + i < length old → Moved old from (set new i (get_or new (from + i) 0)) (i + 1)
-byte-moved {old} {new} {from} {i} m h =
+pub byte_moved : {old new : List ℕ} {from i : ℕ} → Moved old from new i → from + i < length old → Moved old from (set new i (get_or new (from + i) 0)) (i + 1)
+byte_moved {old} {new} {from} {i} m h =
     let v = get_or new (from + i) 0 in
     let there : i + from ≡ from + i = omega arith in
     let same : v ≡ get_or (drop from old) i 0 =

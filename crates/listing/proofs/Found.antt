@@ -6,34 +6,34 @@ use mathlib.Core.Option.{none}
 use Prim.Native.Nat.{ℕ, ◌-◌, ◌≤◌}
 use native.Mathlib.Omega.{arith}
 use lib.ListN.{length, drop, length-take}
-use Rattle.books.specs.Words.{side_by_side, messagesOf, messagesTaken}
+use Rattle.books.specs.Words.{side_by_side, messages_of, messages_taken_spec}
 use Rattle.frames.specs.Lookup.{Spans, Finds, part}
 use Rattle.frames.specs.declared.lookup.MessageFound.{MessageFound}
 use Rattle.frames.specs.declared.lookup.MessageFound.TheVariants.{Signals, Nothing}
-use Rattle.messages.specs.Signals.{AllFit, messageFrom}
-use Rattle.framing.specs.Messages.{messageWith}
-use Rattle.framing.proofs.Few.{few-signals}
-use Rattle.record.specs.Columns.{numbersOf, startsOf}
+use Rattle.messages.specs.Signals.{AllFit, message_from}
+use Rattle.framing.specs.Messages.{message_with}
+use Rattle.framing.proofs.Few.{few_signals}
+use Rattle.record.specs.Columns.{numbers_of, starts_of}
 use Rattle.listing.specs.Working.{Listable}
 
-pub found-signals : (words : List ℕ) (identifier : ℕ) {from to : ℕ} {f : MessageFound} → f ≡ Signals from to → Finds words identifier f → Spans words identifier from to
-found-signals words identifier e p = subst (Finds words identifier) e p
+pub found_signals : (words : List ℕ) (identifier : ℕ) {from to : ℕ} {f : MessageFound} → f ≡ Signals from to → Finds words identifier f → Spans words identifier from to
+found_signals words identifier e p = subst (Finds words identifier) e p
 
-pub found_nothing : (words : List ℕ) (identifier : ℕ) {f : MessageFound} → f ≡ Nothing → Finds words identifier f → messageWith identifier (messagesOf words) ≡ none
+pub found_nothing : (words : List ℕ) (identifier : ℕ) {f : MessageFound} → f ≡ Nothing → Finds words identifier f → message_with identifier (messages_of words) ≡ none
 found_nothing words identifier e p = subst (Finds words identifier) e p
 
 -- a part of a column
-pub column-part : (from to : ℕ) {ns column words : List ℕ} → ns ≡ part from to column → column ≡ words → ns ≡ part from to words
-column-part from to p e = p ∙ ap (part from to) e
+pub column_part : (from to : ℕ) {ns column words : List ℕ} → ns ≡ part from to column → column ≡ words → ns ≡ part from to words
+column_part from to p e = p ∙ ap (part from to) e
 
 -- parts of the columns that are a message's can be listed
-pub listable : {words : List ℕ} {identifier from to : ℕ} → messagesTaken words ≡ true → Spans words identifier from to → {ns ss : List ℕ} → ns ≡ part from to (numbersOf words) → ss ≡ part from to (startsOf words)
+pub listable : {words : List ℕ} {identifier from to : ℕ} → messages_taken_spec words ≡ true → Spans words identifier from to → {ns ss : List ℕ} → ns ≡ part from to (numbers_of words) → ss ≡ part from to (starts_of words)
     → {out : List ℕ} {at : ℕ} → at ≤ length out → Listable out at ns ss
 listable {words} {identifier} {from} {to} t s {ns} {ss} x y h =
-    let few = few-signals words identifier (messageFrom identifier (part from to (numbersOf words)) (part from to (startsOf words))) t s.found in
+    let few = few_signals words identifier (message_from identifier (part from to (numbers_of words)) (part from to (starts_of words))) t s.found in
     record {
       same = ap length y ∙ s.same ∙ ap length (sym x);
-      fit = subst (λ (l : List ℕ). AllFit (side_by_side l ss)) (sym x) (subst (λ (l : List ℕ). AllFit (side_by_side (part from to (numbersOf words)) l)) (sym y) s.fit);
-      many = omega (arith, ap length x, length-take (to - from) (drop from (numbersOf words)), s.many, few);
+      fit = subst (λ (l : List ℕ). AllFit (side_by_side l ss)) (sym x) (subst (λ (l : List ℕ). AllFit (side_by_side (part from to (numbers_of words)) l)) (sym y) s.fit);
+      many = omega (arith, ap length x, length-take (to - from) (drop from (numbers_of words)), s.many, few);
       inside = h;
     }

@@ -7,48 +7,48 @@ use mathlib.Core.List.{List, [], ◌∷◌, ◌++◌}
 use Prim.Native.Nat.{ℕ, suc, ◌+◌, ◌≤◌, ◌<◌}
 use native.Mathlib.Omega.{arith}
 use lib.ListN.{length, get_or, drop, length-append}
-use Rattle.books.specs.Words.{messagesOf, messagesTaken}
+use Rattle.books.specs.Words.{messages_of, messages_taken_spec}
 use Rattle.signal_lines.specs.declared.figures.Figures.{Figures}
 use Rattle.listing.specs.declared.Listed.{Listed}
 use Rattle.listing.specs.declared.Listed.TheVariants.{Lines}
 use Rattle.listing.specs.Printout.{printout}
 use Rattle.listing.specs.Listing.{listing}
-use Rattle.listing.specs.Together.{wholeLines, unfinished, printouts, wholeListing, printedBy, leftBy, calls, longestPrintout}
-use Rattle.listing.proofs.WholeLines.{whole-after}
-use Rattle.listing.proofs.Together.{call-parts, call-stops, calls-print, calls-leave}
-use Rattle.listing.proofs.Longest.{printout-short}
+use Rattle.listing.specs.Together.{whole_lines, unfinished, printouts, whole_listing, printed_by, left_by_spec, calls, longest_printout}
+use Rattle.listing.proofs.WholeLines.{whole_after}
+use Rattle.listing.proofs.Together.{call_parts, call_stops, calls_print, calls_leave}
+use Rattle.listing.proofs.Longest.{printout_short}
 
-module _ (figures : Figures) (words text lent : List ℕ) (t : messagesTaken words ≡ true) where
+module _ (figures : Figures) (words text lent : List ℕ) (t : messages_taken_spec words ≡ true) where
   -- where it stops
-  pub goes_on : (wholeLines (leftBy (listing figures words text lent).0 text) ≡ [])
-      ⊎ (length lent < length (printedBy (listing figures words text lent).0 (listing figures words text lent).1) + longestPrintout)
-  goes_on = go (wholeLines (leftBy (listing figures words text lent).0 text)) refl
+  pub goes_on : (whole_lines (left_by_spec (listing figures words text lent).0 text) ≡ [])
+      ⊎ (length lent < length (printed_by (listing figures words text lent).0 (listing figures words text lent).1) + longest_printout)
+  goes_on = go (whole_lines (left_by_spec (listing figures words text lent).0 text)) refl
     where
-      go : (ls : List (List ℕ)) → wholeLines (leftBy (listing figures words text lent).0 text) ≡ ls
-          → (ls ≡ []) ⊎ (length lent < length (printedBy (listing figures words text lent).0 (listing figures words text lent).1) + longestPrintout)
+      go : (ls : List (List ℕ)) → whole_lines (left_by_spec (listing figures words text lent).0 text) ≡ ls
+          → (ls ≡ []) ⊎ (length lent < length (printed_by (listing figures words text lent).0 (listing figures words text lent).1) + longest_printout)
       go [] e = inl refl
-      go (l ∷ ls) e = inr (omega (arith, call-stops figures words text lent t l ls e, printout-short figures words t l))
+      go (l ∷ ls) e = inr (omega (arith, call_stops figures words text lent t l ls e, printout_short figures words t l))
 
   -- with so much room it takes a line, where there is one
-  module _ (h : longestPrintout ≤ length lent) where
-    fewer : (wholeLines (leftBy (listing figures words text lent).0 text) ≡ []) ⊎ (length (wholeLines (leftBy (listing figures words text lent).0 text)) < length (wholeLines text))
+  module _ (h : longest_printout ≤ length lent) where
+    fewer : (whole_lines (left_by_spec (listing figures words text lent).0 text) ≡ []) ⊎ (length (whole_lines (left_by_spec (listing figures words text lent).0 text)) < length (whole_lines text))
     unfolding printouts
-    fewer = go (call-parts figures words text lent).first refl
+    fewer = go (call_parts figures words text lent).first refl
       where
-        go : (ls : List (List ℕ)) → (call-parts figures words text lent).first ≡ ls
-            → (wholeLines (leftBy (listing figures words text lent).0 text) ≡ []) ⊎ (length (wholeLines (leftBy (listing figures words text lent).0 text)) < length (wholeLines text))
+        go : (ls : List (List ℕ)) → (call_parts figures words text lent).first ≡ ls
+            → (whole_lines (left_by_spec (listing figures words text lent).0 text) ≡ []) ⊎ (length (whole_lines (left_by_spec (listing figures words text lent).0 text)) < length (whole_lines text))
         go [] e =
-            let p = call-parts figures words text lent in
-            ⊎_elim inl (λ stop. absurd (omega (arith, stop, ap length (p.prints ∙ ap (printouts (printout figures (messagesOf words))) e)))) goes_on
+            let p = call_parts figures words text lent in
+            ⊎_elim inl (λ stop. absurd (omega (arith, stop, ap length (p.prints ∙ ap (printouts (printout figures (messages_of words))) e)))) goes_on
         go (l ∷ ls) e =
-            let p = call-parts figures words text lent in
-            let left = leftBy (listing figures words text lent).0 text in
-            inr (omega (arith, ap length (ap wholeLines p.there ∙ whole-after p.frees left ∙ ap (λ (x : List (List ℕ)). x ++ wholeLines left) e), length-append ls (wholeLines left)))
+            let p = call_parts figures words text lent in
+            let left = left_by_spec (listing figures words text lent).0 text in
+            inr (omega (arith, ap length (ap whole_lines p.there ∙ whole_after p.frees left ∙ ap (λ (x : List (List ℕ)). x ++ whole_lines left) e), length-append ls (whole_lines left)))
 
-    pub takes-a-line : (used wrote : ℕ) (out : List ℕ) → ◌≡◌ {A = Listed × List ℕ} (Lines used wrote, out) (listing figures words text lent) → used ≡ 0 → wholeLines text ≡ []
-    takes-a-line used wrote out e z =
-        let same : wholeLines text ≡ wholeLines (leftBy (listing figures words text lent).0 text) =
-        ap (λ (n : ℕ). wholeLines (drop n text)) (sym z) ∙ ap (λ (x : Listed × List ℕ). wholeLines (leftBy x.0 text)) e in
+    pub takes_a_line : (used wrote : ℕ) (out : List ℕ) → ◌≡◌ {A = Listed × List ℕ} (Lines used wrote, out) (listing figures words text lent) → used ≡ 0 → whole_lines text ≡ []
+    takes_a_line used wrote out e z =
+        let same : whole_lines text ≡ whole_lines (left_by_spec (listing figures words text lent).0 text) =
+        ap (λ (n : ℕ). whole_lines (drop n text)) (sym z) ∙ ap (λ (x : Listed × List ℕ). whole_lines (left_by_spec x.0 text)) e in
         ⊎_elim (λ none. same ∙ none) (λ less. absurd (omega (arith, less, ap length same))) fewer
 
 no_lines : (ls : List (List ℕ)) → length ls ≤ 0 → ls ≡ []
@@ -56,20 +56,20 @@ no_lines [] h = refl
 no_lines (l ∷ ls) h = absurd (omega arith)
 
 -- as many calls as there are whole lines, each with so much room, leave none
-pub none_left : (figures : Figures) (words : List ℕ) → messagesTaken words ≡ true → (rooms : List (List ℕ)) → ((i : ℕ) → i < length rooms → longestPrintout ≤ length (get_or rooms i []))
-    → (text : List ℕ) → length (wholeLines text) ≤ length rooms → wholeLines (calls figures words rooms text).left ≡ []
+pub none_left : (figures : Figures) (words : List ℕ) → messages_taken_spec words ≡ true → (rooms : List (List ℕ)) → ((i : ℕ) → i < length rooms → longest_printout ≤ length (get_or rooms i []))
+    → (text : List ℕ) → length (whole_lines text) ≤ length rooms → whole_lines (calls figures words rooms text).left ≡ []
 unfolding calls
-none_left figures words t [] room text h = no_lines (wholeLines text) h
+none_left figures words t [] room text h = no_lines (whole_lines text) h
 none_left figures words t (lent ∷ rooms) room text h =
-    let left = leftBy (listing figures words text lent).0 text in
-    let few : length (wholeLines left) ≤ length rooms =
+    let left = left_by_spec (listing figures words text lent).0 text in
+    let few : length (whole_lines left) ≤ length rooms =
     ⊎_elim (λ none. omega (arith, ap length none)) (λ less. omega (arith, less)) (fewer figures words text lent t (room 0 (omega arith))) in
     none_left figures words t rooms (λ i l. room (suc i) (omega arith)) left few
 
 -- so they print what the whole lines print, and leave the bytes after the last newline
-pub all_listed : (figures : Figures) (words : List ℕ) → messagesTaken words ≡ true → (rooms : List (List ℕ)) → ((i : ℕ) → i < length rooms → longestPrintout ≤ length (get_or rooms i []))
-    → (text : List ℕ) → length (wholeLines text) ≤ length rooms
-    → calls figures words rooms text ≡ record { printed = wholeListing (printout figures (messagesOf words)) text; left = unfinished text }
+pub all_listed : (figures : Figures) (words : List ℕ) → messages_taken_spec words ≡ true → (rooms : List (List ℕ)) → ((i : ℕ) → i < length rooms → longest_printout ≤ length (get_or rooms i []))
+    → (text : List ℕ) → length (whole_lines text) ≤ length rooms
+    → calls figures words rooms text ≡ record { printed = whole_listing (printout figures (messages_of words)) text; left = unfinished text }
 all_listed figures words t rooms room text h =
     let none = none_left figures words t rooms room text h in
-    λ i. record { printed = calls-print figures words rooms text none i; left = calls-leave figures words rooms text none i }
+    λ i. record { printed = calls_print figures words rooms text none i; left = calls_leave figures words rooms text none i }

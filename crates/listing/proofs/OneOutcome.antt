@@ -11,7 +11,7 @@ use types.Logic.{Logic}
 use contract.Lifetimes.{Lfts}
 use contract.Monad.{Fun}
 use denote.Ref.{MutBor, at_last}
-use Rattle.only.specs.Only.{Only, only-this}
+use Rattle.only.specs.Only.{Only, only_this}
 use Rattle.signal_lines.specs.declared.figures.Figures.{Figures}
 use Rattle.listing.specs.declared.Listed.{Listed}
 use Rattle.listing.specs.Listing.{listing}
@@ -21,4 +21,4 @@ use Rattle.listing.specs.contracts.list as list
 module _ {M : Type 1} {𝓤 : Ura M} (𝓛 : Logic 𝓤) (mem : Memory → SProp 𝓤) (run : Routine → Fun 𝓤) (κs : Lfts 3) where
   pub one_list : (book text out : MutBor (List ℕ)) (figures : Figures)
       → Only 𝓤 (λ (x : Listed × List ℕ). (list.clauses 𝓛 mem run κs (book, (text, (out, (figures, tt))))).ensures tt x.0 (book, (text, (at_last out x.1, (figures, tt)))))
-  one_list book text out figures = only-this 𝓤 _ (coded× (the-answer.the_row).coded (coded_list coded_ℕ)) (listing figures book.now text.now out.now) (λ x. refl)
+  one_list book text out figures = only_this 𝓤 _ (coded× (the-answer.the_row).coded (coded_list coded_ℕ)) (listing figures book.now text.now out.now) (λ x. refl)

@@ -12,14 +12,14 @@ use lib.Seq.{sets, sets-eq, drop-drop, length-take-le}
 use borrow.Author.Tests.{leb-true, leb-false, le-leb, lt-leb}
 use Rattle.framing.specs.Messages.{written}
 use Rattle.parts.specs.Parts.{ended, lines, index_of}
-use Rattle.parts.proofs.LineEnds.{lines_none, lines_more, lines-last}
+use Rattle.parts.proofs.LineEnds.{lines_none, lines_more, lines_last}
 use Rattle.printing.specs.Put.{Put}
-use Rattle.printing.proofs.Puts.{sets-append, put-length}
+use Rattle.printing.proofs.Puts.{sets_append, put_length}
 use Rattle.listing.specs.declared.Fitted.{Fitted}
 use Rattle.listing.specs.declared.Fitted.TheVariants.{Next, NoRoom}
 use Rattle.listing.specs.declared.Listed.{Listed}
 use Rattle.listing.specs.declared.Listed.TheVariants.{Lines}
-use Rattle.listing.specs.Listing.{ListedLines, noLines, lineThen, linesThatFit, listedAnswer}
+use Rattle.listing.specs.Listing.{ListedLines, no_lines_spec, line_then, lines_that_fit, listed_answer}
 use Rattle.listing.specs.Working.{fitted}
 
 -- ---- what a call that may not fit says
@@ -40,7 +40,7 @@ module _ (out : List ℕ) (at : ℕ) (text : List ℕ) {new : List ℕ} {f : Fit
       go : (b : Bool) → leb (length text) (length out - at) ≡ b
           → f ≡ (cond {A = Fitted × List ℕ} b (Next (at + length text), sets out at text) (NoRoom, out)).0
           → new ≡ (cond {A = Fitted × List ℕ} b (Next (at + length text), sets out at text) (NoRoom, out)).1 → Went out at text new next
-      go true q x y = let z : next ≡ at + length text = cc in record { fits = leb-true _ _ q; put = record { now-there = y; now-at = z } }
+      go true q x y = let z : next ≡ at + length text = cc in record { fits = leb-true _ _ q; put = record { now_there = y; now_at = z } }
       go false q x y = absurd (let z : ◌≡◌ {A = ℕ} 0 1 = cc in omega arith)
 
   pub stayed : f ≡ NoRoom → Stayed out at text new
@@ -53,16 +53,16 @@ module _ (out : List ℕ) (at : ℕ) (text : List ℕ) {new : List ℕ} {f : Fit
       go true q x y = absurd (let z : ◌≡◌ {A = ℕ} 0 1 = cc in omega arith)
       go false q x y = record { longer = leb-false _ _ q; same = y }
 
-  pub stayed-long : f ≡ NoRoom → length new ≡ length out
-  stayed-long g = ap length (stayed g).same
+  pub stayed_long : f ≡ NoRoom → length new ≡ length out
+  stayed_long g = ap length (stayed g).same
 
 -- ---- the loop
 
 abbrev pub whole : (List ℕ → List ℕ) → List ℕ → List ℕ → ListedLines
-whole print text old = linesThatFit print (length old) (lines text)
+whole print text old = lines_that_fit print (length old) (lines text)
 
 abbrev pub left : (List ℕ → List ℕ) → List ℕ → List ℕ → ℕ → ℕ → ListedLines
-left print text old used wrote = linesThatFit print (length old - wrote) (lines (drop used text))
+left print text old used wrote = lines_that_fit print (length old - wrote) (lines (drop used text))
 
 pub record Ran (print : List ℕ → List ℕ) (text old out : List ℕ) (used wrote : ℕ) : Type 0 where
   pub bytes : used + (left print text old used wrote).used ≡ (whole print text old).used
@@ -72,9 +72,9 @@ pub record Ran (print : List ℕ → List ℕ) (text old out : List ℕ) (used w
   pub inside : wrote ≤ length old
   pub within : used ≤ length text
 
-pub none-ran : (print : List ℕ → List ℕ) (text old : List ℕ) → Ran print text old old 0 0
-none-ran print text old =
-    let e : left print text old 0 0 ≡ whole print text old = ap (λ (n : ℕ). linesThatFit print n (lines text)) (omega arith) in
+pub none_ran : (print : List ℕ → List ℕ) (text old : List ℕ) → Ran print text old old 0 0
+none_ran print text old =
+    let e : left print text old 0 0 ≡ whole print text old = ap (λ (n : ℕ). lines_that_fit print n (lines text)) (omega arith) in
     record {
       bytes = omega (arith, ap (λ (r : ListedLines). r.used) e);
       there = ap (λ (r : ListedLines). sets old 0 r.text) e;
@@ -86,7 +86,7 @@ none-ran print text old =
 
 module _ {print : List ℕ → List ℕ} {text old out : List ℕ} {used wrote : ℕ} (r : Ran print text old out used wrote) where
   -- nothing more is listed
-  finished : left print text old used wrote ≡ noLines → ◌≡◌ {A = Listed × List ℕ} (Lines used wrote, out) (listedAnswer (whole print text old) old)
+  finished : left print text old used wrote ≡ no_lines_spec → ◌≡◌ {A = Listed × List ℕ} (Lines used wrote, out) (listed_answer (whole print text old) old)
   finished e =
       let bytes : used ≡ (whole print text old).used = omega (arith, ap (λ (x : ListedLines). x.used) e, r.bytes) in
       let end : wrote ≡ length (whole print text old).text = omega (arith, ap (λ (x : ListedLines). length x.text) e, r.end) in
@@ -97,59 +97,59 @@ module _ {print : List ℕ → List ℕ} {text old out : List ℕ} {used wrote :
       ∙ ap (λ (n : ℕ). (Lines (whole print text old).used n, out)) end
       ∙ ap (λ (l : List ℕ). (Lines (whole print text old).used (length (whole print text old).text), l)) stands
 
-  pub all-ran : length text ≤ used → ◌≡◌ {A = Listed × List ℕ} (Lines used wrote, out) (listedAnswer (whole print text old) old)
-  unfolding linesThatFit
-  all-ran h = finished (ap (linesThatFit print (length old - wrote)) (lines_none text used h))
+  pub all_ran : length text ≤ used → ◌≡◌ {A = Listed × List ℕ} (Lines used wrote, out) (listed_answer (whole print text old) old)
+  unfolding lines_that_fit
+  all_ran h = finished (ap (lines_that_fit print (length old - wrote)) (lines_none text used h))
 
   module _ (h : used < length text) {rest : List ℕ} (x : rest ≡ drop used text) {k : ℕ} (e : k ≡ index_of 10 rest) where
-    pub no_end : length rest ≤ k → ◌≡◌ {A = Listed × List ℕ} (Lines used wrote, out) (listedAnswer (whole print text old) old)
-    unfolding linesThatFit
+    pub no_end : length rest ≤ k → ◌≡◌ {A = Listed × List ℕ} (Lines used wrote, out) (listed_answer (whole print text old) old)
+    unfolding lines_that_fit
     no_end t =
         finished
-        (ap (linesThatFit print (length old - wrote))
-        (ap lines (sym x) ∙ lines-last rest e t (omega (arith, ap length x, length-drop used text))))
+        (ap (lines_that_fit print (length old - wrote))
+        (ap lines (sym x) ∙ lines_last rest e t (omega (arith, ap length x, length-drop used text))))
 
     module _ (t : k < length rest) {line : List ℕ} (y : line ≡ take k rest) where
-      next-line : lines (drop used text) ≡ ended line ∷ lines (drop (used + (k + 1)) text)
-      next-line =
+      next_line_law : lines (drop used text) ≡ ended line ∷ lines (drop (used + (k + 1)) text)
+      next_line_law =
           ap lines (sym x) ∙ lines_more rest e t
           ∙ ap (λ (l : List ℕ). ended l ∷ lines (drop (k + 1) rest)) (sym y)
           ∙ ap (λ (l : List ℕ). ended line ∷ lines (drop (k + 1) l)) x
           ∙ ap (λ (l : List ℕ). ended line ∷ lines l) (drop-drop (k + 1) used text)
 
       -- the line does not fit
-      pub no_room : {new : List ℕ} → Stayed out wrote (print line) new → ◌≡◌ {A = Listed × List ℕ} (Lines used wrote, new) (listedAnswer (whole print text old) old)
-      unfolding linesThatFit
+      pub no_room : {new : List ℕ} → Stayed out wrote (print line) new → ◌≡◌ {A = Listed × List ℕ} (Lines used wrote, new) (listed_answer (whole print text old) old)
+      unfolding lines_that_fit
       no_room {new} s =
           ap (λ (l : List ℕ). (Lines used wrote, l)) s.same
-          ∙ finished (ap (linesThatFit print (length old - wrote)) next-line ∙ rw (lt-leb (length (print line)) (length old - wrote) (omega (arith, s.longer, r.size))))
+          ∙ finished (ap (lines_that_fit print (length old - wrote)) next_line_law ∙ rw (lt-leb (length (print line)) (length old - wrote) (omega (arith, s.longer, r.size))))
 
       -- the line fits, and is listed
       module _ {new : List ℕ} {next : ℕ} (w : Went out wrote (print line) new next) where
         room : length old - wrote - length (print line) ≡ length old - next
-        room = omega (arith, w.put.now-at)
+        room = omega (arith, w.put.now_at)
 
-        onward : left print text old used wrote ≡ lineThen line (print line) (left print text old (used + (k + 1)) next)
-        unfolding linesThatFit
+        onward : left print text old used wrote ≡ line_then line (print line) (left print text old (used + (k + 1)) next)
+        unfolding lines_that_fit
         onward =
-            ap (linesThatFit print (length old - wrote)) next-line
+            ap (lines_that_fit print (length old - wrote)) next_line_law
             ∙ rw (le-leb (length (print line)) (length old - wrote) (omega (arith, w.fits, r.size))) refl
-            ∙ ap (λ (n : ℕ). lineThen line (print line) (linesThatFit print n (lines (drop (used + (k + 1)) text)))) room
+            ∙ ap (λ (n : ℕ). line_then line (print line) (lines_that_fit print n (lines (drop (used + (k + 1)) text)))) room
 
-        pub line-ran : Ran print text old new (used + (k + 1)) next
-        line-ran =
+        pub line_ran : Ran print text old new (used + (k + 1)) next
+        line_ran =
             let after = left print text old (used + (k + 1)) next in
             let long : length line ≡ k = ap length y ∙ length-take-le k rest (omega arith) in
             record {
               bytes = omega (arith, ap (λ (q : ListedLines). q.used) onward, r.bytes);
               there =
-                  ap (λ (l : List ℕ). sets l next after.text) w.put.now-there
-                  ∙ ap (λ (n : ℕ). sets (sets out wrote (print line)) n after.text) w.put.now-at
-                  ∙ sets-append out wrote (print line) after.text
+                  ap (λ (l : List ℕ). sets l next after.text) w.put.now_there
+                  ∙ ap (λ (n : ℕ). sets (sets out wrote (print line)) n after.text) w.put.now_at
+                  ∙ sets_append out wrote (print line) after.text
                   ∙ ap (λ (q : ListedLines). sets out wrote q.text) (sym onward)
                   ∙ r.there;
-              end = omega (arith, w.put.now-at, ap (λ (q : ListedLines). length q.text) onward, length-append (print line) after.text, r.end);
-              size = put-length w.put ∙ r.size;
-              inside = omega (arith, w.put.now-at, w.fits, r.size, r.inside);
+              end = omega (arith, w.put.now_at, ap (λ (q : ListedLines). length q.text) onward, length-append (print line) after.text, r.end);
+              size = put_length w.put ∙ r.size;
+              inside = omega (arith, w.put.now_at, w.fits, r.size, r.inside);
               within = omega (arith, ap length x, length-drop used text);
             }

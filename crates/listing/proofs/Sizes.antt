@@ -7,48 +7,48 @@ use native.Mathlib.Omega.{arith}
 use lib.Dec.{leb}
 use lib.ListN.{length, drop, length-append, length-drop}
 use borrow.Author.Tests.{leb-true}
-use Rattle.books.specs.Words.{messagesOf, messagesTaken}
+use Rattle.books.specs.Words.{messages_of, messages_taken_spec}
 use Rattle.framing.specs.Messages.{written}
 use Rattle.parts.specs.Parts.{TextLine, ended, unended, lines}
 use Rattle.signal_lines.specs.declared.figures.Figures.{Figures}
 use Rattle.listing.specs.declared.Listed.{Listed}
 use Rattle.listing.specs.declared.Listed.TheVariants.{Lines, NotABook}
 use Rattle.listing.specs.Printout.{printout}
-use Rattle.listing.specs.Listing.{noLines, lineThen, linesThatFit, listingBy, listing}
-use Rattle.listing.proofs.Parted.{listing-parts}
+use Rattle.listing.specs.Listing.{no_lines_spec, line_then, lines_that_fit, listing_by, listing}
+use Rattle.listing.proofs.Parted.{listing_parts}
 
-fits-room : (print : List ℕ → List ℕ) (room : ℕ) (ls : List TextLine) → length (linesThatFit print room ls).text ≤ room
-unfolding linesThatFit
-fits-room print room [] = omega arith
-fits-room print room (unended l ∷ ls) = omega arith
-fits-room print room (ended l ∷ ls) = go (leb (length (print l)) room) refl (fits-room print (room - length (print l)) ls)
+fits_room : (print : List ℕ → List ℕ) (room : ℕ) (ls : List TextLine) → length (lines_that_fit print room ls).text ≤ room
+unfolding lines_that_fit
+fits_room print room [] = omega arith
+fits_room print room (unended l ∷ ls) = omega arith
+fits_room print room (ended l ∷ ls) = go (leb (length (print l)) room) refl (fits_room print (room - length (print l)) ls)
   where
-    go : (b : Bool) → leb (length (print l)) room ≡ b → length (linesThatFit print (room - length (print l)) ls).text ≤ room - length (print l)
-        → length (cond b (lineThen l (print l) (linesThatFit print (room - length (print l)) ls)) noLines).text ≤ room
-    go true e h = omega (arith, leb-true (length (print l)) room e, length-append (print l) (linesThatFit print (room - length (print l)) ls).text)
+    go : (b : Bool) → leb (length (print l)) room ≡ b → length (lines_that_fit print (room - length (print l)) ls).text ≤ room - length (print l)
+        → length (cond b (line_then l (print l) (lines_that_fit print (room - length (print l)) ls)) no_lines_spec).text ≤ room
+    go true e h = omega (arith, leb-true (length (print l)) room e, length-append (print l) (lines_that_fit print (room - length (print l)) ls).text)
     go false e h = omega arith
 
-written-long : (text lent : List ℕ) → length text ≤ length lent → length (written text lent) ≡ length lent
-written-long text lent h = omega (arith, length-append text (drop (length text) lent), length-drop (length text) lent)
+written_long : (text lent : List ℕ) → length text ≤ length lent → length (written text lent) ≡ length lent
+written_long text lent h = omega (arith, length-append text (drop (length text) lent), length-drop (length text) lent)
 
-listing-long : (figures : Figures) (words text lent : List ℕ) → length (listing figures words text lent).1 ≡ length lent
+listing_long : (figures : Figures) (words text lent : List ℕ) → length (listing figures words text lent).1 ≡ length lent
 unfolding listing
-listing-long figures words text lent = go (messagesTaken words)
+listing_long figures words text lent = go (messages_taken_spec words)
   where
-    go : (b : Bool) → length (cond {A = Listed × List ℕ} b (listingBy figures (messagesOf words) text lent) (NotABook, lent)).1 ≡ length lent
-    go true = written-long (linesThatFit (printout figures (messagesOf words)) (length lent) (lines text)).text lent (fits-room (printout figures (messagesOf words)) (length lent) (lines text))
+    go : (b : Bool) → length (cond {A = Listed × List ℕ} b (listing_by figures (messages_of words) text lent) (NotABook, lent)).1 ≡ length lent
+    go true = written_long (lines_that_fit (printout figures (messages_of words)) (length lent) (lines text)).text lent (fits_room (printout figures (messages_of words)) (length lent) (lines text))
     go false = refl
 
 -- what the call says of its room
-pub list-long : (figures : Figures) (words text lent : List ℕ) {r : Listed} {new : List ℕ} → ◌≡◌ {A = Listed × List ℕ} (r, new) (listing figures words text lent) → length new ≡ length lent
-list-long figures words text lent e = ap (λ (x : Listed × List ℕ). length x.1) e ∙ listing-long figures words text lent
+pub list_long : (figures : Figures) (words text lent : List ℕ) {r : Listed} {new : List ℕ} → ◌≡◌ {A = Listed × List ℕ} (r, new) (listing figures words text lent) → length new ≡ length lent
+list_long figures words text lent e = ap (λ (x : Listed × List ℕ). length x.1) e ∙ listing_long figures words text lent
 
 -- what the call says of its text
-pub list-used : (figures : Figures) (words text lent : List ℕ) {r : Listed} {new : List ℕ} → ◌≡◌ {A = Listed × List ℕ} (r, new) (listing figures words text lent)
+pub list_used : (figures : Figures) (words text lent : List ℕ) {r : Listed} {new : List ℕ} → ◌≡◌ {A = Listed × List ℕ} (r, new) (listing figures words text lent)
     → (used wrote : ℕ) → r ≡ Lines used wrote → used ≤ length text
 unfolding listing
-list-used figures words text lent {r} e used wrote x = go (messagesTaken words) (ap (λ (y : Listed × List ℕ). y.0) e)
+list_used figures words text lent {r} e used wrote x = go (messages_taken_spec words) (ap (λ (y : Listed × List ℕ). y.0) e)
   where
-    go : (b : Bool) → r ≡ (cond {A = Listed × List ℕ} b (listingBy figures (messagesOf words) text lent) (NotABook, lent)).0 → used ≤ length text
-    go true y = let z : used ≡ (linesThatFit (printout figures (messagesOf words)) (length lent) (lines text)).used = cc in omega (arith, (listing-parts (printout figures (messagesOf words)) (length lent) text).within)
+    go : (b : Bool) → r ≡ (cond {A = Listed × List ℕ} b (listing_by figures (messages_of words) text lent) (NotABook, lent)).0 → used ≤ length text
+    go true y = let z : used ≡ (lines_that_fit (printout figures (messages_of words)) (length lent) (lines text)).used = cc in omega (arith, (listing_parts (printout figures (messages_of words)) (length lent) text).within)
     go false y = absurd (let z : ◌≡◌ {A = ℕ} 0 1 = cc in omega arith)

@@ -5,10 +5,10 @@ use Rattle.std.proofs.Math.Option.{some}
 use Rattle.books.specs.Book.{Message}
 use Rattle.framing.specs.declared.Reading.{Reading}
 use Rattle.framing.specs.declared.Reading.TheVariants.{Read, NotABook, NotEightBytes, UnknownIdentifier, WrongChecksum, TooLittleRoom}
-use Rattle.framing.specs.Messages.{messageWith}
-use Rattle.framing.specs.Reading.{Slices, readings, readByMessages}
+use Rattle.framing.specs.Messages.{message_with}
+use Rattle.framing.specs.Reading.{Slices, readings, read_by_messages}
 use Rattle.signal_lines.specs.declared.figures.Figures.{Figures}
-use Rattle.listing.specs.Printout.{readingLines, frameListing}
+use Rattle.listing.specs.Printout.{reading_lines, frame_listing}
 
 -- the refusals of a frame; room is not asked in a listing
 abbrev pub Refuses : Reading → Type 0
@@ -22,6 +22,6 @@ Refuses TooLittleRoom = ⊥
 -- a frame that reading gives readings of
 pub record ListedAsRead (figures : Figures) (ms : List Message) (identifier : ℕ) (bytes : List ℕ) (lent : Slices) : Type 0 where
   pub message : Message
-  pub found : messageWith identifier ms ≡ some message
-  pub printed : frameListing figures ms identifier bytes ≡ readingLines figures identifier bytes message.placements
-  pub read : (readByMessages ms identifier bytes lent).1 ≡ readings bytes message.placements lent
+  pub found : message_with identifier ms ≡ some message
+  pub printed : frame_listing figures ms identifier bytes ≡ reading_lines figures identifier bytes message.placements
+  pub read : (read_by_messages ms identifier bytes lent).1 ≡ readings bytes message.placements lent

@@ -2,7 +2,7 @@
 -- fits the room that is left. Assumes nothing.
 use Rattle.std.specs.Prelude.{cond, List, [], ◌∷◌, ◌++◌, ℕ, suc, ◌+◌, ◌-◌, leb, length}
 use Rattle.books.specs.Book.{Message}
-use Rattle.books.specs.Words.{messagesOf, messagesTaken}
+use Rattle.books.specs.Words.{messages_of, messages_taken_spec}
 use Rattle.framing.specs.Messages.{written}
 use Rattle.parts.specs.Parts.{TextLine, ended, unended, lines}
 use Rattle.signal_lines.specs.declared.figures.Figures.{Figures}
@@ -11,39 +11,39 @@ use Rattle.listing.specs.declared.Listed.TheVariants.{Lines, NotABook}
 use Rattle.listing.specs.Printout.{printout}
 
 -- document 01's number for each answer; 0 is no refusal
-abbrev pub listedNumber : Listed → ℕ
-listedNumber (Lines used wrote) = 0
-listedNumber NotABook = 12
+abbrev pub listed_number : Listed → ℕ
+listed_number (Lines used wrote) = 0
+listed_number NotABook = 12
 
 -- how many bytes of a text are listed, and what they print
 pub record ListedLines : Type 0 where
   pub used : ℕ
   pub text : List ℕ
 
-abbrev pub noLines : ListedLines
-noLines = record { used = 0; text = [] }
+abbrev pub no_lines_spec : ListedLines
+no_lines_spec = record { used = 0; text = [] }
 
 -- a whole line, which its newline ends, and the lines after it
-abbrev pub lineThen : List ℕ → List ℕ → ListedLines → ListedLines
-lineThen line text rest = record { used = suc (length line) + rest.used; text = text ++ rest.text }
+abbrev pub line_then : List ℕ → List ℕ → ListedLines → ListedLines
+line_then line text rest = record { used = suc (length line) + rest.used; text = text ++ rest.text }
 
 -- the lines from the front that fit the room, by what each prints
-unfoldable pub linesThatFit : (List ℕ → List ℕ) → ℕ → List TextLine → ListedLines
-linesThatFit print room [] = noLines
-linesThatFit print room (unended l ∷ ls) = noLines
-linesThatFit print room (ended l ∷ ls) =
+unfoldable pub lines_that_fit : (List ℕ → List ℕ) → ℕ → List TextLine → ListedLines
+lines_that_fit print room [] = no_lines_spec
+lines_that_fit print room (unended l ∷ ls) = no_lines_spec
+lines_that_fit print room (ended l ∷ ls) =
     cond (leb (length (print l)) room)
-    (lineThen l (print l) (linesThatFit print (room - length (print l)) ls))
-    noLines
+    (line_then l (print l) (lines_that_fit print (room - length (print l)) ls))
+    no_lines_spec
 
 -- the answer, and what stands in the lent room
-abbrev pub listedAnswer : ListedLines → List ℕ → Listed × List ℕ
-listedAnswer listed lent = (Lines listed.used (length listed.text), written listed.text lent)
+abbrev pub listed_answer : ListedLines → List ℕ → Listed × List ℕ
+listed_answer listed lent = (Lines listed.used (length listed.text), written listed.text lent)
 
 -- a buffer of frame lines listed by messages into lent room
-abbrev pub listingBy : Figures → List Message → List ℕ → List ℕ → Listed × List ℕ
-listingBy figures ms text lent = listedAnswer (linesThatFit (printout figures ms) (length lent) (lines text)) lent
+abbrev pub listing_by : Figures → List Message → List ℕ → List ℕ → Listed × List ℕ
+listing_by figures ms text lent = listed_answer (lines_that_fit (printout figures ms) (length lent) (lines text)) lent
 
 -- and by the words of a book
 unfoldable pub listing : Figures → List ℕ → List ℕ → List ℕ → Listed × List ℕ
-listing figures words text lent = cond (messagesTaken words) (listingBy figures (messagesOf words) text lent) (NotABook, lent)
+listing figures words text lent = cond (messages_taken_spec words) (listing_by figures (messages_of words) text lent) (NotABook, lent)

@@ -2,42 +2,42 @@
 -- dash doubles ("A second program, else like the lister"). Assumes nothing.
 use Rattle.std.specs.Prelude.{cond, List, [], ◌∷◌, ◌++◌, ℕ, eqb, length}
 use Rattle.std.proofs.Math.Option.{Option, none, some}
-use Rattle.bits.specs.Frame.{frameBytes}
+use Rattle.bits.specs.Frame.{frame_bytes}
 use Rattle.books.specs.Book.{Placement, Message}
 use Rattle.frame_lines.specs.declared.FrameLine.TheVariants.{NotEightBytes}
-use Rattle.frame_lines.specs.Meaning.{FrameMeaning, frame, illFormed, frameLineSays, frameLineNumber}
+use Rattle.frame_lines.specs.Meaning.{FrameMeaning, frame, ill_formed_spec, frame_line_says, frame_line_number}
 use Rattle.framing.specs.declared.Reading.TheVariants.{UnknownIdentifier, WrongChecksum}
-use Rattle.framing.specs.Messages.{messageWith, placedClass}
-use Rattle.framing.specs.Reading.{readingNumber, checksumHolds}
+use Rattle.framing.specs.Messages.{message_with, placed_class}
+use Rattle.framing.specs.Reading.{reading_number, checksum_holds}
 use Rattle.signal_lines.specs.declared.figures.Figures.{Figures}
-use Rattle.signal_lines.specs.Printed.{readingLine, refusedFrameLine, illFormedLine}
+use Rattle.signal_lines.specs.Printed.{reading_line, refused_frame_line, ill_formed_line}
 
 -- a line for each signal, in the order of the S lines
-unfoldable pub readingLines : Figures → ℕ → List ℕ → List Placement → List ℕ
-readingLines figures identifier bytes [] = []
-readingLines figures identifier bytes (p ∷ ps) =
-    readingLine figures identifier p.number (placedClass bytes p) ++ readingLines figures identifier bytes ps
+unfoldable pub reading_lines : Figures → ℕ → List ℕ → List Placement → List ℕ
+reading_lines figures identifier bytes [] = []
+reading_lines figures identifier bytes (p ∷ ps) =
+    reading_line figures identifier p.number (placed_class bytes p) ++ reading_lines figures identifier bytes ps
 
 -- a frame of 8 bytes, by its message: refusals 22 and 23 as in reading
-unfoldable pub messageListing : Figures → ℕ → List ℕ → Option Message → List ℕ
-messageListing figures identifier bytes none = refusedFrameLine identifier (readingNumber UnknownIdentifier)
-messageListing figures identifier bytes (some m) =
-    cond (checksumHolds m bytes)
-    (readingLines figures identifier bytes m.placements)
-    (refusedFrameLine identifier (readingNumber WrongChecksum))
+unfoldable pub message_listing : Figures → ℕ → List ℕ → Option Message → List ℕ
+message_listing figures identifier bytes none = refused_frame_line identifier (reading_number UnknownIdentifier)
+message_listing figures identifier bytes (some m) =
+    cond (checksum_holds m bytes)
+    (reading_lines figures identifier bytes m.placements)
+    (refused_frame_line identifier (reading_number WrongChecksum))
 
 -- a frame of any length: the line's own refusal, 21, comes first
-unfoldable pub frameListing : Figures → List Message → ℕ → List ℕ → List ℕ
-frameListing figures ms identifier bytes =
-    cond (eqb (length bytes) frameBytes)
-    (messageListing figures identifier bytes (messageWith identifier ms))
-    (refusedFrameLine identifier (frameLineNumber (NotEightBytes identifier)))
+unfoldable pub frame_listing : Figures → List Message → ℕ → List ℕ → List ℕ
+frame_listing figures ms identifier bytes =
+    cond (eqb (length bytes) frame_bytes)
+    (message_listing figures identifier bytes (message_with identifier ms))
+    (refused_frame_line identifier (frame_line_number (NotEightBytes identifier)))
 
 -- what a line says is printed
-abbrev pub printoutOf : Figures → List Message → FrameMeaning → List ℕ
-printoutOf figures ms (frame identifier bytes) = frameListing figures ms identifier bytes
-printoutOf figures ms illFormed = illFormedLine
+abbrev pub printout_of : Figures → List Message → FrameMeaning → List ℕ
+printout_of figures ms (frame identifier bytes) = frame_listing figures ms identifier bytes
+printout_of figures ms ill_formed_spec = ill_formed_line
 
 -- what a frame line, without its newline, prints
 unfoldable pub printout : Figures → List Message → List ℕ → List ℕ
-printout figures ms line = printoutOf figures ms (frameLineSays line)
+printout figures ms line = printout_of figures ms (frame_line_says line)

@@ -6,8 +6,8 @@ mod message;
 mod room;
 
 ghost use Rattle.std.specs.Prelude.{◌≡◌, true, List, ℕ};
-ghost use Rattle.books.specs.Words.{messagesOf, messagesTaken};
-ghost use Rattle.listing.specs.Listing.{listingBy, listing};
+ghost use Rattle.books.specs.Words.{messages_of, messages_taken_spec};
+ghost use Rattle.listing.specs.Listing.{listing_by, listing};
 
 use line::list_line;
 use parts::{NEWLINE, find, part_before, part_from};
@@ -33,8 +33,8 @@ pub enum Fitted {
 
 // The whole lines from the front that fit, by a taken book.
 fn list_lines(book: &[u32; BOOK_WORDS], text: &[u8], out: &mut [u8], figures: Figures) -> Listed
-    requires { messagesTaken book.now ≡ true }
-    ensures { ◌≡◌ {A = Listed × List ℕ} (result, out.new) (listingBy figures (messagesOf book.now) text.now out.old) }
+    requires { messages_taken_spec book.now ≡ true }
+    ensures { ◌≡◌ {A = Listed × List ℕ} (result, out.new) (listing_by figures (messages_of book.now) text.now out.old) }
 {
     let mut used: usize = 0;
     let mut written: usize = 0;

@@ -1,8 +1,8 @@
 // One frame line, printed where its printout fits what is left of the room.
 ghost use Rattle.std.specs.Prelude.{◌≡◌, true, ◌≤◌, length};
-ghost use Rattle.books.specs.Words.{messagesOf, messagesTaken};
+ghost use Rattle.books.specs.Words.{messages_of, messages_taken_spec};
 ghost use Rattle.listing.specs.Printout.{printout};
-ghost use Rattle.listing.specs.Working.{wordListing, PutIfFits};
+ghost use Rattle.listing.specs.Working.{word_listing, PutIfFits};
 
 use crate::Fitted;
 use crate::message::list_message;
@@ -26,8 +26,8 @@ fn list_frame(
     at: usize,
     figures: Figures,
 ) -> Fitted
-    requires { (messagesTaken book.now ≡ true) × (at ≤ length out.old) }
-    ensures { PutIfFits out.old at (wordListing figures book.now identifier word) out.new result }
+    requires { (messages_taken_spec book.now ≡ true) × (at ≤ length out.old) }
+    ensures { PutIfFits out.old at (word_listing figures book.now identifier word) out.new result }
 {
     match find_message(book, identifier) {
         MessageFound::Signals(from, to) => {
@@ -47,8 +47,8 @@ pub fn list_line(
     at: usize,
     figures: Figures,
 ) -> Fitted
-    requires { (messagesTaken book.now ≡ true) × (at ≤ length out.old) }
-    ensures { PutIfFits out.old at (printout figures (messagesOf book.now) line.now) out.new result }
+    requires { (messages_taken_spec book.now ≡ true) × (at ≤ length out.old) }
+    ensures { PutIfFits out.old at (printout figures (messages_of book.now) line.now) out.new result }
 {
     match read_frame_line(line) {
         FrameLine::Frame(identifier, word) => list_frame(

@@ -1,6 +1,6 @@
 // A frame by its message, whose signals' numbers and starts stand in two slices, side by side.
 ghost use Rattle.books.specs.Words.{side_by_side};
-ghost use Rattle.listing.specs.Working.{wordLines, messageText, Roomy, Listable, SignalsPut, PutIfFits};
+ghost use Rattle.listing.specs.Working.{word_lines, message_text, Roomy, Listable, SignalsPut, PutIfFits};
 
 use crate::Fitted;
 use crate::room::{fit, list_refused};
@@ -48,7 +48,7 @@ fn list_signals(
     figures: Figures,
 ) -> Fitted
     requires { Listable out.old at numbers.now starts.now }
-    ensures { PutIfFits out.old at (wordLines figures identifier word (side_by_side numbers.now starts.now)) out.new result }
+    ensures { PutIfFits out.old at (word_lines figures identifier word (side_by_side numbers.now starts.now)) out.new result }
 {
     if LISTED_LINE_ROOM * numbers.len() <= out.len() - at {
         return Fitted::Next(put_signals(&mut *out, at, identifier, word, numbers, starts, figures));
@@ -69,7 +69,7 @@ pub fn list_message(
     figures: Figures,
 ) -> Fitted
     requires { Listable out.old at numbers.now starts.now }
-    ensures { PutIfFits out.old at (messageText figures identifier word numbers.now starts.now) out.new result }
+    ensures { PutIfFits out.old at (message_text figures identifier word numbers.now starts.now) out.new result }
 {
     if checked(identifier, word, numbers) {
         return list_signals(&mut *out, at, identifier, word, numbers, starts, figures);

@@ -14,9 +14,9 @@ pub record Overlaid (Entry : ℕ → ℕ → Type 0) (n : ℕ) (lent l : List �
   pub long : length l ≡ length lent
   pub rest : (i : ℕ) → n ≤ i → get_or l i 0 ≡ get_or lent i 0
 
-pub overlaid-once : (Entry : ℕ → ℕ → Type 0) (n : ℕ) (lent : List ℕ) → ((i : ℕ) → i < n → (v w : ℕ) → Entry i v → Entry i w → v ≡ w)
+pub overlaid_once : (Entry : ℕ → ℕ → Type 0) (n : ℕ) (lent : List ℕ) → ((i : ℕ) → i < n → (v w : ℕ) → Entry i v → Entry i w → v ≡ w)
     → (l m : List ℕ) → Overlaid Entry n lent l → Overlaid Entry n lent m → l ≡ m
-overlaid-once Entry n lent one l m f g = ext_get_or 0 l m (f.long ∙ sym g.long) (λ i h. go i (dec_le n i))
+overlaid_once Entry n lent one l m f g = ext_get_or 0 l m (f.long ∙ sym g.long) (λ i h. go i (dec_le n i))
   where
     go : (i : ℕ) → Dec (n ≤ i) → get_or l i 0 ≡ get_or m i 0
     go i (yes b) = f.rest i b ∙ sym (g.rest i b)

@@ -6,8 +6,8 @@ use native.Mathlib.Omega.{arith}
 use mathlib.Core.List.Memᴰ
 use mathlib.Core.List.{List, [], ◌∷◌, Memᴰ}
 use lib.ListN.{length}
-use Rattle.lists.specs.Lists.{Distinct, Subset, numbersBelow}
-use Rattle.lists.proofs.Lists.{length-below, mem_below}
+use Rattle.lists.specs.Lists.{Distinct, Subset, numbers_below}
+use Rattle.lists.proofs.Lists.{length_below, mem_below}
 
 module _ {A : Type 0} where
   -- l without one x: one shorter, and everything else is still there
@@ -28,4 +28,4 @@ module _ {A : Type 0} where
 
 -- a list of different numbers below n has at most n
 pub below_length : (n : ℕ) (c : List ℕ) → Distinct c → ((x : ℕ) → Memᴰ x c → x < n) → length c ≤ n
-below_length n c d b = rw length-below at (pigeons c (numbersBelow n) d (λ x m. mem_below n x (b x m)))
+below_length n c d b = rw length_below at (pigeons c (numbers_below n) d (λ x m. mem_below n x (b x m)))

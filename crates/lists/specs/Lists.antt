@@ -18,9 +18,9 @@ those P [] = []
 those P (x ∷ l) = cond (P x) (x ∷ those P l) (those P l)
 
 -- the numbers below n, rising
-abbrev pub numbersBelow : ℕ → List ℕ
-numbersBelow zero = []
-numbersBelow (suc n) = 0 ∷ map suc (numbersBelow n)
+abbrev pub numbers_below : ℕ → List ℕ
+numbers_below zero = []
+numbers_below (suc n) = 0 ∷ map suc (numbers_below n)
 
 -- the entries of a column at some indices, one by one
 abbrev pub entries_at : List ℕ → List ℕ → List ℕ

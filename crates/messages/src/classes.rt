@@ -1,14 +1,14 @@
 // A class in numbers: its code, and the thousandths of a value.
 ghost use Rattle.std.specs.Prelude.{◌≡◌, ℕ, ℤ};
-ghost use Rattle.framing.specs.Reading.{classCode, thousandthsOf};
-ghost use Rattle.catalogue.specs.Cut.{cutOf};
-ghost use Rattle.messages.specs.Signals.{numbersOfCut, numbersOfClass};
+ghost use Rattle.framing.specs.Reading.{class_code, thousandths_of_spec};
+ghost use Rattle.catalogue.specs.Cut.{cut_of_spec};
+ghost use Rattle.messages.specs.Signals.{numbers_of_cut, numbers_of_class};
 
 use catalogue::{Class, Raw};
 
 // The code of a class.
 fn code_of(class: Class) -> u8
-    ensures { result ≡ classCode class }
+    ensures { result ≡ class_code class }
 {
     match class {
         Class::Value(_) => 0,
@@ -24,7 +24,7 @@ fn code_of(class: Class) -> u8
 
 // The thousandths of a value, and 0 where the class is no value.
 fn thousandths_of(class: Class) -> i64
-    ensures { result ≡ thousandthsOf class }
+    ensures { result ≡ thousandths_of_spec class }
 {
     match class {
         Class::Value(reading) => reading.0,
@@ -42,7 +42,7 @@ fn thousandths_of(class: Class) -> i64
 // go where they are lent, and the answer is the thousandths. A frame is read and packed by it, and a count classed, so that the class
 // itself, which is no number, never goes through memory, and the jump to a signal's shape is there once.
 pub fn cut_numbers(number: u32, window: u32, bits: &mut u32, count: &mut u32, code: &mut u8) -> i64
-    ensures { ◌≡◌ {A = ℤ × (ℕ × (ℕ × ℕ))} (result, (bits.new, (count.new, code.new))) (numbersOfCut (cutOf number window)) }
+    ensures { ◌≡◌ {A = ℤ × (ℕ × (ℕ × ℕ))} (result, (bits.new, (count.new, code.new))) (numbers_of_cut (cut_of_spec number window)) }
 {
     let cut = catalogue::cut_of(number, window);
     let raw = cut.raw;
@@ -55,7 +55,7 @@ pub fn cut_numbers(number: u32, window: u32, bits: &mut u32, count: &mut u32, co
 
 // The class of one raw count of the signal with a number: its code goes where it is lent, and the answer is its thousandths.
 pub fn class_numbers(number: u32, raw: Raw, code: &mut u8) -> i64
-    ensures { ◌≡◌ {A = ℤ × ℕ} (result, code.new) (numbersOfClass number raw) }
+    ensures { ◌≡◌ {A = ℤ × ℕ} (result, code.new) (numbers_of_class number raw) }
 {
     let mut bits: u32 = 0;
     let mut count: u32 = 0;

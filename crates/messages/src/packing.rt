@@ -1,13 +1,13 @@
 // Values packed by their message, whose signals' numbers and starts stand in two slices, side by side.
 ghost use Rattle.std.specs.Prelude.{◌≡◌, length};
-ghost use Rattle.bits.specs.Frame.{frameBytes};
+ghost use Rattle.bits.specs.Frame.{frame_bytes};
 ghost use Rattle.bits.specs.Word.{Fits};
 ghost use Rattle.books.specs.Words.{side_by_side};
-ghost use Rattle.catalogue.specs.Find.{bitsOf};
+ghost use Rattle.catalogue.specs.Find.{bits_of_spec};
 ghost use Rattle.framing.specs.Lending.{PacksInto};
-ghost use Rattle.framing.specs.Putting.{allOnes};
-ghost use Rattle.messages.specs.Signals.{messageFrom};
-ghost use Rattle.messages.specs.Put.{Packable, putOne, put_all, packInto};
+ghost use Rattle.framing.specs.Putting.{all_ones};
+ghost use Rattle.messages.specs.Signals.{message_from};
+ghost use Rattle.messages.specs.Put.{Packable, put_one_spec, put_all, pack_into};
 
 use crate::checksum::summed;
 use crate::classes::cut_numbers;
@@ -27,8 +27,8 @@ pub enum PutWord {
 
 // The word with one more value at its place; 503 is skipped. A value that is more than the count cut from it is too wide.
 fn put_one(word: u64, number: u32, start: u32, value: u32) -> PutWord
-    requires { Fits start (bitsOf number) }
-    ensures { result ≡ putOne word (record { number = number; start = start }) value }
+    requires { Fits start (bits_of_spec number) }
+    ensures { result ≡ put_one_spec word (record { number = number; start = start }) value }
 {
     if number == CHECKSUM {
         return PutWord::Word(word);
@@ -49,7 +49,7 @@ fn put_one(word: u64, number: u32, start: u32, value: u32) -> PutWord
 // A word of ones with each value but that of 503 at its place.
 fn put_all(numbers: &[u32], starts: &[u32], values: &[u32]) -> PutWord
     requires { Packable numbers.now starts.now values.now }
-    ensures { result ≡ put_all (PutWord.Word allOnes) (side_by_side numbers.now starts.now) values.now }
+    ensures { result ≡ put_all (PutWord.Word all_ones) (side_by_side numbers.now starts.now) values.now }
 {
     let mut word: u64 = 0xffff_ffff_ffff_ffff;
     let mut left = columns::length_of(numbers);
@@ -76,8 +76,8 @@ pub fn pack_message(
     values: &[u32],
     frame: &mut [u8],
 ) -> Packing
-    requires { Packable numbers.now starts.now values.now × (length frame.old ≡ frameBytes) }
-    ensures { PacksInto (packInto (messageFrom identifier numbers.now starts.now) values.now) result frame }
+    requires { Packable numbers.now starts.now values.now × (length frame.old ≡ frame_bytes) }
+    ensures { PacksInto (pack_into (message_from identifier numbers.now starts.now) values.now) result frame }
 {
     match put_all(numbers, starts, values) {
         PutWord::Word(word) => {

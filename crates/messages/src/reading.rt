@@ -4,8 +4,8 @@ ghost use Rattle.std.proofs.Math.Option.{some};
 ghost use Rattle.bits.specs.Word.{bytes_of};
 ghost use Rattle.books.specs.Words.{side_by_side};
 ghost use Rattle.framing.specs.Lending.{ReadsInto};
-ghost use Rattle.framing.specs.Reading.{readByMessage};
-ghost use Rattle.messages.specs.Signals.{InStep, SignalsRead, messageFrom, Readable};
+ghost use Rattle.framing.specs.Reading.{read_by_message};
+ghost use Rattle.messages.specs.Signals.{InStep, SignalsRead, message_from, Readable};
 
 use crate::checksum::checked;
 use crate::classes::cut_numbers;
@@ -57,7 +57,7 @@ pub fn read_message(
     thousandths: &mut [i64],
 ) -> Reading
     requires { Readable numbers.now starts.now }
-    ensures { ReadsInto (readByMessage (some (messageFrom identifier numbers.now starts.now)) (bytes_of word)) result raws classes thousandths }
+    ensures { ReadsInto (read_by_message (some (message_from identifier numbers.now starts.now)) (bytes_of word)) result raws classes thousandths }
 {
     if !checked(identifier, word, numbers) {
         return Reading::WrongChecksum;

@@ -2,12 +2,12 @@
 // there. For a gateway's own firmware, which shares a book with others and sends only along its own R lines: `next_copies` is the call.
 // It has no `requires`, tests the book's route tables first (refusal 12) and writes nothing where it refuses.
 ghost use Rattle.std.specs.Prelude.{◌++◌, ◌≡◌, ◌≤◌, length, take, drop};
-ghost use Rattle.record.specs.Limits.{routeLimit};
-ghost use Rattle.books.specs.Words.{routesOf};
+ghost use Rattle.record.specs.Limits.{route_limit};
+ghost use Rattle.books.specs.Words.{routes_of};
 ghost use Rattle.sending.specs.Writing.{Written};
 ghost use Rattle.route_tables.specs.Tables.{RoutesTaken};
-ghost use Rattle.next_copies.specs.Copies.{nextCopies};
-ghost use Rattle.next_copies.specs.Answers.{copiedNumber, copyCount, CopiedBy, CopiedAnswer};
+ghost use Rattle.next_copies.specs.Copies.{next_copies_spec};
+ghost use Rattle.next_copies.specs.Answers.{copied_number, copy_count, CopiedBy, CopiedAnswer};
 
 use record::{BOOK_WORDS, BUSES, GATEWAY_LIMIT, IDENTIFIER_LIMIT, ROUTES, wide};
 use route_tables::routes_taken;
@@ -30,7 +30,7 @@ pub enum Copied {
 // Gathers the places that the gateway's routes from a place lead to, by a book whose routes have been tested: how many there are.
 fn gather(book: &[u32; BOOK_WORDS], gateway: u32, place: u32, found: &mut [u32; ROUTES]) -> usize
     requires { RoutesTaken book.now }
-    ensures { Written (nextCopies (routesOf book.now) gateway place) found.old 0 found.new result }
+    ensures { Written (next_copies_spec (routes_of book.now) gateway place) found.old 0 found.new result }
 {
     let froms = record::froms(book);
     let tos = record::tos(book);
@@ -52,7 +52,7 @@ fn gather(book: &[u32; BOOK_WORDS], gateway: u32, place: u32, found: &mut [u32; 
 
 // Copies the first n entries.
 fn copy(from: &[u32; ROUTES], n: usize, room: &mut [u32])
-    requires { (n ≤ routeLimit) × (n ≤ length room.old) }
+    requires { (n ≤ route_limit) × (n ≤ length room.old) }
     ensures { room.new ≡ take n from.now ++ drop n room.old }
 {
     let entries: &[u32] = from;
@@ -73,7 +73,7 @@ fn copied_tested(
     room: &mut [u32],
 ) -> Copied
     requires { RoutesTaken book.now }
-    ensures { CopiedBy (routesOf book.now) gateway bus identifier room.old (copiedNumber result) (copyCount result) room.new }
+    ensures { CopiedBy (routes_of book.now) gateway bus identifier room.old (copied_number result) (copy_count result) room.new }
 {
     if gateway >= GATEWAY_LIMIT {
         return Copied::NoSuchGateway;
@@ -99,7 +99,7 @@ pub fn next_copies(
     identifier: u32,
     room: &mut [u32],
 ) -> Copied
-    ensures { CopiedAnswer book.now gateway bus identifier room.old (copiedNumber result) (copyCount result) room.new }
+    ensures { CopiedAnswer book.now gateway bus identifier room.old (copied_number result) (copy_count result) room.new }
 {
     if !routes_taken(book) {
         return Copied::NotABook;

@@ -10,24 +10,24 @@ use borrow.Author.Tests.{ne_eqb}
 use Rattle.numbering.specs.Slots.{empties}
 
 -- a slot that is filled is one less
-pub empties-set : (l : List ℕ) (at v : ℕ) → empties l ≤ empties (set l at v) + 1
+pub empties_set : (l : List ℕ) (at v : ℕ) → empties l ≤ empties (set l at v) + 1
 unfolding empties
-empties-set [] at v = omega arith
-empties-set (x ∷ l) zero v = let h : cond (eqb x 0) 1 0 ≤ 1 = one x in omega (arith, h)
+empties_set [] at v = omega arith
+empties_set (x ∷ l) zero v = let h : cond (eqb x 0) 1 0 ≤ 1 = one x in omega (arith, h)
   where
     one : (x : ℕ) → cond (eqb x 0) 1 0 ≤ 1
     one zero = omega arith
     one (suc x) = rw (ne_eqb (suc x) 0 (λ z. absurd (omega arith))) (omega arith)
-empties-set (x ∷ l) (suc at) v = omega (arith, empties-set l at v)
+empties_set (x ∷ l) (suc at) v = omega (arith, empties_set l at v)
 
 -- where no slot is empty
-pub empties-none : (l : List ℕ) → ((x : ℕ) → x < length l → get_or l x 0 ≡ 0 → ⊥) → empties l ≡ 0
+pub empties_none : (l : List ℕ) → ((x : ℕ) → x < length l → get_or l x 0 ≡ 0 → ⊥) → empties l ≡ 0
 unfolding empties
-empties-none [] h = refl
-empties-none (x ∷ l) h = rw (ne_eqb x 0 (h 0 (omega arith)), empties-none l (λ y b. h (suc y) (omega arith))) refl
+empties_none [] h = refl
+empties_none (x ∷ l) h = rw (ne_eqb x 0 (h 0 (omega arith)), empties_none l (λ y b. h (suc y) (omega arith))) refl
 
 -- where all are
-pub empties-all : (n : ℕ) → empties (replicate n 0) ≡ n
+pub empties_all : (n : ℕ) → empties (replicate n 0) ≡ n
 unfolding empties
-empties-all zero = refl
-empties-all (suc n) = omega (arith, empties-all n)
+empties_all zero = refl
+empties_all (suc n) = omega (arith, empties_all n)

@@ -14,35 +14,35 @@ use contract.Monad.{Fun}
 use denote.Ref.{MutBor, at_last}
 use lib.ListN.{length, length-append}
 use Rattle.only.specs.Only.{Only}
-use Rattle.lists.proofs.Overlaid.{Overlaid, overlaid, overlaid-once}
+use Rattle.lists.proofs.Overlaid.{Overlaid, overlaid, overlaid_once}
 use Rattle.numbering.specs.Numbers.{FirstAt, Numbered, NumbersOf}
-use Rattle.numbering.proofs.Firsts.{first-at, first-once}
+use Rattle.numbering.proofs.Firsts.{first_at_law, first_once}
 use Rattle.numbering.specs.contracts.number_all as number-all
 
 module _ (places lent : List ℕ) where
-  laid-over : (l : List ℕ) → NumbersOf places lent l → Overlaid (FirstAt places) (length places) lent l
+  laid_over : (l : List ℕ) → NumbersOf places lent l → Overlaid (FirstAt places) (length places) lent l
   unfolding Numbered
-  laid-over l o = record { each = o.numbered; long = o.long; rest = o.rest }
+  laid_over l o = record { each = o.numbered; long = o.long; rest = o.rest }
 
-  numbers-there : length places ≤ length lent → (l : List ℕ) × NumbersOf places lent l
+  numbers_there : length places ≤ length lent → (l : List ℕ) × NumbersOf places lent l
   unfolding Numbered
-  numbers-there h = let r = overlaid (FirstAt places) (length places) lent h (λ i b. first-at places i) in (r.0, record { numbered = r.1.each; long = r.1.long; rest = r.1.rest })
+  numbers_there h = let r = overlaid (FirstAt places) (length places) lent h (λ i b. first_at_law places i) in (r.0, record { numbered = r.1.each; long = r.1.long; rest = r.1.rest })
 
-  numbers-once : (l m : List ℕ) → NumbersOf places lent l → NumbersOf places lent m → l ≡ m
-  numbers-once l m f g = overlaid-once (FirstAt places) (length places) lent (λ i b. first-once places i) l m (laid-over l f) (laid-over m g)
+  numbers_once : (l m : List ℕ) → NumbersOf places lent l → NumbersOf places lent m → l ≡ m
+  numbers_once l m f g = overlaid_once (FirstAt places) (length places) lent (λ i b. first_once places i) l m (laid_over l f) (laid_over m g)
 
 module _ {M : Type 1} {𝓤 : Ura M} (𝓛 : Logic 𝓤) (mem : Memory → SProp 𝓤) (run : Routine → Fun 𝓤) (κs : Lfts 3) where
   -- where there is room
-  pub one-number-all : (tos froms numbers : MutBor (List ℕ)) → length tos.now + length froms.now ≤ length numbers.now
+  pub one_number_all : (tos froms numbers : MutBor (List ℕ)) → length tos.now + length froms.now ≤ length numbers.now
       → Only 𝓤 (λ (x : List ℕ). (number-all.clauses 𝓛 mem run κs (tos, (froms, (numbers, tt)))).ensures tt tt (tos, (froms, (at_last numbers x, tt))))
-  one-number-all tos froms numbers room =
+  one_number_all tos froms numbers room =
       let places = tos.now ++ froms.now in
-      let r = numbers-there places numbers.now (omega (arith, length-append tos.now froms.now)) in
+      let r = numbers_there places numbers.now (omega (arith, length-append tos.now froms.now)) in
       record {
         coded = coded_list coded_ℕ;
         outcome = r.0;
         Says = NumbersOf places numbers.now;
         says = λ x. refl;
         there = r.1;
-        alone = λ x o. numbers-once places numbers.now x r.0 o r.1;
+        alone = λ x o. numbers_once places numbers.now x r.0 o r.1;
       }

@@ -9,19 +9,19 @@ use lib.Dec.{eqb, ltb}
 use lib.ListN.{length, get_or}
 use borrow.Author.Tests.{eq-eqb, ne_eqb, lt-ltb, le-ltb, ltb-true, ltb-false}
 use Rattle.numerals.specs.declared.Number.TheVariants.{Is, Not}
-use Rattle.numerals.specs.Numeral.{numeralFrom, needlessZero, decimalDigits, decimal}
-use Rattle.numerals.specs.Written.{digitByte, digitsOf, decimalWidth, decimalLimit, decimalText, DecimalWritten}
-use Rattle.numerals.proofs.Digits.{length_digits, numeral-read, NumeralText, numeral-written}
+use Rattle.numerals.specs.Numeral.{numeral_from, needless_zero, decimal_digits, decimal}
+use Rattle.numerals.specs.Written.{digit_byte_spec, digits_of_spec, decimal_width_spec, decimal_limit, decimal_text, DecimalWritten}
+use Rattle.numerals.proofs.Digits.{length_digits, numeral_read, NumeralText, numeral_written}
 
 -- n has k + 1 decimal digits: it is below the next power, and not below its own unless it has one digit
 pub record Wide (n k : ℕ) : Type 0 where
   pub few : k < 5
   pub below : n < 10 ^ suc k
   pub above : 0 < k → 10 ^ k ≤ n
-  pub width : decimalWidth n ≡ suc k
+  pub width : decimal_width_spec n ≡ suc k
 
-width_of : (k n : ℕ) → k < 5 → n < 10 ^ suc k → (0 < k → 10 ^ k ≤ n) → decimalWidth n ≡ suc k
-unfolding decimalWidth
+width_of : (k n : ℕ) → k < 5 → n < 10 ^ suc k → (0 < k → 10 ^ k ≤ n) → decimal_width_spec n ≡ suc k
+unfolding decimal_width_spec
 width_of zero n f h l = simp (lt-ltb n 10 h)
 width_of (suc zero) n f h l = simp (le-ltb n 10 (l (omega arith)), lt-ltb n 100 h)
 width_of (suc (suc zero)) n f h l =
@@ -43,8 +43,8 @@ pub record Some (n : ℕ) : Type 0 where
   pub k : ℕ
   pub wide : Wide n k
 
-pub some-width : (n : ℕ) → n < decimalLimit → Some n
-some-width n h = go (ltb n 10) (ltb n 100) (ltb n 1000) (ltb n 10000) refl refl refl refl
+pub some_width : (n : ℕ) → n < decimal_limit → Some n
+some_width n h = go (ltb n 10) (ltb n 100) (ltb n 1000) (ltb n 10000) refl refl refl refl
   where
     go : (a b c d : Bool) → ltb n 10 ≡ a → ltb n 100 ≡ b → ltb n 1000 ≡ c → ltb n 10000 ≡ d → Some n
     go true b c d p q r s = record { k = 0; wide = wide_of 0 n (omega arith) (ltb-true _ _ p) (λ z. absurd (omega arith)) }
@@ -54,8 +54,8 @@ some-width n h = go (ltb n 10) (ltb n 100) (ltb n 1000) (ltb n 10000) refl refl 
     go false false false false p q r s = record { k = 4; wide = wide_of 4 n (omega arith) h (λ z. ltb-false _ _ s) }
 
 -- the first digit of more than one is not 0
-first : (k n : ℕ) → 10 ^ k ≤ n → n < 10 ^ suc k → eqb (digitByte (n / 10 ^ k)) 48 ≡ false
-unfolding digitByte
+first : (k n : ℕ) → 10 ^ k ≤ n → n < 10 ^ suc k → eqb (digit_byte_spec (n / 10 ^ k)) 48 ≡ false
+unfolding digit_byte_spec
 first k n l h =
     let p : 0 < 10 ^ k = one-le-pow k 10 (omega arith) in
     let low : 1 ≤ n / 10 ^ k = (le-div_iff_mul-le p).1 (rw one-mul l) in
@@ -63,27 +63,27 @@ first k n l h =
     rw (lt-ltb _ _ high) (ne_eqb (48 + n / 10 ^ k) 48 (λ e. omega arith))
 
 -- as many digits as a number has are written well
-pub written-well : (n k : ℕ) → n < 10 ^ suc k → (0 < k → 10 ^ k ≤ n) → needlessZero (digitsOf 10 (suc k) n) ≡ false
-unfolding needlessZero digitsOf
-written-well n zero h l = refl
-written-well n (suc k) h l =
-    let long : 1 < suc (suc (length (digitsOf 10 k (n % 10 ^ suc k % 10 ^ k)))) = omega arith in
+pub written_well : (n k : ℕ) → n < 10 ^ suc k → (0 < k → 10 ^ k ≤ n) → needless_zero (digits_of_spec 10 (suc k) n) ≡ false
+unfolding needless_zero digits_of_spec
+written_well n zero h l = refl
+written_well n (suc k) h l =
+    let long : 1 < suc (suc (length (digits_of_spec 10 k (n % 10 ^ suc k % 10 ^ k)))) = omega arith in
     rw (lt-ltb _ _ long) (first (suc k) n (l (omega arith)) h)
 
-pub decimal-read : (n : ℕ) → n < decimalLimit → decimal (decimalText n) ≡ Is n
-unfolding decimal decimalText
-decimal-read n h = go (some-width n h)
+pub decimal_read : (n : ℕ) → n < decimal_limit → decimal (decimal_text n) ≡ Is n
+unfolding decimal decimal_text
+decimal_read n h = go (some_width n h)
   where
-    go : Some n → decimal (digitsOf 10 (decimalWidth n) n) ≡ Is n
+    go : Some n → decimal (digits_of_spec 10 (decimal_width_spec n) n) ≡ Is n
     go s =
-        let long : 1 ≤ length (digitsOf 10 (suc s.k) n) = omega (arith, length_digits 10 (suc s.k) n) in
-        let short : length (digitsOf 10 (suc s.k) n) ≤ 5 = omega (arith, length_digits 10 (suc s.k) n, s.wide.few) in
-        rw (s.wide.width, le-ltb _ _ long, le-ltb _ _ short, written-well n s.k s.wide.below s.wide.above) (numeral-read 10 (omega arith) (omega arith) (suc s.k) n s.wide.below)
+        let long : 1 ≤ length (digits_of_spec 10 (suc s.k) n) = omega (arith, length_digits 10 (suc s.k) n) in
+        let short : length (digits_of_spec 10 (suc s.k) n) ≤ 5 = omega (arith, length_digits 10 (suc s.k) n, s.wide.few) in
+        rw (s.wide.width, le-ltb _ _ long, le-ltb _ _ short, written_well n s.k s.wide.below s.wide.above) (numeral_read 10 (omega arith) (omega arith) (suc s.k) n s.wide.below)
 
 -- a first digit of more than one that is not 0
-pub not-less : (b : ℕ) (t : List ℕ) (n : ℕ) → needlessZero (b ∷ t) ≡ false → b ≡ digitByte (n / 10 ^ length t) → 0 < length t → 10 ^ length t ≤ n
-unfolding needlessZero digitByte
-not-less b t n z e h = go (ltb n (10 ^ length t)) refl
+pub not_less : (b : ℕ) (t : List ℕ) (n : ℕ) → needless_zero (b ∷ t) ≡ false → b ≡ digit_byte_spec (n / 10 ^ length t) → 0 < length t → 10 ^ length t ≤ n
+unfolding needless_zero digit_byte_spec
+not_less b t n z e h = go (ltb n (10 ^ length t)) refl
   where
     go : (q : Bool) → ltb n (10 ^ length t) ≡ q → 10 ^ length t ≤ n
     go true q =
@@ -93,41 +93,41 @@ not-less b t n z e h = go (ltb n (10 ^ length t)) refl
         absurd (let x : ◌≡◌ {A = ℕ} 0 1 = cc in omega arith)
     go false q = ltb-false _ _ q
 
-of-wide : (l : List ℕ) (n k : ℕ) → Wide n k → l ≡ digitsOf 10 (suc k) n → DecimalWritten l n
-unfolding decimalText
-of-wide l n k w e =
+of_wide : (l : List ℕ) (n k : ℕ) → Wide n k → l ≡ digits_of_spec 10 (suc k) n → DecimalWritten l n
+unfolding decimal_text
+of_wide l n k w e =
     let top : 10 ^ suc k ≤ 10 ^ 5 = pow-le-pow_right {n = 10} (omega arith) {i = suc k} {j = 5} w.few in
     record { small = lt_of_lt_of_le w.below top; text = rw w.width e }
 
 never : {A : Type 0} {n : ℕ} → Not ≡ Is n → A
 never e = absurd (let z : ◌≡◌ {A = ℕ} 0 1 = cc in omega arith)
 
-from-digits : (b : ℕ) (t : List ℕ) (n : ℕ) → length t < 5 → needlessZero (b ∷ t) ≡ false → NumeralText 10 (b ∷ t) (suc (length t)) n
+from_digits : (b : ℕ) (t : List ℕ) (n : ℕ) → length t < 5 → needless_zero (b ∷ t) ≡ false → NumeralText 10 (b ∷ t) (suc (length t)) n
     → DecimalWritten (b ∷ t) n
-unfolding digitsOf
-from-digits b t n f z w =
-    of-wide (b ∷ t) n (length t) (wide_of (length t) n f w.fits (not-less b t n z (ap (λ (l : List ℕ). get_or l 0 0) w.text))) w.text
+unfolding digits_of_spec
+from_digits b t n f z w =
+    of_wide (b ∷ t) n (length t) (wide_of (length t) n f w.fits (not_less b t n z (ap (λ (l : List ℕ). get_or l 0 0) w.text))) w.text
 
-pub decimal-written : (l : List ℕ) (n : ℕ) → decimal l ≡ Is n → DecimalWritten l n
+pub decimal_written : (l : List ℕ) (n : ℕ) → decimal l ≡ Is n → DecimalWritten l n
 unfolding decimal
-decimal-written [] n e = never e
-decimal-written (b ∷ t) n e = go (ltb (suc (length t)) 1) (ltb 5 (suc (length t))) (needlessZero (b ∷ t)) refl refl e
+decimal_written [] n e = never e
+decimal_written (b ∷ t) n e = go (ltb (suc (length t)) 1) (ltb 5 (suc (length t))) (needless_zero (b ∷ t)) refl refl e
   where
-    go : (p q r : Bool) → ltb 5 (suc (length t)) ≡ q → needlessZero (b ∷ t) ≡ r
-        → cond p Not (cond q Not (cond r Not (numeralFrom 10 0 (b ∷ t)))) ≡ Is n → DecimalWritten (b ∷ t) n
+    go : (p q r : Bool) → ltb 5 (suc (length t)) ≡ q → needless_zero (b ∷ t) ≡ r
+        → cond p Not (cond q Not (cond r Not (numeral_from 10 0 (b ∷ t)))) ≡ Is n → DecimalWritten (b ∷ t) n
     go true q r f z e = never e
     go false true r f z e = never e
     go false false true f z e = never e
     go false false false f z e =
         let few : suc (length t) ≤ 5 = ltb-false _ _ f in
-        from-digits b t n few z (numeral-written 10 (omega arith) (omega arith) (b ∷ t) (suc (length t)) n refl e)
+        from_digits b t n few z (numeral_written 10 (omega arith) (omega arith) (b ∷ t) (suc (length t)) n refl e)
 
 -- no more digits are written than can be read
-pub width_few : (n : ℕ) → decimalWidth n ≤ decimalDigits
-unfolding decimalWidth
+pub width_few : (n : ℕ) → decimal_width_spec n ≤ decimal_digits
+unfolding decimal_width_spec
 width_few n = go (ltb n 10) (ltb n 100) (ltb n 1000) (ltb n 10000)
   where
-    go : (a b c d : Bool) → cond a 1 (cond b 2 (cond c 3 (cond d 4 5))) ≤ decimalDigits
+    go : (a b c d : Bool) → cond a 1 (cond b 2 (cond c 3 (cond d 4 5))) ≤ decimal_digits
     go true b c d = omega arith
     go false true c d = omega arith
     go false false true d = omega arith
@@ -135,14 +135,14 @@ width_few n = go (ltb n 10) (ltb n 100) (ltb n 1000) (ltb n 10000)
     go false false false false = omega arith
 
 -- and as many as hold the number
-pub width-holds : (n : ℕ) → n < decimalLimit → n < 10 ^ decimalWidth n
-width-holds n h = let s : Some n = some-width n h in rw s.wide.width s.wide.below
+pub width_holds : (n : ℕ) → n < decimal_limit → n < 10 ^ decimal_width_spec n
+width_holds n h = let s : Some n = some_width n h in rw s.wide.width s.wide.below
 
 -- a decimal's length is its width
-pub decimal-long : (n : ℕ) → length (decimalText n) ≡ decimalWidth n
-unfolding decimalText
-decimal-long n = length_digits 10 (decimalWidth n) n
+pub decimal_long : (n : ℕ) → length (decimal_text n) ≡ decimal_width_spec n
+unfolding decimal_text
+decimal_long n = length_digits 10 (decimal_width_spec n) n
 
-pub length-decimal : (n : ℕ) → n < decimalLimit → length (decimalText n) ≤ decimalDigits
-unfolding decimalText
-length-decimal n h = rw (length_digits 10 (decimalWidth n) n) (width_few n)
+pub length_decimal : (n : ℕ) → n < decimal_limit → length (decimal_text n) ≤ decimal_digits
+unfolding decimal_text
+length_decimal n h = rw (length_digits 10 (decimal_width_spec n) n) (width_few n)

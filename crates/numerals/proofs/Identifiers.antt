@@ -8,24 +8,24 @@ use lib.Dec.{eqb}
 use lib.ListN.{length}
 use borrow.Author.Tests.{eq-eqb, eqb-true}
 use Rattle.numerals.specs.declared.Number.TheVariants.{Is, Not}
-use Rattle.numerals.specs.Numeral.{numeralFrom, identifier}
-use Rattle.numerals.specs.Written.{hexadecimalLimit, identifierText, IdentifierWritten}
-use Rattle.numerals.proofs.Digits.{length_digits, numeral-read, NumeralText, numeral-written}
+use Rattle.numerals.specs.Numeral.{numeral_from, identifier}
+use Rattle.numerals.specs.Written.{hexadecimal_limit, identifier_text, IdentifierWritten}
+use Rattle.numerals.proofs.Digits.{length_digits, numeral_read, NumeralText, numeral_written}
 
-pub length-identifier : (n : ℕ) → length (identifierText n) ≡ 8
-unfolding identifierText
-length-identifier n = length_digits 16 8 n
+pub length_identifier : (n : ℕ) → length (identifier_text n) ≡ 8
+unfolding identifier_text
+length_identifier n = length_digits 16 8 n
 
-pub identifier-read : (n : ℕ) → n < hexadecimalLimit → identifier (identifierText n) ≡ Is n
-unfolding identifier identifierText
-identifier-read n h = rw (eq-eqb _ _ (length_digits 16 8 n)) (numeral-read 16 (omega arith) (omega arith) 8 n h)
+pub identifier_read : (n : ℕ) → n < hexadecimal_limit → identifier (identifier_text n) ≡ Is n
+unfolding identifier identifier_text
+identifier_read n h = rw (eq-eqb _ _ (length_digits 16 8 n)) (numeral_read 16 (omega arith) (omega arith) 8 n h)
 
-pub identifier-written : (l : List ℕ) (n : ℕ) → identifier l ≡ Is n → IdentifierWritten l n
-unfolding identifier identifierText
-identifier-written l n e = go (eqb (length l) 8) refl e
+pub identifier_written : (l : List ℕ) (n : ℕ) → identifier l ≡ Is n → IdentifierWritten l n
+unfolding identifier identifier_text
+identifier_written l n e = go (eqb (length l) 8) refl e
   where
-    go : (b : Bool) → eqb (length l) 8 ≡ b → cond b (numeralFrom 16 0 l) Not ≡ Is n → IdentifierWritten l n
+    go : (b : Bool) → eqb (length l) 8 ≡ b → cond b (numeral_from 16 0 l) Not ≡ Is n → IdentifierWritten l n
     go true q e =
-        let w : NumeralText 16 l 8 n = numeral-written 16 (omega arith) (omega arith) l 8 n (eqb-true _ _ q) e in
+        let w : NumeralText 16 l 8 n = numeral_written 16 (omega arith) (omega arith) l 8 n (eqb-true _ _ q) e in
         record { small = w.fits; text = w.text }
     go false q e = absurd (let z : ◌≡◌ {A = ℕ} 0 1 = cc in omega arith)

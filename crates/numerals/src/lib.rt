@@ -1,8 +1,8 @@
 // The digits of a route book's numbers, and an identifier of exactly 8 of them. All public functions answer for every input.
 // specs/ says what all numbers of a book are, as they are read and as they are written.
 ghost use Rattle.std.specs.Prelude.{◌≡◌, ◌≤◌, ◌<◌, ◌^◌, length};
-ghost use Rattle.numerals.specs.Numeral.{digitValue, numeralFrom, identifier, or_zero};
-ghost use Rattle.numerals.specs.Written.{hexadecimalLimit};
+ghost use Rattle.numerals.specs.Numeral.{digit_value, numeral_from, identifier, or_zero};
+ghost use Rattle.numerals.specs.Written.{hexadecimal_limit};
 
 // How many digits an identifier has.
 pub const IDENTIFIER_DIGITS: usize = 8;
@@ -16,7 +16,7 @@ pub enum Number {
 
 // The value of a digit 0-9 A-F; 16 for a byte that is none.
 pub fn digit(b: u8) -> u64
-    ensures { result ≡ digitValue b }
+    ensures { result ≡ digit_value b }
 {
     if b < 58 {
         if b < 48 {
@@ -35,8 +35,8 @@ pub fn digit(b: u8) -> u64
 
 // The number that digits of a base write, where they are so few that it fits 32 bits.
 fn numeral(s: &[u8], base: u64) -> Number
-    requires { (base ^ (length s.now) ≤ hexadecimalLimit) × (0 < base) }
-    ensures { result ≡ numeralFrom base 0 s.now }
+    requires { (base ^ (length s.now) ≤ hexadecimal_limit) × (0 < base) }
+    ensures { result ≡ numeral_from base 0 s.now }
 {
     let mut v: u64 = 0;
     let mut i: usize = 0;

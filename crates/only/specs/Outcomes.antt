@@ -15,7 +15,7 @@ use denote.Signature.{type_at}
 use denote.Ref.{MutBor, at_last}
 use denote.Triple.Entry.{Args, Res}
 use denote.Triple.Clauses.{Ended, AtExit, Lasts, at_exit, Clauses}
-use Rattle.only.specs.Only.{Only, only-this}
+use Rattle.only.specs.Only.{Only, only_this}
 
 module _ (M : Type 1) (T : Ended) where
   -- a contract as it is generated
@@ -47,8 +47,8 @@ module _ (M : Type 1) (T : Ended) where
     abbrev pub ensured : (c : Calling) → Result c → Seen c → SProp c.𝓤
     ensured c r e = (contract c.𝓤 c c.mem c.run c.κs c.arguments).ensures c.ghost r e
 
-    abbrev pub ensuredOf : (c : Calling) → Ending c → SProp c.𝓤
-    ensuredOf c o = ensured c o.0 (at_exit T c.κs c.arguments o.1)
+    abbrev pub ensured_of : (c : Calling) → Ending c → SProp c.𝓤
+    ensured_of c o = ensured c o.0 (at_exit T c.κs c.arguments o.1)
 
     -- one result, whatever is seen at exit
     pub record OneResult : Type 2 where
@@ -60,22 +60,22 @@ module _ (M : Type 1) (T : Ended) where
 
     -- one outcome
     pub record OneOutcome : Type 2 where
-      pub only : (c : Calling) → Only c.𝓤 (ensuredOf c)
+      pub only : (c : Calling) → Only c.𝓤 (ensured_of c)
 
 module _ {M : Type 1} {T : Ended} {contract : Generated M T} where
   -- of a contract that states what the result is
-  pub result-is : (f : (c : Calling M T contract) → Result M T contract c)
+  pub result_is : (f : (c : Calling M T contract) → Result M T contract c)
       → ◌≡◌ {A = (c : Calling M T contract) → Result M T contract c → Seen M T contract c → SProp c.𝓤} (ensured M T contract) (λ c r e. fact c.𝓤 (r ≡ f c))
       → OneResult M T contract
-  result-is f says = record { only = λ c e. only-this c.𝓤 _ (type_at T.signature.result c.κs).coded (f c) (λ r. ap (λ h. h c r e) says) }
+  result_is f says = record { only = λ c e. only_this c.𝓤 _ (type_at T.signature.result c.κs).coded (f c) (λ r. ap (λ h. h c r e) says) }
 
   -- of a contract that states what a slice holds, and how many entries
-  pub content-is : {slice : (c : Calling M T contract) → MutBor (List ℕ) → Result M T contract c} {Where : Calling M T contract → Type 0}
+  pub content_is : {slice : (c : Calling M T contract) → MutBor (List ℕ) → Result M T contract c} {Where : Calling M T contract → Type 0}
       → (f : Calling M T contract → List ℕ) (n : Calling M T contract → ℕ) → ((c : Calling M T contract) → Where c → length (f c) ≡ n c)
       → ◌≡◌ {A = (c : Calling M T contract) → MutBor (List ℕ) → Seen M T contract c → SProp c.𝓤}
       (λ c s e. ensured M T contract c (slice c s) e) (λ c s e. fact c.𝓤 ((s.now ≡ f c) × (length s.now ≡ n c)))
       → OneContent M T contract slice Where
-  content-is f n many says =
+  content_is f n many says =
       record {
         only = λ c s e h. record {
           coded = coded_list coded_ℕ;
@@ -88,12 +88,12 @@ module _ {M : Type 1} {T : Ended} {contract : Generated M T} where
       }
 
   -- of a contract that states what the outcome is, written as an X
-  pub outcome-is : {X : Type 0} → Coded X → (to : (c : Calling M T contract) → Ending M T contract c → X) (from : (c : Calling M T contract) → X → Ending M T contract c)
+  pub outcome_is : {X : Type 0} → Coded X → (to : (c : Calling M T contract) → Ending M T contract c → X) (from : (c : Calling M T contract) → X → Ending M T contract c)
       → ((c : Calling M T contract) (o : Ending M T contract c) → from c (to c o) ≡ o) → ((c : Calling M T contract) (x : X) → to c (from c x) ≡ x)
       → (f : Calling M T contract → X)
-      → ◌≡◌ {A = (c : Calling M T contract) → Ending M T contract c → SProp c.𝓤} (ensuredOf M T contract) (λ c o. fact c.𝓤 (to c o ≡ f c))
+      → ◌≡◌ {A = (c : Calling M T contract) → Ending M T contract c → SProp c.𝓤} (ensured_of M T contract) (λ c o. fact c.𝓤 (to c o ≡ f c))
       → OneOutcome M T contract
-  outcome-is coded to from back forth f says =
+  outcome_is coded to from back forth f says =
       record {
         only = λ c. record {
           coded = coded_via coded (to c) (λ o p e. sym (back c o) ∙ (ap (from c) e ∙ back c p));

@@ -14,7 +14,7 @@ use contract.Lifetimes.{Lfts}
 use contract.Monad.{Fun}
 use denote.Ref.{MutBor, at_last}
 use denote.Triple.Clauses.{AtExit}
-use Rattle.only.specs.Only.{Only, only-this}
+use Rattle.only.specs.Only.{Only, only_this}
 use Rattle.parts.specs.Parts.{index_of}
 use Rattle.parts.specs.contracts.find as find
 use Rattle.parts.specs.contracts.part_before as part-before
@@ -22,16 +22,16 @@ use Rattle.parts.specs.contracts.part_after as part-after
 use Rattle.parts.specs.contracts.part_from as part-from
 
 module _ {M : Type 1} {𝓤 : Ura M} (𝓛 : Logic 𝓤) (mem : Memory → SProp 𝓤) (run : Routine → Fun 𝓤) (κs : Lfts 1) (s : MutBor (List ℕ)) where
-  pub one-find : (b : ℕ) (e : AtExit find.ended κs) → Only 𝓤 (λ r. (find.clauses 𝓛 mem run κs (s, (b, tt))).ensures tt r e)
-  one-find b e = only-this 𝓤 _ coded_ℕ (index_of b s.now) (λ r. refl)
+  pub one_find : (b : ℕ) (e : AtExit find.ended κs) → Only 𝓤 (λ r. (find.clauses 𝓛 mem run κs (s, (b, tt))).ensures tt r e)
+  one_find b e = only_this 𝓤 _ coded_ℕ (index_of b s.now) (λ r. refl)
 
   -- `part` points to what is returned
   module _ (part : MutBor (List ℕ)) (k : ℕ) where
-    pub one-part-before : (e : AtExit part-before.ended κs) → Only 𝓤 (λ x. (part-before.clauses 𝓛 mem run κs (s, (k, tt))).ensures tt (at_last part x) e)
-    one-part-before e = only-this 𝓤 _ (coded_list coded_ℕ) (take k s.now) (λ x. refl)
+    pub one_part_before : (e : AtExit part-before.ended κs) → Only 𝓤 (λ x. (part-before.clauses 𝓛 mem run κs (s, (k, tt))).ensures tt (at_last part x) e)
+    one_part_before e = only_this 𝓤 _ (coded_list coded_ℕ) (take k s.now) (λ x. refl)
 
-    pub one-part-after : (e : AtExit part-after.ended κs) → Only 𝓤 (λ x. (part-after.clauses 𝓛 mem run κs (s, (k, tt))).ensures tt (at_last part x) e)
-    one-part-after e = only-this 𝓤 _ (coded_list coded_ℕ) (drop (k + 1) s.now) (λ x. refl)
+    pub one_part_after : (e : AtExit part-after.ended κs) → Only 𝓤 (λ x. (part-after.clauses 𝓛 mem run κs (s, (k, tt))).ensures tt (at_last part x) e)
+    one_part_after e = only_this 𝓤 _ (coded_list coded_ℕ) (drop (k + 1) s.now) (λ x. refl)
 
-    pub one-part-from : (e : AtExit part-from.ended κs) → Only 𝓤 (λ x. (part-from.clauses 𝓛 mem run κs (s, (k, tt))).ensures tt (at_last part x) e)
-    one-part-from e = only-this 𝓤 _ (coded_list coded_ℕ) (drop k s.now) (λ x. refl)
+    pub one_part_from : (e : AtExit part-from.ended κs) → Only 𝓤 (λ x. (part-from.clauses 𝓛 mem run κs (s, (k, tt))).ensures tt (at_last part x) e)
+    one_part_from e = only_this 𝓤 _ (coded_list coded_ℕ) (drop k s.now) (λ x. refl)

@@ -9,9 +9,9 @@ join s (p ∷ []) = p
 join s (p ∷ q ∷ ps) = p ++ s ∷ join s (q ∷ ps)
 
 -- lines, each ended by a newline
-unfoldable pub textOfLines : List (List ℕ) → List ℕ
-textOfLines [] = []
-textOfLines (l ∷ ls) = l ++ newline ∷ textOfLines ls
+unfoldable pub text_of_lines : List (List ℕ) → List ℕ
+text_of_lines [] = []
+text_of_lines (l ∷ ls) = l ++ newline ∷ text_of_lines ls
 
 -- no byte of the list is s
 pub data Lacks (s : ℕ) : List ℕ → Type 0 where

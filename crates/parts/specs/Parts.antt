@@ -8,14 +8,14 @@ abbrev pub newline : ℕ
 newline = 10
 
 -- a byte before the first of the parts
-unfoldable pub onFirst : ℕ → List (List ℕ) → List (List ℕ)
-onFirst b [] = (b ∷ []) ∷ []
-onFirst b (p ∷ ps) = (b ∷ p) ∷ ps
+unfoldable pub on_first : ℕ → List (List ℕ) → List (List ℕ)
+on_first b [] = (b ∷ []) ∷ []
+on_first b (p ∷ ps) = (b ∷ p) ∷ ps
 
 -- the parts of a list between the bytes that equal s: one more than there are such bytes
 unfoldable pub split : ℕ → List ℕ → List (List ℕ)
 split s [] = [] ∷ []
-split s (b ∷ t) = cond (eqb b s) ([] ∷ split s t) (onFirst b (split s t))
+split s (b ∷ t) = cond (eqb b s) ([] ∷ split s t) (on_first b (split s t))
 
 -- the fields of a line: parted by one tab
 abbrev pub fields : List ℕ → List (List ℕ)

@@ -10,41 +10,41 @@ use types.Logic.{Logic}
 use contract.Monad.{Fun}
 use denote.Triple.Clauses.{AtExit}
 use Rattle.only.specs.Only.{Only}
-use Rattle.only.specs.Outcomes.{OneResult, OneOutcome, result-is, outcome-is}
-use Rattle.books.specs.Belonging.{inRun}
+use Rattle.only.specs.Outcomes.{OneResult, OneOutcome, result_is, outcome_is}
+use Rattle.books.specs.Belonging.{in_run}
 use Rattle.books.specs.Book.{placement}
-use Rattle.books.specs.Lines.{isIn, misplaced}
+use Rattle.books.specs.Lines.{is_in, misplaced}
 use Rattle.books.specs.Words.{side_by_side}
 use Rattle.masks.proofs.Told.{same_bits}
-use Rattle.masks.proofs.OneOutcome.{one-mask}
+use Rattle.masks.proofs.OneOutcome.{one_mask}
 use Rattle.placing.specs.declared.Filled.{Filled}
 use Rattle.placing.specs.Placing.{FrameRoom}
 use Rattle.placing.specs.Filling.{FilledMore}
-use Rattle.placing.specs.Stamps.{stampedTest}
-use Rattle.placing.proofs.Runs.{run_of, run-bits}
-use Rattle.placing.proofs.Filling.{more-there}
+use Rattle.placing.specs.Stamps.{stamped_test}
+use Rattle.placing.proofs.Runs.{run_of, run_bits}
+use Rattle.placing.proofs.Filling.{more_there}
 use Rattle.placing.specs.contracts.Filled as the-filled
 use Rattle.placing.specs.contracts.run as run-fn
 use Rattle.placing.specs.contracts.nothing as nothing
 use Rattle.placing.specs.contracts.filled_with as filled-with
 use Rattle.placing.specs.contracts.is_misplaced as is-misplaced
 use Rattle.placing.specs.contracts.is_repeated as is-repeated
-use Rattle.placing.specs.contracts.well_placed as well-placed
+use Rattle.placing.specs.contracts.well_placed as well_placed
 
 -- one mask has the bits and marks of a signal more
-more-once : (f : Filled) (number start bits : ℕ) (g h : Filled) → FilledMore f number start bits g → FilledMore f number start bits h → g ≡ h
-more-once f number start bits g h a b =
-    let p = same_bits g.bits h.bits (λ k. a.bits-more k ∙ sym (b.bits-more k)) in
-    let q = same_bits g.marks h.marks (λ j. a.marks-more j ∙ sym (b.marks-more j)) in
+more_once : (f : Filled) (number start bits : ℕ) (g h : Filled) → FilledMore f number start bits g → FilledMore f number start bits h → g ≡ h
+more_once f number start bits g h a b =
+    let p = same_bits g.bits h.bits (λ k. a.bits_more k ∙ sym (b.bits_more k)) in
+    let q = same_bits g.marks h.marks (λ j. a.marks_more j ∙ sym (b.marks_more j)) in
     λ i. record { bits = p i; marks = q i }
 
 module _ {M : Type 1} {𝓤 : Ura M} (𝓛 : Logic 𝓤) (mem : Memory → SProp 𝓤) (run : Routine → Fun 𝓤) where
   -- where its `requires` holds
-  pub one-run : (start bits : ℕ) → FrameRoom start bits → (e : AtExit run-fn.ended tt) → Only 𝓤 (λ r. (run-fn.clauses 𝓛 mem run tt (start, (bits, tt))).ensures tt r e)
-  one-run start bits room e = one-mask 𝓤 _ (inRun start bits) (run_of start bits) (run-bits start bits room.to) (λ r. refl)
+  pub one_run : (start bits : ℕ) → FrameRoom start bits → (e : AtExit run-fn.ended tt) → Only 𝓤 (λ r. (run-fn.clauses 𝓛 mem run tt (start, (bits, tt))).ensures tt r e)
+  one_run start bits room e = one_mask 𝓤 _ (in_run start bits) (run_of start bits) (run_bits start bits room.to) (λ r. refl)
 
-  pub one-nothing : (e : AtExit nothing.ended tt) → Only 𝓤 (λ r. (nothing.clauses 𝓛 mem run tt tt).ensures tt r e)
-  one-nothing e =
+  pub one_nothing : (e : AtExit nothing.ended tt) → Only 𝓤 (λ r. (nothing.clauses 𝓛 mem run tt tt).ensures tt r e)
+  one_nothing e =
       record {
         coded = (the-filled.the_row).coded;
         outcome = record { bits = 0; marks = 0 };
@@ -55,28 +55,28 @@ module _ {M : Type 1} {𝓤 : Ura M} (𝓛 : Logic 𝓤) (mem : Memory → SProp
       }
 
   -- where its `requires` holds
-  pub one-filled-with : (f : Filled) (number start bits : ℕ) → FrameRoom start bits
+  pub one_filled_with : (f : Filled) (number start bits : ℕ) → FrameRoom start bits
       → (e : AtExit filled-with.ended tt) → Only 𝓤 (λ r. (filled-with.clauses 𝓛 mem run tt (f, (number, (start, (bits, tt))))).ensures tt r e)
-  one-filled-with f number start bits room e =
-      let more = more-there f number start bits room in
+  one_filled_with f number start bits room e =
+      let more = more_there f number start bits room in
       record {
         coded = (the-filled.the_row).coded;
         outcome = more.0;
         Says = FilledMore f number start bits;
         says = λ r. refl;
         there = more.1;
-        alone = λ r h. more-once f number start bits r more.0 h more.1;
+        alone = λ r h. more_once f number start bits r more.0 h more.1;
       }
 
 module _ (M : Type 1) where
-  pub one-is-misplaced : OneResult M is-misplaced.ended is-misplaced.clauses
-  one-is-misplaced = result-is (λ c. misplaced (placement c.arguments.0 c.arguments.1.0)) refl
+  pub one_is_misplaced : OneResult M is-misplaced.ended is-misplaced.clauses
+  one_is_misplaced = result_is (λ c. misplaced (placement c.arguments.0 c.arguments.1.0)) refl
 
-  pub one-is-repeated : OneResult M is-repeated.ended is-repeated.clauses
-  one-is-repeated = result-is (λ c. isIn c.arguments.1.1.0 c.arguments.0.now) refl
+  pub one_is_repeated : OneResult M is-repeated.ended is-repeated.clauses
+  one_is_repeated = result_is (λ c. is_in c.arguments.1.1.0 c.arguments.0.now) refl
 
-  pub one-well-placed : OneOutcome M well-placed.ended well-placed.clauses
-  one-well-placed =
-      outcome-is (coded× coded_bool (coded_list coded_ℕ)) (λ c o. (o.0, o.1.1.1.1.1.1.0)) (λ c x. (x.0, (tt, (tt, (tt, (tt, (tt, (x.1, (tt, tt)))))))))
+  pub one_well_placed : OneOutcome M well_placed.ended well_placed.clauses
+  one_well_placed =
+      outcome_is (coded× coded_bool (coded_list coded_ℕ)) (λ c o. (o.0, o.1.1.1.1.1.1.0)) (λ c x. (x.0, (tt, (tt, (tt, (tt, (tt, (x.1, (tt, tt)))))))))
       (λ c o. refl) (λ c x. refl)
-      (λ c. stampedTest (side_by_side c.arguments.0.now c.arguments.1.0.now) c.arguments.1.1.1.1.1.1.0 c.arguments.1.1.1.1.1.0.now) refl
+      (λ c. stamped_test (side_by_side c.arguments.0.now c.arguments.1.0.now) c.arguments.1.1.1.1.1.1.0 c.arguments.1.1.1.1.1.0.now) refl

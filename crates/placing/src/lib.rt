@@ -1,17 +1,17 @@
 // The signals of one message: whether one stands where it may, and whether all of them do.
 ghost use Rattle.std.specs.Prelude.{◌≡◌, Bool, List, ℕ, ◌-◌, ◌≤◌, ◌<◌, length};
-ghost use Rattle.rows.specs.Rule.{mostBits};
-ghost use Rattle.catalogue.specs.Find.{bitsOf};
+ghost use Rattle.rows.specs.Rule.{most_bits};
+ghost use Rattle.catalogue.specs.Find.{bits_of_spec};
 ghost use Rattle.catalogue.specs.Places.{StartColumns};
-ghost use Rattle.books.specs.Belonging.{inRun};
+ghost use Rattle.books.specs.Belonging.{in_run};
 ghost use Rattle.books.specs.Book.{placement};
-ghost use Rattle.books.specs.Lines.{isIn, misplaced, frameBits};
+ghost use Rattle.books.specs.Lines.{is_in, misplaced, frame_bits};
 ghost use Rattle.books.specs.Words.{side_by_side};
 ghost use Rattle.masks.specs.Bit.{bit};
 ghost use Rattle.placing.specs.Placing.{FrameRoom};
 ghost use Rattle.placing.specs.Filling.{Marks, FilledMore};
-ghost use Rattle.placing.specs.Stamps.{atFixedStart, Below, stampedTest};
-ghost use Rattle.record.specs.Limits.{signalLimit, startLimit};
+ghost use Rattle.placing.specs.Stamps.{at_fixed_start, Below, stamped_test};
+ghost use Rattle.record.specs.Limits.{signal_limit, start_limit};
 
 use catalogue::{CHECKSUM_PLACE, COUNTER_PLACE, Place};
 use record::{CHECKSUM, CHECKSUM_START, COUNTER, COUNTER_START};
@@ -29,7 +29,7 @@ const MARKS: u32 = masks::WIDTH as u32;
 
 // Whether a signal of the catalogue stands where it may not, by itself.
 pub fn is_misplaced(number: u32, start: u32, bits: u32) -> bool
-    requires { (start < startLimit) × (bits ≤ mostBits) × (bits ≡ bitsOf number) }
+    requires { (start < start_limit) × (bits ≤ most_bits) × (bits ≡ bits_of_spec number) }
     ensures { result ≡ misplaced (placement number start) }
 {
     if start + bits > FRAME_BITS {
@@ -53,15 +53,15 @@ fn wide(last: u8) -> u32
 // A mask of the frame bits of a signal.
 pub fn run(start: u32, bits: u32) -> u64
     requires { FrameRoom start bits }
-    ensures { (k : ℕ) → bit result k ≡ inRun start bits k }
+    ensures { (k : ℕ) → bit result k ≡ in_run start bits k }
 {
     (ALL_BITS >> (FRAME_BITS - bits)) << start
 }
 
 // The same by the last start that its bits leave it: they are as many as a frame has from there on.
 fn run_up_to(start: u32, last: u32) -> u64
-    requires { (start ≤ last) × (last < frameBits) }
-    ensures { (k : ℕ) → bit result k ≡ inRun start (frameBits - last) k }
+    requires { (start ≤ last) × (last < frame_bits) }
+    ensures { (k : ℕ) → bit result k ≡ in_run start (frame_bits - last) k }
 {
     (ALL_BITS >> last) << start
 }
@@ -95,7 +95,7 @@ pub fn filled_with(filled: Filled, number: u32, start: u32, bits: u32) -> Filled
 // Whether a number stands among those whose marks are filled: they are looked at only where one of them has the same mark.
 pub fn is_repeated(numbers: &[u32], filled: Filled, number: u32) -> bool
     requires { Marks numbers.now filled.marks }
-    ensures { result ≡ isIn number numbers.now }
+    ensures { result ≡ is_in number numbers.now }
 {
     if masks::has(filled.marks, number % MARKS) {
         return columns::holds(numbers, number);
@@ -105,7 +105,7 @@ pub fn is_repeated(numbers: &[u32], filled: Filled, number: u32) -> bool
 
 // Whether a place is that of a signal with a start of its own, and this is the start.
 fn has_fixed_start(place: usize, start: u32) -> bool
-    ensures { result ≡ atFixedStart place start }
+    ensures { result ≡ at_fixed_start place start }
 {
     if place == CHECKSUM_PLACE {
         return start == CHECKSUM_START;
@@ -130,8 +130,8 @@ pub fn well_placed(
     stamps: &mut [u8],
     stamp: u8,
 ) -> bool
-    requires { (length numbers.now ≤ signalLimit) × (length starts.now ≡ length numbers.now) × StartColumns above.now ends.now lasts.now × Below stamps.old stamp }
-    ensures { ◌≡◌ {A = Bool × List ℕ} (result, stamps.new) (stampedTest (side_by_side numbers.now starts.now) stamp stamps.old) }
+    requires { (length numbers.now ≤ signal_limit) × (length starts.now ≡ length numbers.now) × StartColumns above.now ends.now lasts.now × Below stamps.old stamp }
+    ensures { ◌≡◌ {A = Bool × List ℕ} (result, stamps.new) (stamped_test (side_by_side numbers.now starts.now) stamp stamps.old) }
 {
     let mut filled: u64 = 0;
     let mut left = columns::length_of(numbers);

@@ -8,34 +8,34 @@ use Rattle.power.specs.declared.PowerAnswer.TheVariants.{Taken, NeitherOpenNorCl
 use Rattle.power.specs.declared.Share.TheVariants.{Named}
 use Rattle.power.specs.declared.State.{State}
 use Rattle.power.specs.declared.State.TheVariants.{Off, Rising, Precharge, Both, On, Falling, Fault}
-use Rattle.power.specs.Shares.{seenWith}
-use Rattle.power.specs.Observed.{prechargeComplete}
+use Rattle.power.specs.Shares.{seen_with}
+use Rattle.power.specs.Observed.{precharge_complete_spec}
 use Rattle.power.specs.Pictures.{picture}
-use Rattle.power.specs.Rules.{rule3, rule4, stepElse, nextState}
-use Rattle.power.specs.Refusals.{relaysFit, commandsFit, readingsFit, stateAndAnswer, steppedIfFit, step_of}
-use Rattle.power.specs.Before.{completeBeforeP6, rule3BeforeP6, nextStateBeforeP6, stepBeforeP6}
+use Rattle.power.specs.Rules.{rule3, rule4, step_else, next_state_spec}
+use Rattle.power.specs.Refusals.{relays_fit_spec, commands_fit_spec, readings_fit_spec, state_and_answer, stepped_if_fit, step_of}
+use Rattle.power.specs.Before.{complete_before_p6, rule3_before_p6, next_state_before_p6, step_before_p6}
 
-pub complete-as-before : (inside outside : Raw) → prechargeComplete inside outside (Named 95) ≡ completeBeforeP6 inside outside
-unfolding prechargeComplete completeBeforeP6
-complete-as-before inside outside = refl
+pub complete_as_before : (inside outside : Raw) → precharge_complete_spec inside outside (Named 95) ≡ complete_before_p6 inside outside
+unfolding precharge_complete_spec complete_before_p6
+complete_as_before inside outside = refl
 
 module _ (seen : Observation) where
-  next-as-before : (state : State) → nextState state (seenWith (Named 95) seen) ≡ nextStateBeforeP6 state seen
-  unfolding nextState nextStateBeforeP6 stepElse rule3 rule3BeforeP6 rule4 picture prechargeComplete completeBeforeP6
-  next-as-before Off = refl
-  next-as-before Rising = refl
-  next-as-before Precharge = refl
-  next-as-before Both = refl
-  next-as-before On = refl
-  next-as-before Falling = refl
-  next-as-before Fault = refl
+  next_as_before : (state : State) → next_state_spec state (seen_with (Named 95) seen) ≡ next_state_before_p6 state seen
+  unfolding next_state_spec next_state_before_p6 step_else rule3 rule3_before_p6 rule4 picture precharge_complete_spec complete_before_p6
+  next_as_before Off = refl
+  next_as_before Rising = refl
+  next_as_before Precharge = refl
+  next_as_before Both = refl
+  next_as_before On = refl
+  next_as_before Falling = refl
+  next_as_before Fault = refl
 
-  pub as_before : (state : State) → step_of state (seenWith (Named 95) seen) ≡ stepBeforeP6 state seen
-  unfolding step_of stepBeforeP6
-  as_before state = rw (next-as-before state) (go (relaysFit seen) (commandsFit seen) (readingsFit seen) (nextStateBeforeP6 state seen))
+  pub as_before : (state : State) → step_of state (seen_with (Named 95) seen) ≡ step_before_p6 state seen
+  unfolding step_of step_before_p6
+  as_before state = rw (next_as_before state) (go (relays_fit_spec seen) (commands_fit_spec seen) (readings_fit_spec seen) (next_state_before_p6 state seen))
     where
       go : (a b c : Bool) (next : State)
-          → steppedIfFit a b c true state next ≡ cond a (cond b (cond c (stateAndAnswer next Taken) (stateAndAnswer state ReadingTooHigh)) (stateAndAnswer state CommandTooHigh)) (stateAndAnswer state NeitherOpenNorClosed)
+          → stepped_if_fit a b c true state next ≡ cond a (cond b (cond c (state_and_answer next Taken) (state_and_answer state ReadingTooHigh)) (state_and_answer state CommandTooHigh)) (state_and_answer state NeitherOpenNorClosed)
       go true true true next = refl
       go true true false next = refl
       go true false c next = refl

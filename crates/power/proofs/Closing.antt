@@ -5,12 +5,12 @@ use mathlib.Core.Bool.{Bool, true, false, cond, ◌&&◌}
 use native.Mathlib.Omega.{arith}
 use Rattle.power.specs.declared.Observation.{Observation}
 use Rattle.power.specs.declared.State.TheVariants.{Off, Precharge, Both, Fault}
-use Rattle.power.specs.Observed.{shows, allOpen, commanded, urgent, prechargeComplete}
+use Rattle.power.specs.Observed.{shows, all_open_spec, commanded, urgent, precharge_complete_spec}
 use Rattle.power.specs.Pictures.{picture}
-use Rattle.power.specs.Rules.{rule3, rule4, stepElse, nextState}
-use Rattle.power.specs.Refusals.{powerRefusal, step_of}
-use Rattle.power.proofs.AnyOrder.{first-relay, second-relay, third-relay}
-use Rattle.power.proofs.Answers.{kept-or-next}
+use Rattle.power.specs.Rules.{rule3, rule4, step_else, next_state_spec}
+use Rattle.power.specs.Refusals.{power_refusal, step_of}
+use Rattle.power.proofs.AnyOrder.{first_relay, second_relay, third_relay}
+use Rattle.power.proofs.Answers.{kept_or_next}
 
 module _ (seen : Observation) (closing : picture Both seen ≡ true) where
   not_own : shows 2 2 1 seen ≡ false
@@ -18,33 +18,33 @@ module _ (seen : Observation) (closing : picture Both seen ≡ true) where
   not_own = go (shows 2 2 1 seen) refl
     where
       go : (p : Bool) → shows 2 2 1 seen ≡ p → p ≡ false
-      go true e = absurd (omega (arith, third-relay seen 2 2 2 closing, third-relay seen 2 2 1 e))
+      go true e = absurd (omega (arith, third_relay seen 2 2 2 closing, third_relay seen 2 2 1 e))
       go false e = refl
 
-  not-open : allOpen seen ≡ false
+  not_open : all_open_spec seen ≡ false
   unfolding picture
-  not-open = go (allOpen seen) refl
+  not_open = go (all_open_spec seen) refl
     where
-      go : (p : Bool) → allOpen seen ≡ p → p ≡ false
-      go true e = absurd (omega (arith, first-relay seen 2 2 2 closing, first-relay seen 1 1 1 e))
+      go : (p : Bool) → all_open_spec seen ≡ p → p ≡ false
+      go true e = absurd (omega (arith, first_relay seen 2 2 2 closing, first_relay seen 1 1 1 e))
       go false e = refl
 
   -- the pictures of both and of falling never show at once
-  pub not-falling : shows 2 1 1 seen ≡ false
+  pub not_falling : shows 2 1 1 seen ≡ false
   unfolding picture
-  not-falling = go (shows 2 1 1 seen) refl
+  not_falling = go (shows 2 1 1 seen) refl
     where
       go : (p : Bool) → shows 2 1 1 seen ≡ p → p ≡ false
-      go true e = absurd (omega (arith, second-relay seen 2 2 2 closing, second-relay seen 2 1 1 e))
+      go true e = absurd (omega (arith, second_relay seen 2 2 2 closing, second_relay seen 2 1 1 e))
       go false e = refl
 
-  next-is : commanded 1 seen ≡ true → nextState Precharge seen ≡ cond (prechargeComplete seen.inside seen.outside seen.share) Both Fault
-  unfolding nextState stepElse rule3 rule4 picture
-  next-is up = simp (not_own, not-open, closing, up, not-falling) (go (urgent seen))
+  next_is : commanded 1 seen ≡ true → next_state_spec Precharge seen ≡ cond (precharge_complete_spec seen.inside seen.outside seen.share) Both Fault
+  unfolding next_state_spec step_else rule3 rule4 picture
+  next_is up = simp (not_own, not_open, closing, up, not_falling) (go (urgent seen))
     where
-      go : (u : Bool) → cond (u && false) Off (cond (prechargeComplete seen.inside seen.outside seen.share) Both Fault) ≡ cond (prechargeComplete seen.inside seen.outside seen.share) Both Fault
+      go : (u : Bool) → cond (u && false) Off (cond (precharge_complete_spec seen.inside seen.outside seen.share) Both Fault) ≡ cond (precharge_complete_spec seen.inside seen.outside seen.share) Both Fault
       go true = refl
       go false = refl
 
-  pub by-the-share : commanded 1 seen ≡ true → powerRefusal (step_of Precharge seen).answer ≡ 0 → (step_of Precharge seen).state ≡ cond (prechargeComplete seen.inside seen.outside seen.share) Both Fault
-  by-the-share up taken = kept-or-next Precharge seen ∙ simp (taken, next-is up)
+  pub by_the_share : commanded 1 seen ≡ true → power_refusal (step_of Precharge seen).answer ≡ 0 → (step_of Precharge seen).state ≡ cond (precharge_complete_spec seen.inside seen.outside seen.share) Both Fault
+  by_the_share up taken = kept_or_next Precharge seen ∙ simp (taken, next_is up)

@@ -3,10 +3,10 @@ use mathlib.Core.Path.{◌≡◌, refl, ap}
 use Rattle.power.specs.declared.State.{State}
 use Rattle.power.specs.declared.State.TheVariants.{Off, Rising, Precharge, Both, On, Falling, Fault}
 use Rattle.power.specs.declared.StateOrNone.TheVariants as N
-use Rattle.power.specs.States.{stateNumber, stateNumbered}
+use Rattle.power.specs.States.{state_number, state_numbered}
 
-named_again : (s : State) → stateNumbered (stateNumber s) ≡ N.State s
-unfolding stateNumbered
+named_again : (s : State) → state_numbered (state_number s) ≡ N.State s
+unfolding state_numbered
 named_again Off = refl
 named_again Rising = refl
 named_again Precharge = refl
@@ -15,5 +15,5 @@ named_again On = refl
 named_again Falling = refl
 named_again Fault = refl
 
-pub number-tells : (a b : State) → stateNumber a ≡ stateNumber b → a ≡ b
-number-tells a b e = cc (named_again a, named_again b, ap stateNumbered e)
+pub number_tells : (a b : State) → state_number a ≡ state_number b → a ≡ b
+number_tells a b e = cc (named_again a, named_again b, ap state_numbered e)

@@ -13,42 +13,42 @@ use Rattle.catalogue.specs.declared.Raw.{Raw}
 use Rattle.catalogue.specs.declared.Class.TheVariants.{Value, Invalid, TooWide}
 use Rattle.rows.specs.Rows.{rows, row, plus, minus, invalid, unmarked}
 use Rattle.catalogue.specs.Find.{row_of}
-use Rattle.catalogue.specs.Class.{classOf, classFor, between}
-use Rattle.power.specs.Observed.{highestReading, invalidVoltage, measuredClass}
+use Rattle.catalogue.specs.Class.{class_of_spec, class_for, between}
+use Rattle.power.specs.Observed.{highest_reading, invalid_voltage, measured_class}
 
 -- the rows of the three but for number and offset: 16 bits of 0.1 V or 0.1 A each, and 65,535 the mark invalid
 abbrev measured : ℕ → ℤ → Row
-measured n offset = row n 16 100 offset 0 highestReading (invalid invalidVoltage invalidVoltage) unmarked unmarked
+measured n offset = row n 16 100 offset 0 highest_reading (invalid invalid_voltage invalid_voltage) unmarked unmarked
 
-no-mark : (raw : ℕ) → leb 1 raw && leb raw 0 ≡ false
-no-mark raw = go (leb 1 raw) refl
+no_mark : (raw : ℕ) → leb 1 raw && leb raw 0 ≡ false
+no_mark raw = go (leb 1 raw) refl
   where
     go : (some : Bool) → leb 1 raw ≡ some → some && leb raw 0 ≡ false
     go true e = lt-leb raw 0 (omega (arith, leb-true 1 raw e))
     go false e = refl
 
-class_of : (n : ℕ) (offset : ℤ) (raw : Raw) → classFor (some (measured n offset)) raw ≡ measuredClass offset raw
+class_of : (n : ℕ) (offset : ℤ) (raw : Raw) → class_for (some (measured n offset)) raw ≡ measured_class offset raw
 unfolding between
 class_of n offset raw = go (ltb count 65535) (leb 65536 count) refl refl
   where
     count : ℕ
     count = raw.0
 
-    go : (v w : Bool) → ltb count 65535 ≡ v → leb 65536 count ≡ w → classFor (some (measured n offset)) raw ≡ cond v (Value (record { 0 = pos (count * 100) +ℤ offset })) (cond w TooWide (Invalid raw))
+    go : (v w : Bool) → ltb count 65535 ≡ v → leb 65536 count ≡ w → class_for (some (measured n offset)) raw ≡ cond v (Value (record { 0 = pos (count * 100) +ℤ offset })) (cond w TooWide (Invalid raw))
     go true w e f =
-        simp (lt-leb 65536 count (omega (arith, ltb-true count 65535 e)), lt-leb 65535 count (omega (arith, ltb-true count 65535 e)), no-mark count, le-leb 0 count (omega arith), le-leb count 65535 (omega (arith, ltb-true count 65535 e)))
+        simp (lt-leb 65536 count (omega (arith, ltb-true count 65535 e)), lt-leb 65535 count (omega (arith, ltb-true count 65535 e)), no_mark count, le-leb 0 count (omega arith), le-leb count 65535 (omega (arith, ltb-true count 65535 e)))
     go false true e f = simp f
     go false false e f =
         simp (f, le-leb 65535 count (ltb-false count 65535 e), le-leb count 65535 (omega (arith, leb-false 65536 count f)))
 
-pub inside-201 : (raw : Raw) → classOf 201 raw ≡ measuredClass (plus 0) raw
-unfolding classOf row_of rows
-inside-201 raw = class_of 201 (plus 0) raw
+pub inside_201 : (raw : Raw) → class_of_spec 201 raw ≡ measured_class (plus 0) raw
+unfolding class_of_spec row_of rows
+inside_201 raw = class_of 201 (plus 0) raw
 
-pub outside-202 : (raw : Raw) → classOf 202 raw ≡ measuredClass (plus 0) raw
-unfolding classOf row_of rows
-outside-202 raw = class_of 202 (plus 0) raw
+pub outside_202 : (raw : Raw) → class_of_spec 202 raw ≡ measured_class (plus 0) raw
+unfolding class_of_spec row_of rows
+outside_202 raw = class_of 202 (plus 0) raw
 
-pub current-203 : (raw : Raw) → classOf 203 raw ≡ measuredClass (minus 2000000) raw
-unfolding classOf row_of rows
-current-203 raw = class_of 203 (minus 2000000) raw
+pub current_203 : (raw : Raw) → class_of_spec 203 raw ≡ measured_class (minus 2000000) raw
+unfolding class_of_spec row_of rows
+current_203 raw = class_of 203 (minus 2000000) raw

@@ -11,54 +11,54 @@ use Rattle.power.specs.declared.Share.{Share}
 use Rattle.power.specs.declared.Share.TheVariants.{Named, NoneGiven}
 use Rattle.power.specs.declared.State.{State}
 use Rattle.power.specs.declared.State.TheVariants.{Off, Rising, Precharge, Both, On, Falling, Fault}
-use Rattle.power.specs.Shares.{hundredths, shareFits, seenWith}
-use Rattle.power.specs.Observed.{valid, prechargeComplete}
+use Rattle.power.specs.Shares.{hundredths, share_fits_spec, seen_with}
+use Rattle.power.specs.Observed.{valid, precharge_complete_spec}
 use Rattle.power.specs.Pictures.{picture}
-use Rattle.power.specs.Rules.{rule3, rule4, stepElse, nextState}
+use Rattle.power.specs.Rules.{rule3, rule4, step_else, next_state_spec}
 use Rattle.power.specs.Refusals.{step_of}
 use Rattle.power.proofs.Ands.{left, right}
 
-pub less-is-complete : (inside outside : Raw) (a b : Share) → 50 ≤ hundredths b → hundredths b ≤ hundredths a → prechargeComplete inside outside a ≡ true → prechargeComplete inside outside b ≡ true
-unfolding prechargeComplete
-less-is-complete inside outside a b low less e =
-    simp (le-leb 50 (hundredths b) low, le-leb (hundredths b) 100 (le_trans less few), right fits inside-valid first, right (fits && inside-valid) (valid outside) second, right (fits && inside-valid && valid outside) (ltb 0 inside.0) third, le-leb (hundredths b * inside.0) (100 * outside.0) (le_trans (mul-le-mul_right inside.0 less) enough))
+pub less_is_complete : (inside outside : Raw) (a b : Share) → 50 ≤ hundredths b → hundredths b ≤ hundredths a → precharge_complete_spec inside outside a ≡ true → precharge_complete_spec inside outside b ≡ true
+unfolding precharge_complete_spec
+less_is_complete inside outside a b low less e =
+    simp (le-leb 50 (hundredths b) low, le-leb (hundredths b) 100 (le_trans less few), right fits inside_valid first, right (fits && inside_valid) (valid outside) second, right (fits && inside_valid && valid outside) (ltb 0 inside.0) third, le-leb (hundredths b * inside.0) (100 * outside.0) (le_trans (mul-le-mul_right inside.0 less) enough))
   where
     fits : Bool
-    fits = shareFits a
+    fits = share_fits_spec a
 
-    inside-valid : Bool
-    inside-valid = valid inside
+    inside_valid : Bool
+    inside_valid = valid inside
 
-    third : fits && inside-valid && valid outside && ltb 0 inside.0 ≡ true
-    third = left (fits && inside-valid && valid outside && ltb 0 inside.0) (leb (hundredths a * inside.0) (100 * outside.0)) e
+    third : fits && inside_valid && valid outside && ltb 0 inside.0 ≡ true
+    third = left (fits && inside_valid && valid outside && ltb 0 inside.0) (leb (hundredths a * inside.0) (100 * outside.0)) e
 
-    second : fits && inside-valid && valid outside ≡ true
-    second = left (fits && inside-valid && valid outside) (ltb 0 inside.0) third
+    second : fits && inside_valid && valid outside ≡ true
+    second = left (fits && inside_valid && valid outside) (ltb 0 inside.0) third
 
-    first : fits && inside-valid ≡ true
-    first = left (fits && inside-valid) (valid outside) second
+    first : fits && inside_valid ≡ true
+    first = left (fits && inside_valid) (valid outside) second
 
     few : hundredths a ≤ 100
-    few = leb-true (hundredths a) 100 (right (leb 50 (hundredths a)) (leb (hundredths a) 100) (left fits inside-valid first))
+    few = leb-true (hundredths a) 100 (right (leb 50 (hundredths a)) (leb (hundredths a) 100) (left fits inside_valid first))
 
     enough : hundredths a * inside.0 ≤ 100 * outside.0
-    enough = leb-true (hundredths a * inside.0) (100 * outside.0) (right (fits && inside-valid && valid outside && ltb 0 inside.0) (leb (hundredths a * inside.0) (100 * outside.0)) e)
+    enough = leb-true (hundredths a * inside.0) (100 * outside.0) (right (fits && inside_valid && valid outside && ltb 0 inside.0) (leb (hundredths a * inside.0) (100 * outside.0)) e)
 
-pub complete-by-90 : (inside outside : Raw) → prechargeComplete inside outside NoneGiven ≡ prechargeComplete inside outside (Named 90)
-unfolding prechargeComplete
-complete-by-90 inside outside = refl
+pub complete_by_90 : (inside outside : Raw) → precharge_complete_spec inside outside NoneGiven ≡ precharge_complete_spec inside outside (Named 90)
+unfolding precharge_complete_spec
+complete_by_90 inside outside = refl
 
 module _ (seen : Observation) where
-  next-by-90 : (state : State) → nextState state (seenWith NoneGiven seen) ≡ nextState state (seenWith (Named 90) seen)
-  unfolding nextState stepElse rule3 rule4 picture prechargeComplete
-  next-by-90 Off = refl
-  next-by-90 Rising = refl
-  next-by-90 Precharge = refl
-  next-by-90 Both = refl
-  next-by-90 On = refl
-  next-by-90 Falling = refl
-  next-by-90 Fault = refl
+  next_by_90 : (state : State) → next_state_spec state (seen_with NoneGiven seen) ≡ next_state_spec state (seen_with (Named 90) seen)
+  unfolding next_state_spec step_else rule3 rule4 picture precharge_complete_spec
+  next_by_90 Off = refl
+  next_by_90 Rising = refl
+  next_by_90 Precharge = refl
+  next_by_90 Both = refl
+  next_by_90 On = refl
+  next_by_90 Falling = refl
+  next_by_90 Fault = refl
 
-  pub none-is-90 : (state : State) → step_of state (seenWith NoneGiven seen) ≡ step_of state (seenWith (Named 90) seen)
+  pub none_is_90 : (state : State) → step_of state (seen_with NoneGiven seen) ≡ step_of state (seen_with (Named 90) seen)
   unfolding step_of
-  none-is-90 state = rw (next-by-90 state) refl
+  none_is_90 state = rw (next_by_90 state) refl

@@ -3,5 +3,5 @@
 use Rattle.std.specs.Prelude.{ℕ, ◌+◌, ◌*◌}
 use Rattle.power.specs.declared.Observation.{Observation}
 
-abbrev pub relaysNumber : Observation → ℕ
-relaysNumber seen = 4 * seen.main_negative.0 + 2 * seen.precharge.0 + seen.main_positive.0
+abbrev pub relays_number : Observation → ℕ
+relays_number seen = 4 * seen.main_negative.0 + 2 * seen.precharge.0 + seen.main_positive.0

@@ -8,7 +8,7 @@ use Rattle.power.specs.declared.Share.{Share}
 use Rattle.power.specs.declared.Share.TheVariants.{Named, NoneGiven}
 use Rattle.power.specs.declared.State.TheVariants.{Precharge, Both, Fault}
 use Rattle.power.specs.declared.Stepped.{Stepped}
-use Rattle.power.specs.Refusals.{stateAndAnswer}
+use Rattle.power.specs.Refusals.{state_and_answer}
 
 -- the share, the raw counts of the two voltages, and whether precharge is complete by them
 pub record Precharging : Type 0 where
@@ -42,8 +42,8 @@ precharges =
     ∷ []
 
 -- main positive closes on command 1, at 0 A, with these voltages and this share
-abbrev pub closingWith : Precharging → Observation
-closingWith w =
+abbrev pub closing_with : Precharging → Observation
+closing_with w =
     record {
       main_negative = record { 0 = 2 };
       precharge = record { 0 = 2 };
@@ -56,24 +56,24 @@ closingWith w =
       share = w.share;
     }
 
-abbrev toBoth : Stepped
-toBoth = stateAndAnswer Both Taken
+abbrev to_both : Stepped
+to_both = state_and_answer Both Taken
 
-abbrev toFault : Stepped
-toFault = stateAndAnswer Fault Taken
+abbrev to_fault : Stepped
+to_fault = state_and_answer Fault Taken
 
 abbrev refused44 : Stepped
-refused44 = stateAndAnswer Precharge ShareOutOfRange
+refused44 = state_and_answer Precharge ShareOutOfRange
 
 -- what the step from precharge then leaves, of each of the list in its order
 unfoldable pub closings : List Stepped
 closings =
-    toBoth ∷ toFault
-    ∷ toBoth ∷ toFault
-    ∷ toBoth ∷ toFault
-    ∷ toBoth ∷ toFault
-    ∷ toBoth ∷ toFault
+    to_both ∷ to_fault
+    ∷ to_both ∷ to_fault
+    ∷ to_both ∷ to_fault
+    ∷ to_both ∷ to_fault
+    ∷ to_both ∷ to_fault
     ∷ refused44 ∷ refused44
-    ∷ toFault ∷ toFault ∷ toFault ∷ toFault
-    ∷ toBoth
+    ∷ to_fault ∷ to_fault ∷ to_fault ∷ to_fault
+    ∷ to_both
     ∷ []

@@ -6,44 +6,44 @@ use Rattle.power.specs.declared.State.{State}
 use Rattle.power.specs.declared.PowerAnswer.{PowerAnswer}
 use Rattle.power.specs.declared.PowerAnswer.TheVariants.{Taken, NeitherOpenNorClosed, CommandTooHigh, ReadingTooHigh, ShareOutOfRange}
 use Rattle.power.specs.declared.Stepped.{Stepped}
-use Rattle.power.specs.Observed.{openRelay, closedRelay, highestCommand, highestReading}
-use Rattle.power.specs.Shares.{shareFits}
-use Rattle.power.specs.Rules.{nextState}
+use Rattle.power.specs.Observed.{open_relay, closed_relay, highest_command, highest_reading}
+use Rattle.power.specs.Shares.{share_fits_spec}
+use Rattle.power.specs.Rules.{next_state_spec}
 
 -- the document's number of each answer; 0 is no refusal
-abbrev pub powerRefusal : PowerAnswer → ℕ
-powerRefusal Taken = 0
-powerRefusal NeitherOpenNorClosed = 41
-powerRefusal CommandTooHigh = 42
-powerRefusal ReadingTooHigh = 43
-powerRefusal ShareOutOfRange = 44
+abbrev pub power_refusal : PowerAnswer → ℕ
+power_refusal Taken = 0
+power_refusal NeitherOpenNorClosed = 41
+power_refusal CommandTooHigh = 42
+power_refusal ReadingTooHigh = 43
+power_refusal ShareOutOfRange = 44
 
 -- 41: "a relay count other than 1 or 2"
-abbrev pub openOrClosed : Raw → Bool
-openOrClosed relay = eqb relay.0 openRelay || eqb relay.0 closedRelay
+abbrev pub open_or_closed : Raw → Bool
+open_or_closed relay = eqb relay.0 open_relay || eqb relay.0 closed_relay
 
-abbrev pub relaysFit : Observation → Bool
-relaysFit seen = openOrClosed seen.main_negative && openOrClosed seen.precharge && openOrClosed seen.main_positive
+abbrev pub relays_fit_spec : Observation → Bool
+relays_fit_spec seen = open_or_closed seen.main_negative && open_or_closed seen.precharge && open_or_closed seen.main_positive
 
 -- 42: "command or 1604 over 3"
-abbrev pub commandsFit : Observation → Bool
-commandsFit seen = leb seen.command.0 highestCommand && leb seen.emergency_off.0 highestCommand
+abbrev pub commands_fit_spec : Observation → Bool
+commands_fit_spec seen = leb seen.command.0 highest_command && leb seen.emergency_off.0 highest_command
 
 -- 43: "current or voltage over 65,535"
-abbrev pub readingsFit : Observation → Bool
-readingsFit seen = leb seen.current.0 highestReading && leb seen.inside.0 highestReading && leb seen.outside.0 highestReading
+abbrev pub readings_fit_spec : Observation → Bool
+readings_fit_spec seen = leb seen.current.0 highest_reading && leb seen.inside.0 highest_reading && leb seen.outside.0 highest_reading
 
 -- what a step leaves: the state and the answer
-abbrev pub stateAndAnswer : State → PowerAnswer → Stepped
-stateAndAnswer state answer = record { state = state; answer = answer }
+abbrev pub state_and_answer : State → PowerAnswer → Stepped
+state_and_answer state answer = record { state = state; answer = answer }
 
 -- by whether the relays, the commands, the readings and the share fit: the first that doesn't is the refusal, with the "state kept"
-abbrev pub steppedIfFit : Bool → Bool → Bool → Bool → State → State → Stepped
-steppedIfFit false commands readings fitting kept next = stateAndAnswer kept NeitherOpenNorClosed
-steppedIfFit true false readings fitting kept next = stateAndAnswer kept CommandTooHigh
-steppedIfFit true true false fitting kept next = stateAndAnswer kept ReadingTooHigh
-steppedIfFit true true true false kept next = stateAndAnswer kept ShareOutOfRange
-steppedIfFit true true true true kept next = stateAndAnswer next Taken
+abbrev pub stepped_if_fit : Bool → Bool → Bool → Bool → State → State → Stepped
+stepped_if_fit false commands readings fitting kept next = state_and_answer kept NeitherOpenNorClosed
+stepped_if_fit true false readings fitting kept next = state_and_answer kept CommandTooHigh
+stepped_if_fit true true false fitting kept next = state_and_answer kept ReadingTooHigh
+stepped_if_fit true true true false kept next = state_and_answer kept ShareOutOfRange
+stepped_if_fit true true true true kept next = state_and_answer next Taken
 
 unfoldable pub step_of : State → Observation → Stepped
-step_of state seen = steppedIfFit (relaysFit seen) (commandsFit seen) (readingsFit seen) (shareFits seen.share) state (nextState state seen)
+step_of state seen = stepped_if_fit (relays_fit_spec seen) (commands_fit_spec seen) (readings_fit_spec seen) (share_fits_spec seen.share) state (next_state_spec state seen)

@@ -10,12 +10,12 @@ hundredths (Named n) = n
 hundredths NoneGiven = 90
 
 -- "50 to 100"; 44 is for "a share outside 50 to 100"
-abbrev pub shareFits : Share → Bool
-shareFits share = leb 50 (hundredths share) && leb (hundredths share) 100
+abbrev pub share_fits_spec : Share → Bool
+share_fits_spec share = leb 50 (hundredths share) && leb (hundredths share) 100
 
 -- the same observation, with this share
-abbrev pub seenWith : Share → Observation → Observation
-seenWith share seen =
+abbrev pub seen_with : Share → Observation → Observation
+seen_with share seen =
     record {
       main_negative = seen.main_negative;
       precharge = seen.precharge;

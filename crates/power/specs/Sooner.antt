@@ -6,16 +6,16 @@ use Rattle.power.specs.declared.PowerAnswer.TheVariants.{Taken}
 use Rattle.power.specs.declared.Share.{Share}
 use Rattle.power.specs.declared.State.{State}
 use Rattle.power.specs.declared.State.TheVariants.{Precharge, Both, Fault}
-use Rattle.power.specs.Shares.{seenWith}
-use Rattle.power.specs.Observed.{commanded, prechargeComplete}
+use Rattle.power.specs.Shares.{seen_with}
+use Rattle.power.specs.Observed.{commanded, precharge_complete_spec}
 use Rattle.power.specs.Pictures.{picture}
-use Rattle.power.specs.Refusals.{stateAndAnswer, step_of}
+use Rattle.power.specs.Refusals.{state_and_answer, step_of}
 
 pub record Sooner (seen : Observation) (higher lower : Share) (state : State) : Type 0 where
   pub from : state ≡ Precharge
   pub closing : picture Both seen ≡ true
   pub up : commanded 1 seen ≡ true
-  pub missed : prechargeComplete seen.inside seen.outside higher ≡ false
-  pub met : prechargeComplete seen.inside seen.outside lower ≡ true
-  pub by-the-higher : step_of state (seenWith higher seen) ≡ stateAndAnswer Fault Taken
-  pub by-the-lower : step_of state (seenWith lower seen) ≡ stateAndAnswer Both Taken
+  pub missed : precharge_complete_spec seen.inside seen.outside higher ≡ false
+  pub met : precharge_complete_spec seen.inside seen.outside lower ≡ true
+  pub by_the_higher : step_of state (seen_with higher seen) ≡ state_and_answer Fault Taken
+  pub by_the_lower : step_of state (seen_with lower seen) ≡ state_and_answer Both Taken

@@ -5,22 +5,22 @@ use Rattle.power.specs.declared.State.TheVariants.{Off, Rising, Precharge, Both,
 use Rattle.power.specs.declared.StateOrNone.{StateOrNone}
 use Rattle.power.specs.declared.StateOrNone.TheVariants as N
 
-abbrev pub stateNumber : State → ℕ
-stateNumber Off = 0
-stateNumber Rising = 1
-stateNumber Precharge = 2
-stateNumber Both = 3
-stateNumber On = 4
-stateNumber Falling = 5
-stateNumber Fault = 6
+abbrev pub state_number : State → ℕ
+state_number Off = 0
+state_number Rising = 1
+state_number Precharge = 2
+state_number Both = 3
+state_number On = 4
+state_number Falling = 5
+state_number Fault = 6
 
-abbrev pub sameState : State → State → Bool
-sameState a b = eqb (stateNumber a) (stateNumber b)
+abbrev pub same_state : State → State → Bool
+same_state a b = eqb (state_number a) (state_number b)
 
 -- the states in that order
-abbrev pub inOrder : List StateOrNone
-inOrder = N.State Off ∷ N.State Rising ∷ N.State Precharge ∷ N.State Both ∷ N.State On ∷ N.State Falling ∷ N.State Fault ∷ []
+abbrev pub in_order_spec : List StateOrNone
+in_order_spec = N.State Off ∷ N.State Rising ∷ N.State Precharge ∷ N.State Both ∷ N.State On ∷ N.State Falling ∷ N.State Fault ∷ []
 
 -- the state of a number, where there is one
-unfoldable pub stateNumbered : ℕ → StateOrNone
-stateNumbered n = get_or inOrder n N.NoState
+unfoldable pub state_numbered : ℕ → StateOrNone
+state_numbered n = get_or in_order_spec n N.NoState

@@ -10,9 +10,9 @@ mod shares;
 
 ghost use Rattle.std.specs.Prelude.{◌≡◌};
 ghost use Rattle.power.specs.Shares.{hundredths};
-ghost use Rattle.power.specs.States.{stateNumber, stateNumbered};
-ghost use Rattle.power.specs.Rules.{startsAs};
-ghost use Rattle.power.specs.Refusals.{openOrClosed, relaysFit, commandsFit, readingsFit, step_of};
+ghost use Rattle.power.specs.States.{state_number, state_numbered};
+ghost use Rattle.power.specs.Rules.{starts_as};
+ghost use Rattle.power.specs.Refusals.{open_or_closed, relays_fit_spec, commands_fit_spec, readings_fit_spec, step_of};
 
 use catalogue::Raw;
 pub use observed::precharge_complete;
@@ -113,14 +113,14 @@ impl Share {
 impl State {
     // The state that a monitor starts in.
     pub fn start() -> State
-        ensures { result ≡ startsAs }
+        ensures { result ≡ starts_as }
     {
         State::Off
     }
 
     // 0 off, 1 rising, 2 precharge, 3 both, 4 on, 5 falling, 6 fault.
     pub fn number(self) -> u32
-        ensures { result ≡ stateNumber self }
+        ensures { result ≡ state_number self }
     {
         match self {
             State::Off => 0,
@@ -135,7 +135,7 @@ impl State {
 
     // The state of a number, where there is one.
     pub fn numbered(n: u32) -> StateOrNone
-        ensures { result ≡ stateNumbered n }
+        ensures { result ≡ state_numbered n }
     {
         match n {
             0 => StateOrNone::State(State::Off),
@@ -151,13 +151,13 @@ impl State {
 }
 
 fn is_open_or_closed(relay: Raw) -> bool
-    ensures { result ≡ openOrClosed relay }
+    ensures { result ≡ open_or_closed relay }
 {
     (relay.0 == OPEN) | (relay.0 == CLOSED)
 }
 
 fn relays_fit(seen: Observation) -> bool
-    ensures { result ≡ relaysFit seen }
+    ensures { result ≡ relays_fit_spec seen }
 {
     let negative = is_open_or_closed(seen.main_negative);
     let precharge = is_open_or_closed(seen.precharge);
@@ -166,13 +166,13 @@ fn relays_fit(seen: Observation) -> bool
 }
 
 fn commands_fit(seen: Observation) -> bool
-    ensures { result ≡ commandsFit seen }
+    ensures { result ≡ commands_fit_spec seen }
 {
     (seen.command.0 <= HIGHEST_COMMAND) & (seen.emergency_off.0 <= HIGHEST_COMMAND)
 }
 
 fn readings_fit(seen: Observation) -> bool
-    ensures { result ≡ readingsFit seen }
+    ensures { result ≡ readings_fit_spec seen }
 {
     (seen.current.0 <= HIGHEST_READING)
         & (seen.inside.0 <= HIGHEST_READING)

@@ -1,10 +1,10 @@
 // What an observation shows: the relays' pictures, the commands, the current, and whether precharge is complete. Who asks for a
 // picture has seen that each relay is open or closed: the three are then one number, so that a picture is one comparison.
 ghost use Rattle.std.specs.Prelude.{◌≡◌, true};
-ghost use Rattle.power.specs.Observed.{allOpen, urgent, prechargeComplete, under10A};
+ghost use Rattle.power.specs.Observed.{all_open_spec, urgent, precharge_complete_spec, under10_a};
 ghost use Rattle.power.specs.Pictures.{picture};
-ghost use Rattle.power.specs.Refusals.{relaysFit};
-ghost use Rattle.power.specs.PictureNumbers.{relaysNumber};
+ghost use Rattle.power.specs.Refusals.{relays_fit_spec};
+ghost use Rattle.power.specs.PictureNumbers.{relays_number};
 
 use crate::shares::share_fits;
 use crate::{HIGHEST_READING, Observation, Share, State};
@@ -21,7 +21,7 @@ fn wide(x: u32) -> u64
 
 // Whether precharge is complete, of the raw counts of 201 and 202 and the share; never with a share outside 50 to 100.
 pub fn precharge_complete(inside: Raw, outside: Raw, share: Share) -> bool
-    ensures { result ≡ prechargeComplete inside outside share }
+    ensures { result ≡ precharge_complete_spec inside outside share }
 {
     let fits = share_fits(share);
     let needed = wide(share.hundredths()) * wide(inside.0);
@@ -30,7 +30,7 @@ pub fn precharge_complete(inside: Raw, outside: Raw, share: Share) -> bool
 }
 
 pub fn is_under_10_amps(current: Raw) -> bool
-    ensures { result ≡ under10A current }
+    ensures { result ≡ under10_a current }
 {
     (19901 <= current.0) & (current.0 <= 20099)
 }
@@ -44,8 +44,8 @@ pub fn is_urgent(seen: Observation) -> bool
 // The three relays as one number: main negative counts 4, precharge 2 and main positive 1, once where it is open and twice where
 // it is closed.
 fn relays_shown(seen: Observation) -> u32
-    requires { relaysFit seen ≡ true }
-    ensures { result ≡ relaysNumber seen }
+    requires { relays_fit_spec seen ≡ true }
+    ensures { result ≡ relays_number seen }
 {
     4 * seen.main_negative.0 + 2 * seen.precharge.0 + seen.main_positive.0
 }
@@ -62,14 +62,14 @@ const CCO: u32 = 13;
 const CCC: u32 = 14;
 
 pub fn all_open(seen: Observation) -> bool
-    requires { relaysFit seen ≡ true }
-    ensures { result ≡ allOpen seen }
+    requires { relays_fit_spec seen ≡ true }
+    ensures { result ≡ all_open_spec seen }
 {
     relays_shown(seen) == OOO
 }
 
 pub fn shows_picture(state: State, seen: Observation) -> bool
-    requires { relaysFit seen ≡ true }
+    requires { relays_fit_spec seen ≡ true }
     ensures { result ≡ picture state seen }
 {
     let shown = relays_shown(seen);

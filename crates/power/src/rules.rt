@@ -1,9 +1,9 @@
 // Document 01's rules 1 to 5: the state that follows an observation whose relays are each open or closed.
 ghost use Rattle.std.specs.Prelude.{◌≡◌, true, cond, ◌&&◌};
-ghost use Rattle.power.specs.Observed.{allOpen, urgent};
+ghost use Rattle.power.specs.Observed.{all_open_spec, urgent};
 ghost use Rattle.power.specs.Pictures.{picture};
-ghost use Rattle.power.specs.Refusals.{relaysFit};
-ghost use Rattle.power.specs.Rules.{steps, firstStep, fromFault, nextState};
+ghost use Rattle.power.specs.Refusals.{relays_fit_spec};
+ghost use Rattle.power.specs.Rules.{steps, first_step_spec, from_fault_spec, next_state_spec};
 ghost use Rattle.power.specs.declared.State.TheVariants.{Off, Rising, Precharge, Both, On, Falling};
 
 use crate::observed::{all_open, is_under_10_amps, is_urgent, precharge_complete, shows_picture};
@@ -12,8 +12,8 @@ use crate::{Observation, State};
 // Rules 3 to 5, from each state but fault.
 
 fn from_off(seen: Observation) -> State
-    requires { relaysFit seen ≡ true }
-    ensures { result ≡ firstStep steps Off seen }
+    requires { relays_fit_spec seen ≡ true }
+    ensures { result ≡ first_step_spec steps Off seen }
 {
     if shows_picture(State::Rising, seen) & (seen.command.0 == 1) {
         return State::Rising;
@@ -22,8 +22,8 @@ fn from_off(seen: Observation) -> State
 }
 
 fn from_rising(seen: Observation) -> State
-    requires { relaysFit seen ≡ true }
-    ensures { result ≡ firstStep steps Rising seen }
+    requires { relays_fit_spec seen ≡ true }
+    ensures { result ≡ first_step_spec steps Rising seen }
 {
     if shows_picture(State::Precharge, seen) & (seen.command.0 == 1) {
         return State::Precharge;
@@ -35,8 +35,8 @@ fn from_rising(seen: Observation) -> State
 }
 
 fn from_precharge(seen: Observation) -> State
-    requires { relaysFit seen ≡ true }
-    ensures { result ≡ firstStep steps Precharge seen }
+    requires { relays_fit_spec seen ≡ true }
+    ensures { result ≡ first_step_spec steps Precharge seen }
 {
     let share = seen.share;
     let complete = precharge_complete(seen.inside, seen.outside, share);
@@ -51,8 +51,8 @@ fn from_precharge(seen: Observation) -> State
 }
 
 fn from_both(seen: Observation) -> State
-    requires { relaysFit seen ≡ true }
-    ensures { result ≡ firstStep steps Both seen }
+    requires { relays_fit_spec seen ≡ true }
+    ensures { result ≡ first_step_spec steps Both seen }
 {
     if shows_picture(State::On, seen) {
         return State::On;
@@ -61,8 +61,8 @@ fn from_both(seen: Observation) -> State
 }
 
 fn from_on(seen: Observation) -> State
-    requires { relaysFit seen ≡ true }
-    ensures { result ≡ firstStep steps On seen }
+    requires { relays_fit_spec seen ≡ true }
+    ensures { result ≡ first_step_spec steps On seen }
 {
     let calm = is_under_10_amps(seen.current);
     let down = is_urgent(seen) | ((seen.command.0 == 2) & calm);
@@ -73,8 +73,8 @@ fn from_on(seen: Observation) -> State
 }
 
 fn from_falling(seen: Observation) -> State
-    requires { relaysFit seen ≡ true }
-    ensures { result ≡ firstStep steps Falling seen }
+    requires { relays_fit_spec seen ≡ true }
+    ensures { result ≡ first_step_spec steps Falling seen }
 {
     if shows_picture(State::Off, seen) {
         return State::Off;
@@ -83,8 +83,8 @@ fn from_falling(seen: Observation) -> State
 }
 
 fn from_fault(seen: Observation) -> State
-    requires { relaysFit seen ≡ true }
-    ensures { result ≡ fromFault seen }
+    requires { relays_fit_spec seen ≡ true }
+    ensures { result ≡ from_fault_spec seen }
 {
     let left = (seen.command.0 == 0) | (seen.command.0 == 2);
     if all_open(seen) & left {
@@ -95,8 +95,8 @@ fn from_fault(seen: Observation) -> State
 
 // Rules 1 and 2, and else where rules 3 to 5 lead.
 fn by_rules(state: State, seen: Observation, stepped: State) -> State
-    requires { relaysFit seen ≡ true }
-    ensures { result ≡ cond (picture state seen) state (cond (urgent seen && allOpen seen) Off stepped) }
+    requires { relays_fit_spec seen ≡ true }
+    ensures { result ≡ cond (picture state seen) state (cond (urgent seen && all_open_spec seen) Off stepped) }
 {
     if shows_picture(state, seen) {
         return state;
@@ -109,8 +109,8 @@ fn by_rules(state: State, seen: Observation, stepped: State) -> State
 }
 
 pub fn next_state(state: State, seen: Observation) -> State
-    requires { relaysFit seen ≡ true }
-    ensures { result ≡ nextState state seen }
+    requires { relays_fit_spec seen ≡ true }
+    ensures { result ≡ next_state_spec state seen }
 {
     match state {
         State::Off => by_rules(State::Off, seen, from_off(seen)),

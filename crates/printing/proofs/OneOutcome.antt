@@ -17,7 +17,7 @@ use contract.Monad.{Fun, fact}
 use denote.Ref.{MutBor, at_last}
 use Rattle.only.specs.Only.{Only}
 use Rattle.printing.specs.Put.{Put, PutWithin}
-use Rattle.printing.specs.Decimal.{naturalText, signedText}
+use Rattle.printing.specs.Decimal.{natural_text, signed_text}
 use Rattle.printing.specs.contracts.bytes.put_byte as put_byte
 use Rattle.printing.specs.contracts.bytes.put_bytes as put-bytes
 use Rattle.printing.specs.contracts.numbers.put_natural as put-natural
@@ -25,37 +25,37 @@ use Rattle.printing.specs.contracts.numbers.put_signed as put-signed
 
 -- a clause that states that a text was put at a place, and one that says also how long it is at most
 module _ {M : Type 1} (𝓤 : Ura M) (clause : ℕ × List ℕ → SProp 𝓤) (old : List ℕ) (at : ℕ) (text : List ℕ) where
-  pub one-put : ((x : ℕ × List ℕ) → clause x ≡ fact 𝓤 (Put old at text x.1 x.0)) → Only 𝓤 clause
-  one-put says =
+  pub one_put : ((x : ℕ × List ℕ) → clause x ≡ fact 𝓤 (Put old at text x.1 x.0)) → Only 𝓤 clause
+  one_put says =
       record {
         coded = coded× coded_ℕ (coded_list coded_ℕ);
         outcome = (at + length text, sets old at text);
         Says = λ x. Put old at text x.1 x.0;
         says = says;
-        there = record { now-there = refl; now-at = refl };
-        alone = λ x p i. (p.now-at i, p.now-there i);
+        there = record { now_there = refl; now_at = refl };
+        alone = λ x p i. (p.now_at i, p.now_there i);
       }
 
-  pub one-put-within : (most : ℕ) → length text ≤ most → ((x : ℕ × List ℕ) → clause x ≡ fact 𝓤 (PutWithin old at most text x.1 x.0)) → Only 𝓤 clause
-  one-put-within most short says =
+  pub one_put_within : (most : ℕ) → length text ≤ most → ((x : ℕ × List ℕ) → clause x ≡ fact 𝓤 (PutWithin old at most text x.1 x.0)) → Only 𝓤 clause
+  one_put_within most short says =
       record {
         coded = coded× coded_ℕ (coded_list coded_ℕ);
         outcome = (at + length text, sets old at text);
         Says = λ x. PutWithin old at most text x.1 x.0;
         says = says;
-        there = record { put = record { now-there = refl; now-at = refl }; short = short };
-        alone = λ x p i. (p.put.now-at i, p.put.now-there i);
+        there = record { put = record { now_there = refl; now_at = refl }; short = short };
+        alone = λ x p i. (p.put.now_at i, p.put.now_there i);
       }
 
 module _ {M : Type 1} {𝓤 : Ura M} (𝓛 : Logic 𝓤) (mem : Memory → SProp 𝓤) (run : Routine → Fun 𝓤) (out : MutBor (List ℕ)) (at : ℕ) where
-  pub one-put-byte : (κs : Lfts 1) (b : ℕ) → Only 𝓤 (λ (x : ℕ × List ℕ). (put_byte.clauses 𝓛 mem run κs (out, (at, (b, tt)))).ensures tt x.0 (at_last out x.1, (at, (b, tt))))
-  one-put-byte κs b = one-put 𝓤 _ out.now at (b ∷ []) (λ x. refl)
+  pub one_put_byte : (κs : Lfts 1) (b : ℕ) → Only 𝓤 (λ (x : ℕ × List ℕ). (put_byte.clauses 𝓛 mem run κs (out, (at, (b, tt)))).ensures tt x.0 (at_last out x.1, (at, (b, tt))))
+  one_put_byte κs b = one_put 𝓤 _ out.now at (b ∷ []) (λ x. refl)
 
-  pub one-put-bytes : (κs : Lfts 2) (text : MutBor (List ℕ)) → Only 𝓤 (λ (x : ℕ × List ℕ). (put-bytes.clauses 𝓛 mem run κs (out, (at, (text, tt)))).ensures tt x.0 (at_last out x.1, (at, (text, tt))))
-  one-put-bytes κs text = one-put 𝓤 _ out.now at text.now (λ x. refl)
+  pub one_put_bytes : (κs : Lfts 2) (text : MutBor (List ℕ)) → Only 𝓤 (λ (x : ℕ × List ℕ). (put-bytes.clauses 𝓛 mem run κs (out, (at, (text, tt)))).ensures tt x.0 (at_last out x.1, (at, (text, tt))))
+  one_put_bytes κs text = one_put 𝓤 _ out.now at text.now (λ x. refl)
 
-  pub one-put-natural : (κs : Lfts 1) (n : ℕ) → Only 𝓤 (λ (x : ℕ × List ℕ). (put-natural.clauses 𝓛 mem run κs (out, (at, (n, tt)))).ensures tt x.0 (at_last out x.1, (at, (n, tt))))
-  one-put-natural κs n = one-put 𝓤 _ out.now at (naturalText n) (λ x. refl)
+  pub one_put_natural : (κs : Lfts 1) (n : ℕ) → Only 𝓤 (λ (x : ℕ × List ℕ). (put-natural.clauses 𝓛 mem run κs (out, (at, (n, tt)))).ensures tt x.0 (at_last out x.1, (at, (n, tt))))
+  one_put_natural κs n = one_put 𝓤 _ out.now at (natural_text n) (λ x. refl)
 
-  pub one-put-signed : (κs : Lfts 1) (z : ℤ) → Only 𝓤 (λ (x : ℕ × List ℕ). (put-signed.clauses 𝓛 mem run κs (out, (at, (z, tt)))).ensures tt x.0 (at_last out x.1, (at, (z, tt))))
-  one-put-signed κs z = one-put 𝓤 _ out.now at (signedText z) (λ x. refl)
+  pub one_put_signed : (κs : Lfts 1) (z : ℤ) → Only 𝓤 (λ (x : ℕ × List ℕ). (put-signed.clauses 𝓛 mem run κs (out, (at, (z, tt)))).ensures tt x.0 (at_last out x.1, (at, (z, tt))))
+  one_put_signed κs z = one_put 𝓤 _ out.now at (signed_text z) (λ x. refl)

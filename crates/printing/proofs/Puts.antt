@@ -7,38 +7,38 @@ use native.Mathlib.Numerals.{add-one}
 use native.Mathlib.Omega.{arith}
 use lib.ListN.{length, drop, set, get_or, length-append, length-set, drop_of_length-le}
 use lib.Seq.{sets, length-sets, drop-cons}
-use Rattle.numerals.specs.Written.{identifierText, decimalWidth, decimalText}
-use Rattle.numerals.proofs.Identifiers.{length-identifier}
-use Rattle.numerals.proofs.Decimals.{decimal-long}
+use Rattle.numerals.specs.Written.{identifier_text, decimal_width_spec, decimal_text}
+use Rattle.numerals.proofs.Identifiers.{length_identifier}
+use Rattle.numerals.proofs.Decimals.{decimal_long}
 use Rattle.printing.specs.Put.{Put, PutWithin}
 
-pub sets-append : (l : List ℕ) (at : ℕ) (a b : List ℕ) → sets (sets l at a) (at + length a) b ≡ sets l at (a ++ b)
-sets-append l at [] b = ap (λ (n : ℕ). sets l n b) (add-zero at)
-sets-append l at (x ∷ a) b = ap (λ (n : ℕ). sets (sets (set l at x) (suc at) a) n b) (add-suc at (length a) ∙ sym (suc-add at (length a))) ∙ sets-append (set l at x) (suc at) a b
+pub sets_append : (l : List ℕ) (at : ℕ) (a b : List ℕ) → sets (sets l at a) (at + length a) b ≡ sets l at (a ++ b)
+sets_append l at [] b = ap (λ (n : ℕ). sets l n b) (add-zero at)
+sets_append l at (x ∷ a) b = ap (λ (n : ℕ). sets (sets (set l at x) (suc at) a) n b) (add-suc at (length a) ∙ sym (suc-add at (length a))) ∙ sets_append (set l at x) (suc at) a b
 
-pub put-length : {old : List ℕ} {at : ℕ} {text new : List ℕ} {next : ℕ} → Put old at text new next → length new ≡ length old
-put-length {old} {at} {text} p = ap length p.now-there ∙ length-sets old at text
+pub put_length : {old : List ℕ} {at : ℕ} {text new : List ℕ} {next : ℕ} → Put old at text new next → length new ≡ length old
+put_length {old} {at} {text} p = ap length p.now_there ∙ length-sets old at text
 
 -- one text after another is both
 pub and_then : {old : List ℕ} {at : ℕ} {a mid : List ℕ} {m : ℕ} {b new : List ℕ} {next : ℕ} → Put old at a mid m → Put mid m b new next → Put old at (a ++ b) new next
 and_then {old} {at} {a} {mid} {m} {b} p q =
     record {
-      now-there = q.now-there ∙ ap (λ (l : List ℕ). sets l m b) p.now-there ∙ ap (λ (n : ℕ). sets (sets old at a) n b) p.now-at ∙ sets-append old at a b;
-      now-at = omega (arith, p.now-at, q.now-at, length-append a b);
+      now_there = q.now_there ∙ ap (λ (l : List ℕ). sets l m b) p.now_there ∙ ap (λ (n : ℕ). sets (sets old at a) n b) p.now_at ∙ sets_append old at a b;
+      now_at = omega (arith, p.now_at, q.now_at, length-append a b);
     }
 
 pub put_as : {old : List ℕ} {at : ℕ} {a b new : List ℕ} {next : ℕ} → a ≡ b → Put old at a new next → Put old at b new next
 put_as {old} {at} {a} {b} {new} {next} e p = subst (λ (l : List ℕ). Put old at l new next) e p
 
-pub put-within : (most : ℕ) {old : List ℕ} {at : ℕ} {text new : List ℕ} {next : ℕ} → Put old at text new next → next ≤ at + most → PutWithin old at most text new next
-put-within most p h = record { put = p; short = omega (arith, p.now-at) }
+pub put_within : (most : ℕ) {old : List ℕ} {at : ℕ} {text new : List ℕ} {next : ℕ} → Put old at text new next → next ≤ at + most → PutWithin old at most text new next
+put_within most p h = record { put = p; short = omega (arith, p.now_at) }
 
 -- the two kinds of numbers of a route book
-pub put-identifier : {old new : List ℕ} {at next : ℕ} (i : ℕ) → (next ≡ at + 8) × (new ≡ sets old at (identifierText i)) → Put old at (identifierText i) new next
-put-identifier i p = record { now-there = p.1; now-at = omega (arith, p.0, length-identifier i) }
+pub put_identifier_law : {old new : List ℕ} {at next : ℕ} (i : ℕ) → (next ≡ at + 8) × (new ≡ sets old at (identifier_text i)) → Put old at (identifier_text i) new next
+put_identifier_law i p = record { now_there = p.1; now_at = omega (arith, p.0, length_identifier i) }
 
-pub put-decimal : {old new : List ℕ} {at next : ℕ} (n : ℕ) → (next ≡ at + decimalWidth n) × (new ≡ sets old at (decimalText n)) → Put old at (decimalText n) new next
-put-decimal n p = record { now-there = p.1; now-at = omega (arith, p.0, decimal-long n) }
+pub put_decimal_law : {old new : List ℕ} {at next : ℕ} (n : ℕ) → (next ≡ at + decimal_width_spec n) × (new ≡ sets old at (decimal_text n)) → Put old at (decimal_text n) new next
+put_decimal_law n p = record { now_there = p.1; now_at = omega (arith, p.0, decimal_long n) }
 
 -- i bytes of a text are written: writing what is left gives the final list
 pub record Written (old : List ℕ) (at : ℕ) (text out : List ℕ) (i : ℕ) : Type 0 where
@@ -50,13 +50,13 @@ pub none_written : (old : List ℕ) (at : ℕ) (text : List ℕ) → Written old
 none_written old at text = record { rest = ap (λ (n : ℕ). sets old n text) (add-zero at); within = omega arith; size = refl }
 
 module _ {old : List ℕ} {at : ℕ} {text out : List ℕ} {i : ℕ} (w : Written old at text out i) where
-  pub byte-written : i < length text → Written old at text (set out (at + i) (get_or text i 0)) (i + 1)
-  byte-written h =
+  pub byte_written : i < length text → Written old at text (set out (at + i) (get_or text i 0)) (i + 1)
+  byte_written h =
       record {
         rest = rw (add-one i, add-suc at i) (rw (drop-cons text i 0 h) at w.rest);
         within = omega arith;
         size = length-set out (at + i) (get_or text i 0) ∙ w.size;
       }
 
-  pub all-written : length text ≤ i → Put old at text out (at + i)
-  all-written h = record { now-there = rw (drop_of_length-le text h) at w.rest; now-at = omega (arith, w.within) }
+  pub all_written : length text ≤ i → Put old at text out (at + i)
+  all_written h = record { now_there = rw (drop_of_length-le text h) at w.rest; now_at = omega (arith, w.within) }

@@ -43,11 +43,11 @@ module _ (z : ℤ) (f : SFits w64 z) where
       by (negsuc n) f e = absurd (let z : ◌≡◌ {A = ℕ} 0 1 = cc in omega arith)
 
   module _ (p : Positive z) where
-    pub positive-held : held z ≡ pos p.n
-    positive-held = to_z-of_z w64 z f ∙ p.is
+    pub positive_held : held z ≡ pos p.n
+    positive_held = to_z-of_z w64 z f ∙ p.is
 
-    pub positive-cast : T (non_neg (held z)) × Fits w64 (nat_abs (held z))
-    positive-cast = subst⁻¹ (λ (x : ℤ). T (non_neg x) × Fits w64 (nat_abs x)) positive-held (tt, record { fits = omega (arith, p.small) })
+    pub positive_cast : T (non_neg (held z)) × Fits w64 (nat_abs (held z))
+    positive_cast = subst⁻¹ (λ (x : ℤ). T (non_neg x) × Fits w64 (nat_abs x)) positive_held (tt, record { fits = omega (arith, p.small) })
 
   module _ (m : Negative z) where
     one_more : (n : ℕ) → negsuc n +ℤ pos 1 ≡ neg_ℤ (pos n)
@@ -61,26 +61,26 @@ module _ (z : ℤ) (f : SFits w64 z) where
     raised : held z +ℤ pos 1 ≡ neg_ℤ (pos m.n)
     raised = ap (λ (x : ℤ). x +ℤ pos 1) (to_z-of_z w64 z f ∙ m.is) ∙ one_more m.n
 
-    pub raised-fits : SFits w64 (held z +ℤ pos 1)
-    raised-fits = subst⁻¹ (λ (x : ℤ). SFits w64 x) raised (fits_below m.n m.small)
+    pub raised_fits : SFits w64 (held z +ℤ pos 1)
+    raised_fits = subst⁻¹ (λ (x : ℤ). SFits w64 x) raised (fits_below m.n m.small)
 
     turned : pos 0 -ℤ held (held z +ℤ pos 1) ≡ pos m.n
     turned =
-        ap (λ (x : ℤ). pos 0 -ℤ x) (to_z-of_z w64 (held z +ℤ pos 1) raised-fits ∙ raised)
+        ap (λ (x : ℤ). pos 0 -ℤ x) (to_z-of_z w64 (held z +ℤ pos 1) raised_fits ∙ raised)
         ∙ ap (λ (x : ℤ). pos 0 +ℤ x) (neg_ℤ-neg_ℤ (pos m.n))
         ∙ ap pos (zero-add m.n)
 
-    pub turned-fits : SFits w64 (pos 0 -ℤ held (held z +ℤ pos 1))
-    turned-fits = subst⁻¹ (λ (x : ℤ). SFits w64 x) turned (record { sfits = m.small })
+    pub turned_fits : SFits w64 (pos 0 -ℤ held (held z +ℤ pos 1))
+    turned_fits = subst⁻¹ (λ (x : ℤ). SFits w64 x) turned (record { sfits = m.small })
 
-    turned-held : held (pos 0 -ℤ held (held z +ℤ pos 1)) ≡ pos m.n
-    turned-held = to_z-of_z w64 (pos 0 -ℤ held (held z +ℤ pos 1)) turned-fits ∙ turned
+    turned_held : held (pos 0 -ℤ held (held z +ℤ pos 1)) ≡ pos m.n
+    turned_held = to_z-of_z w64 (pos 0 -ℤ held (held z +ℤ pos 1)) turned_fits ∙ turned
 
-    pub turned-cast : T (non_neg (held (pos 0 -ℤ held (held z +ℤ pos 1)))) × Fits w64 (nat_abs (held (pos 0 -ℤ held (held z +ℤ pos 1))))
-    turned-cast = subst⁻¹ (λ (x : ℤ). T (non_neg x) × Fits w64 (nat_abs x)) turned-held (tt, record { fits = omega (arith, m.small) })
+    pub turned_cast : T (non_neg (held (pos 0 -ℤ held (held z +ℤ pos 1)))) × Fits w64 (nat_abs (held (pos 0 -ℤ held (held z +ℤ pos 1))))
+    turned_cast = subst⁻¹ (λ (x : ℤ). T (non_neg x) × Fits w64 (nat_abs x)) turned_held (tt, record { fits = omega (arith, m.small) })
 
-    pub turned-sum : Fits w64 (nat_abs (held (pos 0 -ℤ held (held z +ℤ pos 1))) + 1)
-    turned-sum = subst⁻¹ (λ (x : ℤ). Fits w64 (nat_abs x + 1)) turned-held (record { fits = omega (arith, m.small) })
+    pub turned_sum : Fits w64 (nat_abs (held (pos 0 -ℤ held (held z +ℤ pos 1))) + 1)
+    turned_sum = subst⁻¹ (λ (x : ℤ). Fits w64 (nat_abs x + 1)) turned_held (record { fits = omega (arith, m.small) })
 
-    pub turned-back : nat_abs (held (pos 0 -ℤ held (held z +ℤ pos 1))) + 1 ≡ nat_abs z
-    turned-back = ap (λ (x : ℤ). nat_abs x + 1) turned-held ∙ add-one m.n ∙ ap nat_abs (sym m.is)
+    pub turned_back : nat_abs (held (pos 0 -ℤ held (held z +ℤ pos 1))) + 1 ≡ nat_abs z
+    turned_back = ap (λ (x : ℤ). nat_abs x + 1) turned_held ∙ add-one m.n ∙ ap nat_abs (sym m.is)

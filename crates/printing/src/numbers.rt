@@ -1,7 +1,7 @@
 // Numbers in decimal, with their sign.
 ghost use Rattle.std.specs.Prelude.{◌≡◌, ◌+◌, ◌≤◌, ◌<◌, nat_abs, length};
 ghost use Rattle.printing.specs.Put.{Put};
-ghost use Rattle.printing.specs.Decimal.{digitCount, naturalText, naturalRoom, signedText, signedRoom};
+ghost use Rattle.printing.specs.Decimal.{digit_count_spec, natural_text, natural_room, signed_text, signed_room};
 
 use crate::bytes::put_byte;
 use writing::put_digits;
@@ -10,7 +10,7 @@ const MINUS: u8 = b'-';
 
 // How many decimal digits a number has.
 fn digit_count(n: u64) -> usize
-    ensures { result ≡ digitCount n }
+    ensures { result ≡ digit_count_spec n }
 {
     let mut count: usize = 1;
     let mut rest: u64 = n;
@@ -22,8 +22,8 @@ fn digit_count(n: u64) -> usize
 }
 
 pub fn put_natural(out: &mut [u8], at: usize, n: u64) -> usize
-    requires { at + naturalRoom ≤ length out.old }
-    ensures { Put out.old at (naturalText n) out.new result }
+    requires { at + natural_room ≤ length out.old }
+    ensures { Put out.old at (natural_text n) out.new result }
 {
     let count = digit_count(n);
     put_digits(&mut *out, at, count, n, 10);
@@ -41,8 +41,8 @@ fn magnitude(z: i64) -> u64
 }
 
 pub fn put_signed(out: &mut [u8], at: usize, z: i64) -> usize
-    requires { at + signedRoom ≤ length out.old }
-    ensures { Put out.old at (signedText z) out.new result }
+    requires { at + signed_room ≤ length out.old }
+    ensures { Put out.old at (signed_text z) out.new result }
 {
     let n = magnitude(z);
     if z < 0 {

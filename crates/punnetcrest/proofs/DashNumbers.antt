@@ -6,34 +6,34 @@ use lib.IntN.{ℤ}
 use lib.Ieee.{Float, binary64, of_bits, of_int, round}
 use Rattle.catalogue.specs.declared.Class.{Class}
 use Rattle.catalogue.specs.declared.Class.TheVariants as old
-use Rattle.catalogue.specs.Class.{classOf}
+use Rattle.catalogue.specs.Class.{class_of_spec}
 use Rattle.dash.specs.declared.Dash.{Dash}
 use Rattle.dash.specs.declared.DashAnswer.{DashAnswer}
 use Rattle.dash.specs.declared.DashAnswer.TheVariants.{Shown}
-use Rattle.dash.specs.Answer.{dashFor, dashOf, shownClass, noReading, shownReading}
-use Rattle.punnetcrest.specs.Classing.{classedInNumbers, classed}
-use Rattle.punnetcrest.specs.Dashing.{nameCode, dashedInNumbers, dashed}
+use Rattle.dash.specs.Answer.{dash_for, dash_of, shown_class, no_reading, shown_reading}
+use Rattle.punnetcrest.specs.Classing.{classed_in_numbers, classed}
+use Rattle.punnetcrest.specs.Dashing.{name_code, dashed_in_numbers, dashed}
 
 -- 0.0, as the code has it
-pub zero-as-coded : of_bits binary64 0 ≡ noReading
+pub zero_as_coded : of_bits binary64 0 ≡ no_reading
 unfolding of_bits of_int round
-zero-as-coded = refl
+zero_as_coded = refl
 
 module _ (number raw code : ℕ) (reading : Float) where
   -- an answer in numbers
-  pub in-numbers : {a b : DashAnswer} → a ≡ dashOf number (record { 0 = raw }) → a ≡ b → dashedInNumbers b code reading ≡ dashed number raw code reading
-  in-numbers is e = ap (λ (x : DashAnswer). dashedInNumbers x code reading) (sym e ∙ is)
+  pub in_numbers : {a b : DashAnswer} → a ≡ dash_of number (record { 0 = raw }) → a ≡ b → dashed_in_numbers b code reading ≡ dashed number raw code reading
+  in_numbers is e = ap (λ (x : DashAnswer). dashed_in_numbers x code reading) (sym e ∙ is)
 
-  pub shown-in-numbers : {a : DashAnswer} {d : Dash} {k : ℕ} {x : Float} → a ≡ dashOf number (record { 0 = raw }) → a ≡ Shown d
-      → k ≡ nameCode (shownClass d) → x ≡ shownReading d → (0, (k, x)) ≡ dashed number raw code reading
-  shown-in-numbers is e f g = (λ i. (0, (f i, g i))) ∙ in-numbers is e
+  pub shown_in_numbers : {a : DashAnswer} {d : Dash} {k : ℕ} {x : Float} → a ≡ dash_of number (record { 0 = raw }) → a ≡ Shown d
+      → k ≡ name_code (shown_class d) → x ≡ shown_reading d → (0, (k, x)) ≡ dashed number raw code reading
+  shown_in_numbers is e f g = (λ i. (0, (f i, g i))) ∙ in_numbers is e
 
   -- ---- beside pc_class, whatever was lent to it
 
   module _ (thousandths : ℤ) where
     same_of : (c : Class)
-        → ((dashedInNumbers (dashFor c) code reading).0 ≡ (classedInNumbers c code thousandths).0)
-        × ((dashedInNumbers (dashFor c) code reading).1.0 ≡ (classedInNumbers c code thousandths).1.0)
+        → ((dashed_in_numbers (dash_for c) code reading).0 ≡ (classed_in_numbers c code thousandths).0)
+        × ((dashed_in_numbers (dash_for c) code reading).1.0 ≡ (classed_in_numbers c code thousandths).1.0)
     same_of (old.Value t) = (refl, refl)
     same_of (old.Invalid r) = (refl, refl)
     same_of (old.Absent r) = (refl, refl)
@@ -44,6 +44,6 @@ module _ (number raw code : ℕ) (reading : Float) where
     same_of old.TooWide = (refl, refl)
 
     -- the refusal is the same, and so is what stands in *class_code
-    pub as-classed : ((dashed number raw code reading).0 ≡ (classed number raw code thousandths).0) × ((dashed number raw code reading).1.0 ≡ (classed number raw code thousandths).1.0)
-    unfolding dashOf
-    as-classed = same_of (classOf number (record { 0 = raw }))
+    pub as_classed : ((dashed number raw code reading).0 ≡ (classed number raw code thousandths).0) × ((dashed number raw code reading).1.0 ≡ (classed number raw code thousandths).1.0)
+    unfolding dash_of
+    as_classed = same_of (class_of_spec number (record { 0 = raw }))

@@ -5,15 +5,15 @@ use mathlib.Core.Path.{◌≡◌, refl, ap}
 use Rattle.power.specs.declared.Share.TheVariants.{Named, NoneGiven}
 use Rattle.power.specs.declared.StateOrNone.{StateOrNone}
 use Rattle.power.specs.declared.StateOrNone.TheVariants.{State, NoState}
-use Rattle.power.specs.States.{stateNumbered}
+use Rattle.power.specs.States.{state_numbered}
 use Rattle.power.proofs.AsBefore.{as_before}
-use Rattle.punnetcrest.specs.Powering.{seenIn, steppedInNumbers, steppedFrom, stepped}
-use Rattle.punnetcrest.specs.PoweringBefore.{steppedFromBeforeP6, steppedBeforeP6}
+use Rattle.punnetcrest.specs.Powering.{seen_in, stepped_in_numbers, stepped_from, stepped}
+use Rattle.punnetcrest.specs.PoweringBefore.{stepped_from_before_p6, stepped_before_p6}
 
 module _ (state : ℕ) (seen : List ℕ) where
-  pub named-95 : stepped state seen (Named 95) ≡ steppedBeforeP6 state seen
-  named-95 = go (stateNumbered state)
+  pub named_95 : stepped state seen (Named 95) ≡ stepped_before_p6 state seen
+  named_95 = go (state_numbered state)
     where
-      go : (from : StateOrNone) → steppedFrom from state seen (Named 95) ≡ steppedFromBeforeP6 from state seen
-      go (State from) = ap steppedInNumbers (as_before (seenIn seen NoneGiven) from)
+      go : (from : StateOrNone) → stepped_from from state seen (Named 95) ≡ stepped_from_before_p6 from state seen
+      go (State from) = ap stepped_in_numbers (as_before (seen_in seen NoneGiven) from)
       go NoState = refl

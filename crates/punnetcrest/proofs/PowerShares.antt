@@ -5,14 +5,14 @@ use mathlib.Core.Path.{◌≡◌, refl, ap}
 use Rattle.power.specs.declared.Share.TheVariants.{Named, NoneGiven}
 use Rattle.power.specs.declared.StateOrNone.{StateOrNone}
 use Rattle.power.specs.declared.StateOrNone.TheVariants.{State, NoState}
-use Rattle.power.specs.States.{stateNumbered}
-use Rattle.power.proofs.Shared.{none-is-90}
-use Rattle.punnetcrest.specs.Powering.{seenIn, steppedInNumbers, steppedFrom, stepped}
+use Rattle.power.specs.States.{state_numbered}
+use Rattle.power.proofs.Shared.{none_is_90}
+use Rattle.punnetcrest.specs.Powering.{seen_in, stepped_in_numbers, stepped_from, stepped}
 
 module _ (state : ℕ) (seen : List ℕ) where
-  pub none-given : stepped state seen NoneGiven ≡ stepped state seen (Named 90)
-  none-given = go (stateNumbered state)
+  pub none_given : stepped state seen NoneGiven ≡ stepped state seen (Named 90)
+  none_given = go (state_numbered state)
     where
-      go : (from : StateOrNone) → steppedFrom from state seen NoneGiven ≡ steppedFrom from state seen (Named 90)
-      go (State from) = ap steppedInNumbers (none-is-90 (seenIn seen NoneGiven) from)
+      go : (from : StateOrNone) → stepped_from from state seen NoneGiven ≡ stepped_from from state seen (Named 90)
+      go (State from) = ap stepped_in_numbers (none_is_90 (seen_in seen NoneGiven) from)
       go NoState = refl

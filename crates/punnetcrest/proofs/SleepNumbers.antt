@@ -5,14 +5,14 @@ use mathlib.Core.Path.{◌≡◌, ap}
 use lib.Dec.{eqb}
 use borrow.Author.Tests.{le-leb, lt-leb}
 use Rattle.sleep.specs.declared.Updated.{Updated}
-use Rattle.sleep.specs.Watching.{sleepRefusal, watchOf, after_call}
-use Rattle.punnetcrest.specs.Sleeping.{notASleepState, watchedInNumbers, watched}
+use Rattle.sleep.specs.Watching.{sleep_refusal, watch_of, after_call}
+use Rattle.punnetcrest.specs.Sleeping.{not_asleep_state, watched_in_numbers, watched}
 
-pub no-watch : (lastWake asleep time wake : ℕ) → 1 < asleep → (notASleepState, (lastWake, asleep)) ≡ watched lastWake asleep time wake
+pub no_watch : (last_wake_spec asleep time wake : ℕ) → 1 < asleep → (not_asleep_state, (last_wake_spec, asleep)) ≡ watched last_wake_spec asleep time wake
 unfolding watched
-no-watch lastWake asleep time wake h = rw (lt-leb asleep 1 h)
+no_watch last_wake_spec asleep time wake h = rw (lt-leb asleep 1 h)
 
-pub as-watched : (lastWake asleep time wake : ℕ) {u : Updated} {sleeps : Bool} → asleep ≤ 1 → u ≡ after_call (watchOf lastWake (eqb asleep 1)) time (not (eqb wake 0)) → u.watch.asleep ≡ sleeps
-    → (sleepRefusal u.answer, (u.watch.last_wake, cond sleeps 1 0)) ≡ watched lastWake asleep time wake
+pub as_watched : (last_wake_spec asleep time wake : ℕ) {u : Updated} {sleeps : Bool} → asleep ≤ 1 → u ≡ after_call (watch_of last_wake_spec (eqb asleep 1)) time (not (eqb wake 0)) → u.watch.asleep ≡ sleeps
+    → (sleep_refusal u.answer, (u.watch.last_wake, cond sleeps 1 0)) ≡ watched last_wake_spec asleep time wake
 unfolding watched
-as-watched lastWake asleep time wake h e s = rw (le-leb asleep 1 h, ← s) (ap watchedInNumbers e)
+as_watched last_wake_spec asleep time wake h e s = rw (le-leb asleep 1 h, ← s) (ap watched_in_numbers e)

@@ -8,13 +8,13 @@ abbrev pub number_in : Said → ℕ
 number_in (taken m s r) = 0
 number_in (refused why line) = why
 
-abbrev pub lineIn : Said → ℕ
-lineIn (taken m s r) = 0
-lineIn (refused why line) = line
+abbrev pub line_in : Said → ℕ
+line_in (taken m s r) = 0
+line_in (refused why line) = line
 
 -- pc_book_read, with this text, returns r and leaves the words of the book and *line so
 pub record BookRead (text : List ℕ) (r : ℕ) (words : List ℕ) (at : ℕ) : Type 0 where
   pub said : Said
   pub answer : Answered text said words
   pub number : r ≡ number_in said
-  pub line : at ≡ lineIn said
+  pub line : at ≡ line_in said

@@ -2,23 +2,23 @@
 use Rattle.std.specs.Prelude.{ℕ, Float}
 use Rattle.dash.specs.declared.DashAnswer.{DashAnswer}
 use Rattle.dash.specs.declared.DashAnswer.TheVariants.{Shown, NotInCatalogue, TooWide}
-use Rattle.dash.specs.Answer.{dashOf, dashNumber, ClassName, value, invalid, absent, error, reserved, outside, shownClass, shownReading}
+use Rattle.dash.specs.Answer.{dash_of, dash_number, ClassName, value, invalid, absent, error, reserved, outside, shown_class, shown_reading}
 
 -- the code of a class: that of pc_class
-abbrev pub nameCode : ClassName → ℕ
-nameCode value = 0
-nameCode invalid = 1
-nameCode absent = 2
-nameCode error = 3
-nameCode reserved = 4
-nameCode outside = 5
+abbrev pub name_code : ClassName → ℕ
+name_code value = 0
+name_code invalid = 1
+name_code absent = 2
+name_code error = 3
+name_code reserved = 4
+name_code outside = 5
 
 -- a refusal leaves both
-abbrev pub dashedInNumbers : DashAnswer → ℕ → Float → ℕ × (ℕ × Float)
-dashedInNumbers (Shown d) code reading = (0, (nameCode (shownClass d), shownReading d))
-dashedInNumbers NotInCatalogue code reading = (dashNumber NotInCatalogue, (code, reading))
-dashedInNumbers TooWide code reading = (dashNumber TooWide, (code, reading))
+abbrev pub dashed_in_numbers : DashAnswer → ℕ → Float → ℕ × (ℕ × Float)
+dashed_in_numbers (Shown d) code reading = (0, (name_code (shown_class d), shown_reading d))
+dashed_in_numbers NotInCatalogue code reading = (dash_number NotInCatalogue, (code, reading))
+dashed_in_numbers TooWide code reading = (dash_number TooWide, (code, reading))
 
 -- pc_dash
 abbrev pub dashed : ℕ → ℕ → ℕ → Float → ℕ × (ℕ × Float)
-dashed number raw code reading = dashedInNumbers (dashOf number (record { 0 = raw })) code reading
+dashed number raw code reading = dashed_in_numbers (dash_of number (record { 0 = raw })) code reading

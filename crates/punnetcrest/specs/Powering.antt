@@ -6,24 +6,24 @@ use Rattle.power.specs.declared.Share.{Share}
 use Rattle.power.specs.declared.StateOrNone.{StateOrNone}
 use Rattle.power.specs.declared.StateOrNone.TheVariants.{State, NoState}
 use Rattle.power.specs.declared.Stepped.{Stepped}
-use Rattle.power.specs.States.{stateNumber, stateNumbered}
-use Rattle.power.specs.Rules.{startsAs}
-use Rattle.power.specs.Refusals.{powerRefusal, step_of}
+use Rattle.power.specs.States.{state_number, state_numbered}
+use Rattle.power.specs.Rules.{starts_as}
+use Rattle.power.specs.Refusals.{power_refusal, step_of}
 
 -- PC_POWER_START, the first *state: "A monitor starts off"
-abbrev pub powerStart : ℕ
-powerStart = stateNumber startsAs
+abbrev pub power_start : ℕ
+power_start = state_number starts_as
 
 -- 91, the face's own refusal: *state is no state's number
-abbrev pub notAPowerState : ℕ
-notAPowerState = 91
+abbrev pub not_apower_state : ℕ
+not_apower_state = 91
 
 -- the observation that is lent as eight raw counts: the relays 302, 303 and 301, then 1601, 1604, 203, 201 and 202; and the share with it
 abbrev seen_at : List ℕ → ℕ → Raw
 seen_at seen place = record { 0 = get_or seen place 0 }
 
-abbrev pub seenIn : List ℕ → Share → Observation
-seenIn seen share =
+abbrev pub seen_in : List ℕ → Share → Observation
+seen_in seen share =
     record {
       main_negative = seen_at seen 0;
       precharge = seen_at seen 1;
@@ -36,14 +36,14 @@ seenIn seen share =
       share = share;
     }
 
-abbrev pub steppedInNumbers : Stepped → ℕ × ℕ
-steppedInNumbers s = (powerRefusal s.answer, stateNumber s.state)
+abbrev pub stepped_in_numbers : Stepped → ℕ × ℕ
+stepped_in_numbers s = (power_refusal s.answer, state_number s.state)
 
 -- the step from the state that a number stands for; a number that stands for none is kept
-abbrev pub steppedFrom : StateOrNone → ℕ → List ℕ → Share → ℕ × ℕ
-steppedFrom (State from) kept seen share = steppedInNumbers (step_of from (seenIn seen share))
-steppedFrom NoState kept seen share = (notAPowerState, kept)
+abbrev pub stepped_from : StateOrNone → ℕ → List ℕ → Share → ℕ × ℕ
+stepped_from (State from) kept seen share = stepped_in_numbers (step_of from (seen_in seen share))
+stepped_from NoState kept seen share = (not_apower_state, kept)
 
 -- pc_power_step_by with the share that it names, and pc_power_step with none given
 abbrev pub stepped : ℕ → List ℕ → Share → ℕ × ℕ
-stepped state seen share = steppedFrom (stateNumbered state) state seen share
+stepped state seen share = stepped_from (state_numbered state) state seen share

@@ -4,15 +4,15 @@ use Rattle.std.specs.Prelude.{ℕ, List}
 use Rattle.power.specs.declared.Share.TheVariants.{NoneGiven}
 use Rattle.power.specs.declared.StateOrNone.{StateOrNone}
 use Rattle.power.specs.declared.StateOrNone.TheVariants.{State, NoState}
-use Rattle.power.specs.States.{stateNumbered}
-use Rattle.power.specs.Before.{stepBeforeP6}
-use Rattle.punnetcrest.specs.Powering.{notAPowerState, seenIn, steppedInNumbers}
+use Rattle.power.specs.States.{state_numbered}
+use Rattle.power.specs.Before.{step_before_p6}
+use Rattle.punnetcrest.specs.Powering.{not_apower_state, seen_in, stepped_in_numbers}
 
 -- the step before P6 looks at no share, so any may stand in the observation
-abbrev pub steppedFromBeforeP6 : StateOrNone → ℕ → List ℕ → ℕ × ℕ
-steppedFromBeforeP6 (State from) kept seen = steppedInNumbers (stepBeforeP6 from (seenIn seen NoneGiven))
-steppedFromBeforeP6 NoState kept seen = (notAPowerState, kept)
+abbrev pub stepped_from_before_p6 : StateOrNone → ℕ → List ℕ → ℕ × ℕ
+stepped_from_before_p6 (State from) kept seen = stepped_in_numbers (step_before_p6 from (seen_in seen NoneGiven))
+stepped_from_before_p6 NoState kept seen = (not_apower_state, kept)
 
 -- pc_power_step, as it was
-abbrev pub steppedBeforeP6 : ℕ → List ℕ → ℕ × ℕ
-steppedBeforeP6 state seen = steppedFromBeforeP6 (stateNumbered state) state seen
+abbrev pub stepped_before_p6 : ℕ → List ℕ → ℕ × ℕ
+stepped_before_p6 state seen = stepped_from_before_p6 (state_numbered state) state seen

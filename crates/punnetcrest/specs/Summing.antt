@@ -3,22 +3,22 @@ use Rattle.std.specs.Prelude.{ℕ, cond, List, [], ◌∷◌}
 use Rattle.faults.specs.declared.FaultSum.{FaultSum}
 use Rattle.faults.specs.declared.FaultAnswer.{FaultAnswer}
 use Rattle.faults.specs.declared.FaultAnswer.TheVariants.{Summed, NotTwentySeven, TooWide}
-use Rattle.faults.specs.Sum.{faultRefusal, answerTo}
+use Rattle.faults.specs.Sum.{fault_refusal, answer_to}
 
 -- highest, at 1, at 2, at 3, set, emergency, agrees; 1 and 0 for yes and no
-abbrev pub sumWords : FaultSum → List ℕ
-sumWords s =
+abbrev pub sum_words : FaultSum → List ℕ
+sum_words s =
     s.highest ∷ s.at_1 ∷ s.at_2 ∷ s.at_3 ∷ s.set ∷ cond s.emergency 1 0 ∷ cond s.agrees 1 0 ∷ []
 
 -- a refusal leaves the words
-abbrev pub wordsAfter : FaultAnswer → List ℕ → List ℕ
-wordsAfter (Summed s) words = sumWords s
-wordsAfter NotTwentySeven words = words
-wordsAfter TooWide words = words
+abbrev pub words_after : FaultAnswer → List ℕ → List ℕ
+words_after (Summed s) words = sum_words s
+words_after NotTwentySeven words = words
+words_after TooWide words = words
 
-abbrev pub summedInNumbers : FaultAnswer → List ℕ → ℕ × List ℕ
-summedInNumbers a words = (faultRefusal a, wordsAfter a words)
+abbrev pub summed_in_numbers : FaultAnswer → List ℕ → ℕ × List ℕ
+summed_in_numbers a words = (fault_refusal a, words_after a words)
 
 -- pc_fault_sum
-abbrev pub faultsSummed : List ℕ → List ℕ → ℕ × List ℕ
-faultsSummed counts words = summedInNumbers (answerTo counts) words
+abbrev pub faults_summed : List ℕ → List ℕ → ℕ × List ℕ
+faults_summed counts words = summed_in_numbers (answer_to counts) words

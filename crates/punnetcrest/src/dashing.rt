@@ -1,14 +1,14 @@
 // A raw count as the dash draws it.
 ghost use Rattle.std.specs.Prelude.{◌≡◌};
-ghost use Rattle.dash.specs.Answer.{shownClass, shownReading};
-ghost use Rattle.punnetcrest.specs.Dashing.{nameCode, dashed};
+ghost use Rattle.dash.specs.Answer.{shown_class, shown_reading};
+ghost use Rattle.punnetcrest.specs.Dashing.{name_code, dashed};
 
 use catalogue::Raw;
 use dash::{Dash, DashAnswer};
 
 // The code of the class, as pc_class gives it.
 fn code_of(shown: Dash) -> u32
-    ensures { result ≡ nameCode (shownClass shown) }
+    ensures { result ≡ name_code (shown_class shown) }
 {
     match shown {
         Dash::Value(_) => 0,
@@ -22,7 +22,7 @@ fn code_of(shown: Dash) -> u32
 
 // The reading of a value; 0 where the class is no value.
 fn reading_of(shown: Dash) -> f64
-    ensures { result ≡ shownReading shown }
+    ensures { result ≡ shown_reading shown }
 {
     match shown {
         Dash::Value(reading) => reading,

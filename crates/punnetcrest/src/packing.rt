@@ -1,6 +1,6 @@
 // Packing a frame by a lent book.
 ghost use Rattle.std.specs.Prelude.{◌≡◌};
-ghost use Rattle.framing.specs.Packing.{packingNumber};
+ghost use Rattle.framing.specs.Packing.{packing_number};
 ghost use Rattle.punnetcrest.specs.Packing.{packed};
 
 use framing::Packing;
@@ -8,7 +8,7 @@ use record::BOOK_WORDS;
 
 // Document 01's number of the packer's answer.
 fn number_of(answer: Packing) -> u32
-    ensures { result ≡ packingNumber answer }
+    ensures { result ≡ packing_number answer }
 {
     match answer {
         Packing::Packed => 0,

@@ -1,8 +1,8 @@
 // The power monitor, its state as one number: with the share of the call's own, or with none.
 ghost use Rattle.std.specs.Prelude.{◌≡◌};
 ghost use Rattle.power.specs.declared.Share.TheVariants.{Named, NoneGiven};
-ghost use Rattle.power.specs.Refusals.{powerRefusal};
-ghost use Rattle.punnetcrest.specs.Powering.{seenIn, stepped};
+ghost use Rattle.power.specs.Refusals.{power_refusal};
+ghost use Rattle.punnetcrest.specs.Powering.{seen_in, stepped};
 
 use catalogue::Raw;
 
@@ -28,7 +28,7 @@ const INSIDE: usize = 6;
 const OUTSIDE: usize = 7;
 
 fn observation_of(seen: &[u32; SEEN_WORDS], share: power::Share) -> power::Observation
-    ensures { result ≡ seenIn seen.now share }
+    ensures { result ≡ seen_in seen.now share }
 {
     power::Observation {
         main_negative: Raw(seen[MAIN_NEGATIVE]),
@@ -45,7 +45,7 @@ fn observation_of(seen: &[u32; SEEN_WORDS], share: power::Share) -> power::Obser
 
 // The documents' number of the monitor's answer.
 fn number_of(answer: power::PowerAnswer) -> u32
-    ensures { result ≡ powerRefusal answer }
+    ensures { result ≡ power_refusal answer }
 {
     match answer {
         power::PowerAnswer::Taken => 0,

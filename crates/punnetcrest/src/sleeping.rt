@@ -1,13 +1,13 @@
 // The sleep watch, its state as two numbers.
 ghost use Rattle.std.specs.Prelude.{◌≡◌};
-ghost use Rattle.sleep.specs.Watching.{sleepRefusal};
+ghost use Rattle.sleep.specs.Watching.{sleep_refusal};
 ghost use Rattle.punnetcrest.specs.Sleeping.{started, watched};
 
 const NOT_A_SLEEP_STATE: u32 = 92;
 
 // Document 01's number of the watch's answer.
 fn number_of(answer: sleep::SleepAnswer) -> u32
-    ensures { result ≡ sleepRefusal answer }
+    ensures { result ≡ sleep_refusal answer }
 {
     match answer {
         sleep::SleepAnswer::Taken => 0,

@@ -1,6 +1,6 @@
 // The fault sum, as seven numbers.
 ghost use Rattle.std.specs.Prelude.{◌≡◌};
-ghost use Rattle.punnetcrest.specs.Summing.{sumWords, faultsSummed};
+ghost use Rattle.punnetcrest.specs.Summing.{sum_words, faults_summed};
 
 use crate::numbers;
 
@@ -12,7 +12,7 @@ const FAULT_TOO_WIDE: u32 = 32;
 
 // Highest, at 1, at 2, at 3, set, emergency, agrees.
 fn words_of(found: faults::FaultSum) -> [u32; SUM_WORDS]
-    ensures { result ≡ sumWords found }
+    ensures { result ≡ sum_words found }
 {
     [
         found.highest,
@@ -28,7 +28,7 @@ fn words_of(found: faults::FaultSum) -> [u32; SUM_WORDS]
 // Writes the sum over the raw counts of 1901 to 1927.
 #[unsafe(no_mangle)]
 pub extern "C" fn pc_fault_sum(counts: &[u32], sum: &mut [u32; SUM_WORDS]) -> u32
-    ensures { (result, sum.new) ≡ faultsSummed counts.now sum.old }
+    ensures { (result, sum.new) ≡ faults_summed counts.now sum.old }
 {
     let answer = faults::sum(counts);
     match answer {

@@ -1,14 +1,14 @@
 // Reading a frame by a lent book.
 ghost use Rattle.std.specs.Prelude.{◌≡◌};
-ghost use Rattle.framing.specs.Reading.{readingNumber};
-ghost use Rattle.punnetcrest.specs.Unpacking.{readingCountAfter, roomLent, FrameRead};
+ghost use Rattle.framing.specs.Reading.{reading_number};
+ghost use Rattle.punnetcrest.specs.Unpacking.{reading_count_after, room_lent, FrameRead};
 
 use framing::Reading;
 use record::BOOK_WORDS;
 
 // Document 01's number of the reader's answer.
 fn number_of(answer: Reading) -> u32
-    ensures { result ≡ readingNumber answer }
+    ensures { result ≡ reading_number answer }
 {
     match answer {
         Reading::Read(_) => 0,
@@ -22,7 +22,7 @@ fn number_of(answer: Reading) -> u32
 
 // How many readings were written, or the count as it was.
 fn count_after(answer: Reading, count: u32) -> u32
-    ensures { result ≡ readingCountAfter answer count }
+    ensures { result ≡ reading_count_after answer count }
 {
     match answer {
         Reading::Read(n) => n,
@@ -45,8 +45,8 @@ pub extern "C" fn pc_frame_read(
     thousandths: &mut [i64],
     count: &mut u32,
 ) -> u32
-    ensures { FrameRead book.now identifier frame.now (roomLent raws.old classes.old thousandths.old count.old) result
-        (roomLent raws.new classes.new thousandths.new count.new) }
+    ensures { FrameRead book.now identifier frame.now (room_lent raws.old classes.old thousandths.old count.old) result
+        (room_lent raws.new classes.new thousandths.new count.new) }
 {
     let answer = frames::read(book, identifier, frame, raws, classes, thousandths);
     *count = count_after(answer, *count);

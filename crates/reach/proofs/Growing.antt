@@ -7,11 +7,11 @@ use mathlib.Core.List.{List, [], ◌∷◌}
 use lib.ListN.{length, get_or, set}
 use Rattle.reach.specs.Handing.{total}
 
-pub total-set : (l : List ℕ) (i v : ℕ) → i < length l → total (set l i v) + get_or l i 0 ≡ total l + v
+pub total_set : (l : List ℕ) (i v : ℕ) → i < length l → total (set l i v) + get_or l i 0 ≡ total l + v
 unfolding total
-total-set [] i v h = absurd (omega arith)
-total-set (x ∷ l) zero v h = omega arith
-total-set (x ∷ l) (suc i) v h = omega (arith, total-set l i v (omega arith))
+total_set [] i v h = absurd (omega arith)
+total_set (x ∷ l) zero v h = omega arith
+total_set (x ∷ l) (suc i) v h = omega (arith, total_set l i v (omega arith))
 
 pub set_same : (l : List ℕ) (i v : ℕ) → v ≡ get_or l i 0 → set l i v ≡ l
 set_same [] i v e = refl
@@ -19,7 +19,7 @@ set_same (x ∷ l) zero v e = ap (λ (y : ℕ). y ∷ l) e
 set_same (x ∷ l) (suc i) v e = ap (λ (y : List ℕ). x ∷ y) (set_same l i v e)
 
 -- masks of b bits
-pub total-most : (l : List ℕ) (b : ℕ) → ((x : ℕ) → get_or l x 0 ≤ b) → total l ≤ length l * b
+pub total_most : (l : List ℕ) (b : ℕ) → ((x : ℕ) → get_or l x 0 ≤ b) → total l ≤ length l * b
 unfolding total
-total-most [] b h = omega arith
-total-most (x ∷ l) b h = let k = total-most l b (λ y. h (suc y)) in let f = h 0 in omega (arith, suc-mul (length l) b)
+total_most [] b h = omega arith
+total_most (x ∷ l) b h = let k = total_most l b (λ y. h (suc y)) in let f = h 0 in omega (arith, suc-mul (length l) b)

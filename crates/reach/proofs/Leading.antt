@@ -10,24 +10,24 @@ use lib.Seq.{get_or-set_same, get_or-set_other}
 use lib.Dec.{eqb}
 use borrow.Author.Count.{below_more}
 use borrow.Author.Tests.{eqb-true, eq-eqb}
-use Rattle.zeros.proofs.Gathering.{zero-at}
+use Rattle.zeros.proofs.Gathering.{zero_at}
 use Rattle.masks.specs.Bit.{bit}
-use Rattle.masks.proofs.Bits.{bit-zero}
+use Rattle.masks.proofs.Bits.{bit_zero}
 use Rattle.chains.specs.Chain.{Walk, LeadsOn}
 use Rattle.chains.specs.Tells.{Tells}
-use Rattle.chains.proofs.Bools.{or_cases, or_left, or_right, test-tells}
+use Rattle.chains.proofs.Bools.{or_cases, or_left, or_right, test_tells}
 use Rattle.reach.specs.Led.{Led, OnwardFilled}
 use Rattle.reach.specs.Handing.{Real, Settled}
-use Rattle.reach.proofs.Handed.{as-walk}
+use Rattle.reach.proofs.Handed.{as_walk}
 
 -- empty masks have no bit
-pub bit-empty : (n x k : ℕ) → bit (get_or (replicate n 0) x 0) k ≡ false
-bit-empty n x k = ap (λ (m : ℕ). bit m k) (zero-at n x) ∙ bit-zero k
+pub bit_empty : (n x k : ℕ) → bit (get_or (replicate n 0) x 0) k ≡ false
+bit_empty n x k = ap (λ (m : ℕ). bit m k) (zero_at n x) ∙ bit_zero k
 
 module _ (starts ends : List ℕ) where
-  pub real-start : (n : ℕ) → Real starts ends (replicate n 0)
+  pub real_start : (n : ℕ) → Real starts ends (replicate n 0)
   unfolding Real
-  real-start n x y h = absurd (true≢false (sym h ∙ bit-empty n x y))
+  real_start n x y h = absurd (true≢false (sym h ∙ bit_empty n x y))
 
   module _ (m : List ℕ) (is : Settled starts ends m) where
     -- where a walk goes from the end of route i is among what the route hands on
@@ -40,13 +40,13 @@ module _ (starts ends : List ℕ) where
     leads : (i x : ℕ) → bit (get_or m (get_or ends i 0) 0) x || eqb x (get_or ends i 0) ≡ true → LeadsOn starts ends i x
     unfolding Real
     leads i x h =
-        ⊎_elim (λ b. let r = is.real (get_or ends i 0) x b in (r.0, as-walk starts ends (get_or ends i 0) r.0 x r.1)) (λ b. ([], sym (eqb-true _ _ b)))
+        ⊎_elim (λ b. let r = is.real (get_or ends i 0) x b in (r.0, as_walk starts ends (get_or ends i 0) r.0 x r.1)) (λ b. ([], sym (eqb-true _ _ b)))
         (or_cases (bit (get_or m (get_or ends i 0) 0) x) (eqb x (get_or ends i 0)) h)
 
-    pub tells-one : (i e w : ℕ) → e ≡ get_or ends i 0 → ((k : ℕ) → bit w k ≡ bit (get_or m e 0) k || eqb k e) → (x : ℕ) → Tells (LeadsOn starts ends i x) (bit w x)
-    tells-one i e w end bits x =
+    pub tells_one : (i e w : ℕ) → e ≡ get_or ends i 0 → ((k : ℕ) → bit w k ≡ bit (get_or m e 0) k || eqb k e) → (x : ℕ) → Tells (LeadsOn starts ends i x) (bit w x)
+    tells_one i e w end bits x =
         let same : bit w x ≡ (bit (get_or m (get_or ends i 0) 0) x || eqb x (get_or ends i 0)) = bits x ∙ ap (λ (y : ℕ). bit (get_or m y 0) x || eqb x y) end in
-        test-tells (bit w x) (λ h. leads i x (sym same ∙ h)) (λ l. same ∙ told i l.0 x l.1)
+        test_tells (bit w x) (λ h. leads i x (sym same ∙ h)) (λ l. same ∙ told i l.0 x l.1)
 
 -- the masks of the first i routes say it
 pub record Leading (starts ends onward₀ onward : List ℕ) (i : ℕ) : Type 0 where
@@ -55,12 +55,12 @@ pub record Leading (starts ends onward₀ onward : List ℕ) (i : ℕ) : Type 0 
   pub rest : (j : ℕ) → length starts ≤ j → get_or onward j 0 ≡ get_or onward₀ j 0
   pub done : (j : ℕ) → j < i → (x : ℕ) → Tells (LeadsOn starts ends j x) (bit (get_or onward j 0) x)
 
-pub leading-start : (starts ends onward : List ℕ) → Leading starts ends onward onward 0
-leading-start starts ends onward = record { within = omega arith; long = refl; rest = λ j l. refl; done = λ j l. absurd (omega arith) }
+pub leading_start : (starts ends onward : List ℕ) → Leading starts ends onward onward 0
+leading_start starts ends onward = record { within = omega arith; long = refl; rest = λ j l. refl; done = λ j l. absurd (omega arith) }
 
-pub leading-more : (starts ends onward₀ onward : List ℕ) (i : ℕ) → Leading starts ends onward₀ onward i → i < length starts → i < length onward
+pub leading_more : (starts ends onward₀ onward : List ℕ) (i : ℕ) → Leading starts ends onward₀ onward i → i < length starts → i < length onward
     → (w : ℕ) → ((x : ℕ) → Tells (LeadsOn starts ends i x) (bit w x)) → Leading starts ends onward₀ (set onward i w) (i + 1)
-leading-more starts ends onward₀ onward i inv l il w tells = record {
+leading_more starts ends onward₀ onward i inv l il w tells = record {
   within = omega arith;
   long = length-set onward i w ∙ inv.long;
   rest = λ j b. get_or-set_other onward i j w 0 (λ z. absurd (omega arith)) ∙ inv.rest j b;

@@ -10,7 +10,7 @@ use lib.ListN.{length, get_or}
 use Rattle.masks.specs.Bit.{width}
 use Rattle.reach.specs.Led.{turn}
 use Rattle.reach.specs.Handing.{total, Real, HandedOn, Handing, Settled}
-use Rattle.reach.proofs.Growing.{total-most}
+use Rattle.reach.proofs.Growing.{total_most}
 
 -- the route has had its turn among the first t
 abbrev pub Turned : ℕ → Bool → ℕ → ℕ → Type 0
@@ -23,13 +23,13 @@ pub turned_more : (n : ℕ) (down : Bool) (t i : ℕ) → i ≡ turn n down t �
 turned_more n down t i e j (u, l, f) =
     ⊎_elim (λ q. inr (f ∙ ap (λ (x : ℕ). turn n down x) q ∙ sym e)) (λ h. inl (u, h, f)) (eq-or-lt_of_le (omega arith))
 
-pub turned-all : (n : ℕ) (down : Bool) (t : ℕ) → n ≤ t → (j : ℕ) → j < n → Turned n down t j
-turned-all n true t h j l = (n - 1 - j, omega arith, omega arith)
-turned-all n false t h j l = (j, omega arith, refl)
+pub turned_all : (n : ℕ) (down : Bool) (t : ℕ) → n ≤ t → (j : ℕ) → j < n → Turned n down t j
+turned_all n true t h j l = (n - 1 - j, omega arith, omega arith)
+turned_all n false t h j l = (j, omega arith, refl)
 
-pub handing-for : (starts ends : List ℕ) (Some : ℕ → Type 0) (old now : List ℕ) (new : Bool) (Few : ℕ → Type 0) → Handing starts ends Some old now new
+pub handing_for : (starts ends : List ℕ) (Some : ℕ → Type 0) (old now : List ℕ) (new : Bool) (Few : ℕ → Type 0) → Handing starts ends Some old now new
     → ((j : ℕ) → Few j → Some j) → Handing starts ends Few old now new
-handing-for starts ends Some old now new Few h f = record {
+handing_for starts ends Some old now new Few h f = record {
   long = h.long;
   real = h.real;
   grown = h.grown;
@@ -47,22 +47,22 @@ abbrev pub left : List ℕ → Bool → ℕ
 left m new = 2 * width * 2 ^ width - total m + cond new 1 0
 
 module _ (starts ends : List ℕ) where
-  pub settling-start : (m : List ℕ) → length m ≡ 2 * width → Real starts ends m → Settling starts ends m true
-  settling-start m l r = record { long = l; real = r; settled = λ h. absurd (true≢false h) }
+  pub settling_start : (m : List ℕ) → length m ≡ 2 * width → Real starts ends m → Settling starts ends m true
+  settling_start m l r = record { long = l; real = r; settled = λ h. absurd (true≢false h) }
 
-  pub settling-end : (m : List ℕ) (new : Bool) → Settling starts ends m new → new ≡ false → Settled starts ends m
-  settling-end m new inv h = record { real = inv.real; handed = inv.settled h }
+  pub settling_end : (m : List ℕ) (new : Bool) → Settling starts ends m new → new ≡ false → Settled starts ends m
+  settling_end m new inv h = record { real = inv.real; handed = inv.settled h }
 
   module _ (m now : List ℕ) (old new : Bool) (inv : Settling starts ends m old) (p : Handing starts ends (λ i. i < length starts) m now new) where
-    pub settling-more : Settling starts ends now new
-    settling-more = record {
+    pub settling_more : Settling starts ends now new
+    settling_more = record {
       long = p.long ∙ inv.long;
       real = p.real inv.real;
       settled = λ h j l. subst (λ (x : List ℕ). HandedOn starts ends x j) (sym (p.settled h).0) ((p.settled h).1 j l);
     }
 
-    pub settling-less : old ≡ true → ((x : ℕ) → get_or now x 0 < 2 ^ width) → left now new < left m old
-    settling-less was low = rw was (go new refl (total-most now (2 ^ width) (λ x. omega (arith, low x))) (p.long ∙ inv.long))
+    pub settling_less : old ≡ true → ((x : ℕ) → get_or now x 0 < 2 ^ width) → left now new < left m old
+    settling_less was low = rw was (go new refl (total_most now (2 ^ width) (λ x. omega (arith, low x))) (p.long ∙ inv.long))
       where
         go : (b : Bool) → new ≡ b → total now ≤ length now * 2 ^ width → length now ≡ 2 * width → left now b < left m true
         go true e most l = let h = subst (λ (k : ℕ). total now ≤ k * 2 ^ width) l most in omega (arith, p.grown e, h)

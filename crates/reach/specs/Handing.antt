@@ -1,5 +1,5 @@
 -- How the masks of numbers grow: routes hand on what they lead to. This is the working side of `fill`, which no public function's
--- contract names; `reach: Leading tells-one` ties masks that are settled to chains. Assumes nothing: these are definitions.
+-- contract names; `reach: Leading tells_one` ties masks that are settled to chains. Assumes nothing: these are definitions.
 use Rattle.std.specs.Prelude.{◌≡◌, Bool, true, false, ◌||◌, ℕ, ◌+◌, ◌<◌, List, [], ◌∷◌, length, get_or, eqb}
 use Rattle.masks.specs.Bit.{bit}
 use Rattle.chains.specs.Chain.{Chain}

@@ -1,5 +1,5 @@
 -- What the masks of routes say: the working side of the verdict, which no entry point's contract names. `Led` is said over chains
--- (`chains: Chain LeadsOn`); `gateway_checker: Judging loop-by, sound-by, doubling-by` go from there to the verdict. Assumes nothing: these are
+-- (`chains: Chain LeadsOn`); `gateway_checker: Judging loop_by, sound_by, doubling_by` go from there to the verdict. Assumes nothing: these are
 -- definitions.
 use Rattle.std.specs.Prelude.{◌≡◌, Bool, cond, ℕ, ◌-◌, ◌*◌, ◌<◌, ◌≤◌, List, length, get_or}
 use Rattle.masks.specs.Bit.{width, bit}

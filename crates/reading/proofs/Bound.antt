@@ -7,25 +7,25 @@ use mathlib.Core.List.{List, [], ◌∷◌, ◌++◌}
 use lib.Dec.{eqb, ltb, leb}
 use lib.ListN.{length, length-append}
 use borrow.Author.Tests.{leb-false, eqb-false, lt-ltb}
-use Rattle.numerals.specs.Written.{decimalWidth}
-use Rattle.parts.specs.Joined.{textOfLines}
-use Rattle.books.specs.Book.{Book, Message, Placement, Route, numbers, allPlacements}
-use Rattle.books.specs.Lines.{isIn, unknownOrOver, misplaced, meetsEarlier, identifierLimit, startLimit}
-use Rattle.books.specs.Good.{fitsAfter, goodAfter, goodFrom, good}
+use Rattle.numerals.specs.Written.{decimal_width_spec}
+use Rattle.parts.specs.Joined.{text_of_lines}
+use Rattle.books.specs.Book.{Book, Message, Placement, Route, numbers, all_placements}
+use Rattle.books.specs.Lines.{is_in, unknown_or_over, misplaced, meets_earlier, identifier_limit, start_limit}
+use Rattle.books.specs.Good.{fits_after, good_after, good_from, good}
 use Rattle.books.specs.Built.{Built}
-use Rattle.books.proofs.Building.{built-good}
+use Rattle.books.proofs.Building.{built_good}
 use Rattle.books.proofs.Columns.{within}
 use Rattle.books.proofs.Known.{known_small}
 use Rattle.books.proofs.Tests.{both_false, neither}
-use Rattle.catalogue.specs.Find.{bitsOf}
-use Rattle.reading.specs.Written.{bookText, mostWritten, RoutesInLimits, no-route, route, Routed}
-use Rattle.reading.proofs.LineLengths.{signal-long, route-long}
-use Rattle.reading.proofs.TextLengths.{signalBytes, routeBytes, one-signal, one-route, signals-append, text-long}
+use Rattle.catalogue.specs.Find.{bits_of_spec}
+use Rattle.reading.specs.Written.{book_text, most_written, RoutesInLimits, no_route, route, Routed}
+use Rattle.reading.proofs.LineLengths.{signal_long, route_long}
+use Rattle.reading.proofs.TextLengths.{signal_bytes, route_bytes, one_signal, one_route, signals_append, text_long}
 
 -- a number below 2000 has at most four digits, one below 64 at most two
-four-digits : (n : ℕ) → n < 2000 → decimalWidth n ≤ 4
-unfolding decimalWidth
-four-digits n h = go (ltb n 10) (ltb n 100) (ltb n 1000)
+four_digits : (n : ℕ) → n < 2000 → decimal_width_spec n ≤ 4
+unfolding decimal_width_spec
+four_digits n h = go (ltb n 10) (ltb n 100) (ltb n 1000)
   where
     go : (a b c : Bool) → cond a 1 (cond b 2 (cond c 3 (cond (ltb n 10000) 4 5))) ≤ 4
     go true b c = omega arith
@@ -33,8 +33,8 @@ four-digits n h = go (ltb n 10) (ltb n 100) (ltb n 1000)
     go false false true = omega arith
     go false false false = rw (lt-ltb n 10000 (omega arith)) (omega arith)
 
-two_digits : (n : ℕ) → n < 64 → decimalWidth n ≤ 2
-unfolding decimalWidth
+two_digits : (n : ℕ) → n < 64 → decimal_width_spec n ≤ 2
+unfolding decimal_width_spec
 two_digits n h = go (ltb n 10)
   where
     go : (a : Bool) → cond a 1 (cond (ltb n 100) 2 (cond (ltb n 1000) 3 (cond (ltb n 10000) 4 5))) ≤ 2
@@ -42,45 +42,45 @@ two_digits n h = go (ltb n 10)
     go false = rw (lt-ltb n 100 (omega arith)) (omega arith)
 
 -- a signal that is not refused for itself has a short line
-fits-short : (before : List Placement) (p : Placement) → fitsAfter before p ≡ true → decimalWidth p.number + decimalWidth p.start ≤ 6
-unfolding unknownOrOver
-fits-short before p e =
-    let a = both_false (eqb (bitsOf p.number) 0) (leb startLimit p.start) (neither (unknownOrOver p) (isIn p.number (numbers before) || (misplaced p || meetsEarlier before p)) e).0 in
-    let b = leb-false startLimit p.start a.1 in
-    omega (arith, four-digits p.number (known_small p.number (eqb-false (bitsOf p.number) 0 a.0)), two_digits p.start b)
+fits_short : (before : List Placement) (p : Placement) → fits_after before p ≡ true → decimal_width_spec p.number + decimal_width_spec p.start ≤ 6
+unfolding unknown_or_over
+fits_short before p e =
+    let a = both_false (eqb (bits_of_spec p.number) 0) (leb start_limit p.start) (neither (unknown_or_over p) (is_in p.number (numbers before) || (misplaced p || meets_earlier before p)) e).0 in
+    let b = leb-false start_limit p.start a.1 in
+    omega (arith, four_digits p.number (known_small p.number (eqb-false (bits_of_spec p.number) 0 a.0)), two_digits p.start b)
 
-after-short : (before ps : List Placement) → goodAfter before ps ≡ true → signalBytes ps ≤ 10 * length ps
-unfolding goodAfter textOfLines
-after-short before [] e = omega arith
-after-short before (p ∷ ps) e =
-    let a = (and-eq-true_iff (fitsAfter before p) (goodAfter (before ++ (p ∷ [])) ps)).0 e in
-    omega (arith, one-signal p ps, signal-long p.number p.start, fits-short before p a.0, after-short (before ++ (p ∷ [])) ps a.1)
+after_short : (before ps : List Placement) → good_after before ps ≡ true → signal_bytes ps ≤ 10 * length ps
+unfolding good_after text_of_lines
+after_short before [] e = omega arith
+after_short before (p ∷ ps) e =
+    let a = (and-eq-true_iff (fits_after before p) (good_after (before ++ (p ∷ [])) ps)).0 e in
+    omega (arith, one_signal p ps, signal_long p.number p.start, fits_short before p a.0, after_short (before ++ (p ∷ [])) ps a.1)
 
-from-short : (before : List ℕ) (ms : List Message) → goodFrom before ms ≡ true → signalBytes (allPlacements ms) ≤ 10 * length (allPlacements ms)
-unfolding goodFrom allPlacements textOfLines
-from-short before [] e = omega arith
-from-short before (m ∷ ms) e =
-    let a = (and-eq-true_iff (not (leb identifierLimit m.identifier || isIn m.identifier before)) _).0 e in
-    let b = (and-eq-true_iff (goodAfter [] m.placements) (goodFrom (before ++ (m.identifier ∷ [])) ms)).0 a.1 in
+from_short : (before : List ℕ) (ms : List Message) → good_from before ms ≡ true → signal_bytes (all_placements ms) ≤ 10 * length (all_placements ms)
+unfolding good_from all_placements text_of_lines
+from_short before [] e = omega arith
+from_short before (m ∷ ms) e =
+    let a = (and-eq-true_iff (not (leb identifier_limit m.identifier || is_in m.identifier before)) _).0 e in
+    let b = (and-eq-true_iff (good_after [] m.placements) (good_from (before ++ (m.identifier ∷ [])) ms)).0 a.1 in
     omega (
       arith,
-      signals-append m.placements (allPlacements ms),
-      length-append m.placements (allPlacements ms),
-      after-short [] m.placements b.0,
-      from-short (before ++ (m.identifier ∷ [])) ms b.1,
+      signals_append m.placements (all_placements ms),
+      length-append m.placements (all_placements ms),
+      after_short [] m.placements b.0,
+      from_short (before ++ (m.identifier ∷ [])) ms b.1,
     )
 
 -- the lines of routes within the limits have at most 27 bytes each
-routes-short : {rs : List Route} → RoutesInLimits rs → routeBytes rs ≤ 27 * length rs
-unfolding textOfLines
-routes-short no-route = omega arith
-routes-short (route {r} {rs} g f t p) =
-    omega (arith, one-route r rs, route-long r.gateway r.from r.to f t, two_digits r.gateway (omega arith), routes-short p)
+routes_short : {rs : List Route} → RoutesInLimits rs → route_bytes rs ≤ 27 * length rs
+unfolding text_of_lines
+routes_short no_route = omega arith
+routes_short (route {r} {rs} g f t p) =
+    omega (arith, one_route r rs, route_long r.gateway r.from r.to f t, two_digits r.gateway (omega arith), routes_short p)
 
-pub bound : (b : Book) → Built b.messages → Routed b.routes → length (bookText b) ≤ mostWritten
+pub bound : (b : Book) → Built b.messages → Routed b.routes → length (book_text b) ≤ most_written
 unfolding good
 bound b h r =
-    let g = built-good h in
+    let g = built_good h in
     let k = within b.messages g in
-    let a = (and-eq-true_iff (goodFrom [] b.messages) _).0 g in
-    omega (arith, text-long b, k.few, k.room, from-short [] b.messages a.0, routes-short r.limits, r.few)
+    let a = (and-eq-true_iff (good_from [] b.messages) _).0 g in
+    omega (arith, text_long b, k.few, k.room, from_short [] b.messages a.0, routes_short r.limits, r.few)

@@ -5,90 +5,90 @@ use native.Mathlib.Omega.{arith}
 use mathlib.Core.List.{List, [], ◌∷◌, ◌++◌, map, append_assoc, map-append}
 use lib.ListN.{length, length-append}
 use borrow.Author.Tests.{lt-ltb}
-use Rattle.numerals.specs.Written.{identifierText, decimalWidth, decimalText}
-use Rattle.numerals.proofs.Identifiers.{length-identifier}
-use Rattle.numerals.proofs.Decimals.{decimal-long, width_few}
-use Rattle.parts.specs.Joined.{join, textOfLines}
-use Rattle.parts.proofs.Joins.{text-append}
+use Rattle.numerals.specs.Written.{identifier_text, decimal_width_spec, decimal_text}
+use Rattle.numerals.proofs.Identifiers.{length_identifier}
+use Rattle.numerals.proofs.Decimals.{decimal_long, width_few}
+use Rattle.parts.specs.Joined.{join, text_of_lines}
+use Rattle.parts.proofs.Joins.{text_append}
 use Rattle.line.specs.declared.Line.{Line}
 use Rattle.line.specs.declared.Line.TheVariants.{Message}
-use Rattle.line.specs.Written.{lineText, fields_of}
-use Rattle.record.specs.Limits.{identifierLimit}
-use Rattle.record.specs.Place.{placeLimit, key-place}
-use Rattle.books.specs.Book.{placement, routeBy}
-use Rattle.reading.specs.Written.{signalLine, routeLine, linesText, placeText, placesText}
+use Rattle.line.specs.Written.{line_text, fields_of}
+use Rattle.record.specs.Limits.{identifier_limit}
+use Rattle.record.specs.Place.{place_limit, key_place}
+use Rattle.books.specs.Book.{placement, route_by}
+use Rattle.reading.specs.Written.{signal_line, route_line, lines_text, place_text, places_text}
 
 -- ---- the lines' texts, piece by piece
-pub message-text : (i : ℕ) → linesText (Message i ∷ []) ≡ 77 ∷ 9 ∷ (identifierText i ++ 10 ∷ [])
-unfolding textOfLines lineText fields_of join
-message-text i = refl
+pub message_text_law : (i : ℕ) → lines_text (Message i ∷ []) ≡ 77 ∷ 9 ∷ (identifier_text i ++ 10 ∷ [])
+unfolding text_of_lines line_text fields_of join
+message_text_law i = refl
 
-pub signal-text : (n s : ℕ) → linesText (signalLine (placement n s) ∷ []) ≡ 83 ∷ 9 ∷ ((decimalText n ++ 9 ∷ decimalText s) ++ 10 ∷ [])
-unfolding textOfLines lineText fields_of join
-signal-text n s = refl
+pub signal_text : (n s : ℕ) → lines_text (signal_line (placement n s) ∷ []) ≡ 83 ∷ 9 ∷ ((decimal_text n ++ 9 ∷ decimal_text s) ++ 10 ∷ [])
+unfolding text_of_lines line_text fields_of join
+signal_text n s = refl
 
-pub route-text : (g p q : ℕ) → linesText (routeLine (routeBy g p q) ∷ []) ≡ 82 ∷ 9 ∷ ((decimalText g ++ 9 ∷ (placeText p ++ 9 ∷ placeText q)) ++ 10 ∷ [])
-unfolding textOfLines lineText fields_of join
-route-text g p q =
-    ap (λ (l : List ℕ). 82 ∷ 9 ∷ ((decimalText g ++ 9 ∷ l) ++ 10 ∷ []))
-    (sym (append_assoc (decimalText (p / identifierLimit)) (9 ∷ identifierText (p % identifierLimit)) (9 ∷ placeText q)))
+pub route_text : (g p q : ℕ) → lines_text (route_line (route_by g p q) ∷ []) ≡ 82 ∷ 9 ∷ ((decimal_text g ++ 9 ∷ (place_text p ++ 9 ∷ place_text q)) ++ 10 ∷ [])
+unfolding text_of_lines line_text fields_of join
+route_text g p q =
+    ap (λ (l : List ℕ). 82 ∷ 9 ∷ ((decimal_text g ++ 9 ∷ l) ++ 10 ∷ []))
+    (sym (append_assoc (decimal_text (p / identifier_limit)) (9 ∷ identifier_text (p % identifier_limit)) (9 ∷ place_text q)))
 
 -- its bytes: two of the kind, those of the gateway and its tab, those of the places and the tab between them, and the newline
-route-bytes : (g p q : ℕ) → length (linesText (routeLine (routeBy g p q) ∷ [])) ≡ 5 + decimalWidth g + length (placeText p) + length (placeText q)
-route-bytes g p q =
+route_bytes_law : (g p q : ℕ) → length (lines_text (route_line (route_by g p q) ∷ [])) ≡ 5 + decimal_width_spec g + length (place_text p) + length (place_text q)
+route_bytes_law g p q =
     omega (
       arith,
-      ap length (route-text g p q),
-      length-append (decimalText g ++ 9 ∷ (placeText p ++ 9 ∷ placeText q)) (10 ∷ []),
-      length-append (decimalText g) (9 ∷ (placeText p ++ 9 ∷ placeText q)),
-      length-append (placeText p) (9 ∷ placeText q),
-      decimal-long g,
+      ap length (route_text g p q),
+      length-append (decimal_text g ++ 9 ∷ (place_text p ++ 9 ∷ place_text q)) (10 ∷ []),
+      length-append (decimal_text g) (9 ∷ (place_text p ++ 9 ∷ place_text q)),
+      length-append (place_text p) (9 ∷ place_text q),
+      decimal_long g,
     )
 
 -- ---- and how long they are
-pub message-long : (i : ℕ) → length (linesText (Message i ∷ [])) ≡ 11
-message-long i = omega (arith, ap length (message-text i), length-append (identifierText i) (10 ∷ []), length-identifier i)
+pub message_long : (i : ℕ) → length (lines_text (Message i ∷ [])) ≡ 11
+message_long i = omega (arith, ap length (message_text_law i), length-append (identifier_text i) (10 ∷ []), length_identifier i)
 
-pub signal-long : (n s : ℕ) → length (linesText (signalLine (placement n s) ∷ [])) ≡ 4 + decimalWidth n + decimalWidth s
-signal-long n s =
+pub signal_long : (n s : ℕ) → length (lines_text (signal_line (placement n s) ∷ [])) ≡ 4 + decimal_width_spec n + decimal_width_spec s
+signal_long n s =
     omega (
       arith,
-      ap length (signal-text n s),
-      length-append (decimalText n ++ 9 ∷ decimalText s) (10 ∷ []),
-      length-append (decimalText n) (9 ∷ decimalText s),
-      decimal-long n,
-      decimal-long s,
+      ap length (signal_text n s),
+      length-append (decimal_text n ++ 9 ∷ decimal_text s) (10 ∷ []),
+      length-append (decimal_text n) (9 ∷ decimal_text s),
+      decimal_long n,
+      decimal_long s,
     )
 
 -- a number below ten has one digit, and the bus of a place is one
-one-digit : (n : ℕ) → n < 10 → decimalWidth n ≡ 1
-unfolding decimalWidth
-one-digit n h = simp (lt-ltb n 10 h)
+one_digit : (n : ℕ) → n < 10 → decimal_width_spec n ≡ 1
+unfolding decimal_width_spec
+one_digit n h = simp (lt-ltb n 10 h)
 
-pub bus-digit : (p : ℕ) → p < placeLimit → decimalWidth (p / identifierLimit) ≡ 1
-bus-digit p h = one-digit (p / identifierLimit) (omega (arith, (key-place p h).0))
+pub bus_digit : (p : ℕ) → p < place_limit → decimal_width_spec (p / identifier_limit) ≡ 1
+bus_digit p h = one_digit (p / identifier_limit) (omega (arith, (key_place p h).0))
 
-place-bytes : (p : ℕ) → length (placeText p) ≡ decimalWidth (p / identifierLimit) + 9
-place-bytes p =
-    omega (arith, length-append (decimalText (p / identifierLimit)) (9 ∷ identifierText (p % identifierLimit)), decimal-long (p / identifierLimit), length-identifier (p % identifierLimit))
+place_bytes : (p : ℕ) → length (place_text p) ≡ decimal_width_spec (p / identifier_limit) + 9
+place_bytes p =
+    omega (arith, length-append (decimal_text (p / identifier_limit)) (9 ∷ identifier_text (p % identifier_limit)), decimal_long (p / identifier_limit), length_identifier (p % identifier_limit))
 
-pub place-long : (p : ℕ) → p < placeLimit → length (placeText p) ≡ 10
-place-long p h = omega (arith, place-bytes p, bus-digit p h)
+pub place_long : (p : ℕ) → p < place_limit → length (place_text p) ≡ 10
+place_long p h = omega (arith, place_bytes p, bus_digit p h)
 
-pub places-long : (p q : ℕ) → p < placeLimit → q < placeLimit → length (placesText p q) ≡ 21
-places-long p q h k = omega (arith, length-append (placeText p) (9 ∷ placeText q), place-long p h, place-long q k)
+pub places_long : (p q : ℕ) → p < place_limit → q < place_limit → length (places_text p q) ≡ 21
+places_long p q h k = omega (arith, length-append (place_text p) (9 ∷ place_text q), place_long p h, place_long q k)
 
 -- whatever its numbers are
-pub route-short : (g p q : ℕ) → length (linesText (routeLine (routeBy g p q) ∷ [])) ≤ 38
-route-short g p q =
-    omega (arith, route-bytes g p q, place-bytes p, place-bytes q, width_few g, width_few (p / identifierLimit), width_few (q / identifierLimit))
+pub route_short : (g p q : ℕ) → length (lines_text (route_line (route_by g p q) ∷ [])) ≤ 38
+route_short g p q =
+    omega (arith, route_bytes_law g p q, place_bytes p, place_bytes q, width_few g, width_few (p / identifier_limit), width_few (q / identifier_limit))
 
-pub route-long : (g p q : ℕ) → p < placeLimit → q < placeLimit → length (linesText (routeLine (routeBy g p q) ∷ [])) ≡ 25 + decimalWidth g
-route-long g p q h k = omega (arith, route-bytes g p q, place-long p h, place-long q k)
+pub route_long : (g p q : ℕ) → p < place_limit → q < place_limit → length (lines_text (route_line (route_by g p q) ∷ [])) ≡ 25 + decimal_width_spec g
+route_long g p q h k = omega (arith, route_bytes_law g p q, place_long p h, place_long q k)
 
 -- ---- lines after lines
-pub lines-text-append : (ls ms : List Line) → linesText (ls ++ ms) ≡ linesText ls ++ linesText ms
-lines-text-append ls ms = ap textOfLines (map-append lineText ls ms) ∙ text-append (map lineText ls) (map lineText ms)
+pub lines_text_append : (ls ms : List Line) → lines_text (ls ++ ms) ≡ lines_text ls ++ lines_text ms
+lines_text_append ls ms = ap text_of_lines (map-append line_text ls ms) ∙ text_append (map line_text ls) (map line_text ms)
 
-pub both_long : (ls ms : List Line) → length (linesText (ls ++ ms)) ≡ length (linesText ls) + length (linesText ms)
-both_long ls ms = ap length (lines-text-append ls ms) ∙ length-append (linesText ls) (linesText ms)
+pub both_long : (ls ms : List Line) → length (lines_text (ls ++ ms)) ≡ length (lines_text ls) + length (lines_text ms)
+both_long ls ms = ap length (lines_text_append ls ms) ∙ length-append (lines_text ls) (lines_text ms)

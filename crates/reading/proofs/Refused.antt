@@ -8,9 +8,9 @@ use lib.Dec.{eqb, leb}
 use lib.ListN.{length}
 use Rattle.line.specs.declared.Line.{Line}
 use Rattle.line.specs.declared.Line.TheVariants as line
-use Rattle.books.specs.Book.{Book, Placement, noBook, identifiers, numbers, allPlacements, lastPlacements}
-use Rattle.books.specs.Lines.{isIn, unknownOrOver, misplaced, meetsEarlier, messageRefusal, afterRefusal, signalRefusal, routeRefusal, identifierLimit, gatewayLimit, busLimit, messageLimit, signalLimit, routeLimit}
-use Rattle.reading.specs.Reading.{refused, onward, refusalOf, withLine, numberedWith, readFrom, meanings, lines_read}
+use Rattle.books.specs.Book.{Book, Placement, no_book, identifiers, numbers, all_placements, last_placements}
+use Rattle.books.specs.Lines.{is_in, unknown_or_over, misplaced, meets_earlier, message_refusal, after_refusal, signal_refusal, route_refusal, identifier_limit, gateway_limit, bus_limit, message_limit, signal_limit, route_limit}
+use Rattle.reading.specs.Reading.{refused, onward, refusal_of, with_line, numbered_with, read_from, meanings, lines_read}
 
 module _ (P : ℕ → Type 0) where
   -- a number is 0, or P holds of it
@@ -25,32 +25,32 @@ module _ (P : ℕ → Type 0) where
   or false why later h f k e = f k e
 
   module _ (p2 : P 2) (p3 : P 3) (p4 : P 4) (p5 : P 5) (p6 : P 6) (p7 : P 7) (p8 : P 8) (p9 : P 9) where
-    of-line : (b : Book) (l : Line) → Or0 (refusalOf b l)
-    unfolding refusalOf messageRefusal signalRefusal afterRefusal routeRefusal
-    of-line b (line.Message i) =
-        or (leb identifierLimit i) 3 _ p3 (or (isIn i (identifiers b.messages)) 5 _ p5 (or (leb messageLimit (length b.messages)) 9 0 p9 none))
-    of-line b (line.Signal n s) =
+    of_line : (b : Book) (l : Line) → Or0 (refusal_of b l)
+    unfolding refusal_of message_refusal signal_refusal after_refusal route_refusal
+    of_line b (line.Message i) =
+        or (leb identifier_limit i) 3 _ p3 (or (is_in i (identifiers b.messages)) 5 _ p5 (or (leb message_limit (length b.messages)) 9 0 p9 none))
+    of_line b (line.Signal n s) =
         let p : Placement = record { number = n; start = s } in
-        or (unknownOrOver p) 3 _ p3
+        or (unknown_or_over p) 3 _ p3
         (or (eqb (length b.messages) 0) 4 _ p4
-        (or (isIn n (numbers (lastPlacements b.messages))) 6 _ p6
+        (or (is_in n (numbers (last_placements b.messages))) 6 _ p6
         (or (misplaced p) 7 _ p7
-        (or (meetsEarlier (lastPlacements b.messages) p) 8 _ p8
-        (or (leb signalLimit (length (allPlacements b.messages))) 9 0 p9 none)))))
-    of-line b (line.Route g x i y j) =
-        or (leb gatewayLimit g || ((leb busLimit x || leb identifierLimit i) || (leb busLimit y || leb identifierLimit j))) 3 _ p3 (or (leb routeLimit (length b.routes)) 9 0 p9 none)
-    of-line b line.IllFormed = or true 2 0 p2 none
+        (or (meets_earlier (last_placements b.messages) p) 8 _ p8
+        (or (leb signal_limit (length (all_placements b.messages))) 9 0 p9 none)))))
+    of_line b (line.Route g x i y j) =
+        or (leb gateway_limit g || ((leb bus_limit x || leb identifier_limit i) || (leb bus_limit y || leb identifier_limit j))) 3 _ p3 (or (leb route_limit (length b.routes)) 9 0 p9 none)
+    of_line b line.IllFormed = or true 2 0 p2 none
 
-    of-lines : (n : ℕ) (b : Book) (at : List ℕ) (ls : List Line) (why m : ℕ) → readFrom n b at ls ≡ refused why m → P why
-    unfolding readFrom onward
-    of-lines n b at [] why m e = absurd (let z : ◌≡◌ {A = ℕ} 0 1 = cc in omega arith)
-    of-lines n b at (l ∷ ls) why m e = by (refusalOf b l) refl e (of-lines (suc n) (withLine b l) (numberedWith at n l) ls why m)
+    of_lines : (n : ℕ) (b : Book) (at : List ℕ) (ls : List Line) (why m : ℕ) → read_from n b at ls ≡ refused why m → P why
+    unfolding read_from onward
+    of_lines n b at [] why m e = absurd (let z : ◌≡◌ {A = ℕ} 0 1 = cc in omega arith)
+    of_lines n b at (l ∷ ls) why m e = by (refusal_of b l) refl e (of_lines (suc n) (with_line b l) (numbered_with at n l) ls why m)
       where
-        by : (k : ℕ) → refusalOf b l ≡ k → onward k n (readFrom (suc n) (withLine b l) (numberedWith at n l) ls) ≡ refused why m
-            → (readFrom (suc n) (withLine b l) (numberedWith at n l) ls ≡ refused why m → P why) → P why
+        by : (k : ℕ) → refusal_of b l ≡ k → onward k n (read_from (suc n) (with_line b l) (numbered_with at n l) ls) ≡ refused why m
+            → (read_from (suc n) (with_line b l) (numbered_with at n l) ls ≡ refused why m → P why) → P why
         by zero q f later = later f
-        by (suc k) q f later = let z : suc k ≡ why = cc in subst P z (of-line b l k q)
+        by (suc k) q f later = let z : suc k ≡ why = cc in subst P z (of_line b l k q)
 
-    pub text-refused : (text : List ℕ) (why n : ℕ) → lines_read text ≡ refused why n → P why
+    pub text_refused : (text : List ℕ) (why n : ℕ) → lines_read text ≡ refused why n → P why
     unfolding lines_read
-    text-refused text why n e = of-lines 1 noBook [] (meanings text) why n e
+    text_refused text why n e = of_lines 1 no_book [] (meanings text) why n e

@@ -1,32 +1,32 @@
 -- A text read line by line to a book: the first bad line, on it the lowest of 2 to 9. Assumes nothing: these are definitions.
 use Rattle.std.specs.Prelude.{ℕ, zero, suc, List, [], ◌∷◌, ◌++◌, map}
 use Rattle.parts.specs.Parts.{lines}
-use Rattle.line.specs.Meaning.{meaningOf}
+use Rattle.line.specs.Meaning.{meaning_of}
 use Rattle.line.specs.declared.Line.{Line}
 use Rattle.line.specs.declared.Line.TheVariants as line
-use Rattle.books.specs.Book.{Book, noBook, placement, route, withMessage, withSignal, withRoute}
-use Rattle.books.specs.Lines.{messageRefusal, signalRefusal, routeRefusal}
+use Rattle.books.specs.Book.{Book, no_book, placement, route, with_message, with_signal, with_route}
+use Rattle.books.specs.Lines.{message_refusal, signal_refusal, route_refusal}
 
 -- why a line is refused after the lines that gave the book: 2 for its form, else the lowest of 3 to 9; 0 where it is taken
-unfoldable pub refusalOf : Book → Line → ℕ
-refusalOf b (line.Message i) = messageRefusal b.messages i
-refusalOf b (line.Signal n s) = signalRefusal b.messages (placement n s)
-refusalOf b (line.Route g a i c j) = routeRefusal b.routes g a i c j
-refusalOf b line.IllFormed = 2
+unfoldable pub refusal_of : Book → Line → ℕ
+refusal_of b (line.Message i) = message_refusal b.messages i
+refusal_of b (line.Signal n s) = signal_refusal b.messages (placement n s)
+refusal_of b (line.Route g a i c j) = route_refusal b.routes g a i c j
+refusal_of b line.IllFormed = 2
 
 -- the book with one line more
-unfoldable pub withLine : Book → Line → Book
-withLine b (line.Message i) = withMessage b i
-withLine b (line.Signal n s) = withSignal b (placement n s)
-withLine b (line.Route g a i c j) = withRoute b (route g a i c j)
-withLine b line.IllFormed = b
+unfoldable pub with_line : Book → Line → Book
+with_line b (line.Message i) = with_message b i
+with_line b (line.Signal n s) = with_signal b (placement n s)
+with_line b (line.Route g a i c j) = with_route b (route g a i c j)
+with_line b line.IllFormed = b
 
 -- the line numbers of the book's routes, with those of one line more
-unfoldable pub numberedWith : List ℕ → ℕ → Line → List ℕ
-numberedWith at n (line.Route g a i c j) = at ++ (n ∷ [])
-numberedWith at n (line.Message i) = at
-numberedWith at n (line.Signal m s) = at
-numberedWith at n line.IllFormed = at
+unfoldable pub numbered_with : List ℕ → ℕ → Line → List ℕ
+numbered_with at n (line.Route g a i c j) = at ++ (n ∷ [])
+numbered_with at n (line.Message i) = at
+numbered_with at n (line.Signal m s) = at
+numbered_with at n line.IllFormed = at
 
 -- what the lines come to: a book, with the line number of each of its routes, or a refusal with its line
 pub data Outcome : Type 0 where
@@ -38,14 +38,14 @@ onward zero n later = later
 onward (suc why) n later = refused (suc why) n
 
 -- the lines from number n on, after those that gave the book
-unfoldable pub readFrom : ℕ → Book → List ℕ → List Line → Outcome
-readFrom n b at [] = passed b at
-readFrom n b at (l ∷ ls) = onward (refusalOf b l) n (readFrom (suc n) (withLine b l) (numberedWith at n l) ls)
+unfoldable pub read_from : ℕ → Book → List ℕ → List Line → Outcome
+read_from n b at [] = passed b at
+read_from n b at (l ∷ ls) = onward (refusal_of b l) n (read_from (suc n) (with_line b l) (numbered_with at n l) ls)
 
 -- what the lines of a text say
 unfoldable pub meanings : List ℕ → List Line
-meanings text = map meaningOf (lines text)
+meanings text = map meaning_of (lines text)
 
 -- the lines of a text, counted from 1, on the empty book
 unfoldable pub lines_read : List ℕ → Outcome
-lines_read text = readFrom 1 noBook [] (meanings text)
+lines_read text = read_from 1 no_book [] (meanings text)

@@ -1,61 +1,61 @@
 -- The text of a book: each M line with its S lines, in book order, then the R lines in book order. Assumes nothing: these are definitions.
 use Rattle.std.specs.Prelude.{ℕ, zero, suc, ◌+◌, ◌*◌, ◌<◌, ◌/◌, ◌%◌, ◌≤◌, List, [], ◌∷◌, ◌++◌, map, length}
-use Rattle.record.specs.Limits.{gatewayLimit, identifierLimit}
-use Rattle.record.specs.Place.{placeLimit}
-use Rattle.numerals.specs.Written.{identifierText, decimalText}
+use Rattle.record.specs.Limits.{gateway_limit, identifier_limit}
+use Rattle.record.specs.Place.{place_limit}
+use Rattle.numerals.specs.Written.{identifier_text, decimal_text}
 use Rattle.parts.specs.Parts.{tab}
-use Rattle.parts.specs.Joined.{textOfLines}
-use Rattle.line.specs.Written.{lineText}
+use Rattle.parts.specs.Joined.{text_of_lines}
+use Rattle.line.specs.Written.{line_text}
 use Rattle.line.specs.declared.Line.{Line}
 use Rattle.line.specs.declared.Line.TheVariants as line
 use Rattle.books.specs.Book.{Book, Message, Placement, Route}
-use Rattle.books.specs.Lines.{messageLimit, signalLimit, routeLimit}
+use Rattle.books.specs.Lines.{message_limit, signal_limit, route_limit}
 
-abbrev pub signalLine : Placement → Line
-signalLine p = line.Signal p.number p.start
+abbrev pub signal_line : Placement → Line
+signal_line p = line.Signal p.number p.start
 
 -- the line of a route: its gateway, always named, then the bus and the identifier of each of its places
-abbrev pub routeLine : Route → Line
-routeLine r =
-    line.Route r.gateway (r.from / identifierLimit) (r.from % identifierLimit) (r.to / identifierLimit) (r.to % identifierLimit)
+abbrev pub route_line : Route → Line
+route_line r =
+    line.Route r.gateway (r.from / identifier_limit) (r.from % identifier_limit) (r.to / identifier_limit) (r.to % identifier_limit)
 
 -- the two values of a place in an R line, bus and identifier
-abbrev pub placeText : ℕ → List ℕ
-placeText place = decimalText (place / identifierLimit) ++ tab ∷ identifierText (place % identifierLimit)
+abbrev pub place_text : ℕ → List ℕ
+place_text place = decimal_text (place / identifier_limit) ++ tab ∷ identifier_text (place % identifier_limit)
 
 -- the four of two places
-abbrev pub placesText : ℕ → ℕ → List ℕ
-placesText from to = placeText from ++ tab ∷ placeText to
+abbrev pub places_text : ℕ → ℕ → List ℕ
+places_text from to = place_text from ++ tab ∷ place_text to
 
-unfoldable pub messageLines : List Message → List Line
-messageLines [] = []
-messageLines (m ∷ ms) = line.Message m.identifier ∷ (map signalLine m.placements ++ messageLines ms)
+unfoldable pub message_lines : List Message → List Line
+message_lines [] = []
+message_lines (m ∷ ms) = line.Message m.identifier ∷ (map signal_line m.placements ++ message_lines ms)
 
-unfoldable pub bookLines : Book → List Line
-bookLines b = messageLines b.messages ++ map routeLine b.routes
+unfoldable pub book_lines : Book → List Line
+book_lines b = message_lines b.messages ++ map route_line b.routes
 
 -- the text of lines: each ended by a newline
-abbrev pub linesText : List Line → List ℕ
-linesText ls = textOfLines (map lineText ls)
+abbrev pub lines_text : List Line → List ℕ
+lines_text ls = text_of_lines (map line_text ls)
 
-unfoldable pub bookText : Book → List ℕ
-bookText b = linesText (bookLines b)
+unfoldable pub book_text : Book → List ℕ
+book_text b = lines_text (book_lines b)
 
 -- no text of a book has more bytes: 64 M lines of 11, 256 S lines of 10 and 64 R lines of 27
-abbrev pub mostWritten : ℕ
-mostWritten = messageLimit * 11 + signalLimit * 10 + routeLimit * 27
+abbrev pub most_written : ℕ
+most_written = message_limit * 11 + signal_limit * 10 + route_limit * 27
 
 -- the gateways of routes are gateways, and their places are places: each has a bus and an identifier within their limits
 pub data RoutesInLimits : List Route → Type 0 where
-  no-route : RoutesInLimits []
-  route : {r : Route} {rs : List Route} → r.gateway < gatewayLimit → r.from < placeLimit → r.to < placeLimit → RoutesInLimits rs → RoutesInLimits (r ∷ rs)
+  no_route : RoutesInLimits []
+  route : {r : Route} {rs : List Route} → r.gateway < gateway_limit → r.from < place_limit → r.to < place_limit → RoutesInLimits rs → RoutesInLimits (r ∷ rs)
 
 -- the line numbers of k lines from n on
-unfoldable pub countUp : ℕ → ℕ → List ℕ
-countUp n zero = []
-countUp n (suc k) = n ∷ countUp (suc n) k
+unfoldable pub count_up : ℕ → ℕ → List ℕ
+count_up n zero = []
+count_up n (suc k) = n ∷ count_up (suc n) k
 
 -- the routes of lines that pass: few enough, and within the limits
 pub record Routed (rs : List Route) : Type 0 where
-  pub few : length rs ≤ routeLimit
+  pub few : length rs ≤ route_limit
   pub limits : RoutesInLimits rs

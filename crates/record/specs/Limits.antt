@@ -2,31 +2,31 @@
 use Rattle.std.specs.Prelude.{ℕ}
 
 -- how many lines of each kind a book may have
-abbrev pub messageLimit : ℕ
-messageLimit = 64
+abbrev pub message_limit : ℕ
+message_limit = 64
 
-abbrev pub signalLimit : ℕ
-signalLimit = 256
+abbrev pub signal_limit : ℕ
+signal_limit = 256
 
-abbrev pub routeLimit : ℕ
-routeLimit = 64
+abbrev pub route_limit : ℕ
+route_limit = 64
 
 -- buses are 0 to 7
-abbrev pub busLimit : ℕ
-busLimit = 8
+abbrev pub bus_limit : ℕ
+bus_limit = 8
 
 -- gateways are 0 to 15
-abbrev pub gatewayLimit : ℕ
-gatewayLimit = 16
+abbrev pub gateway_limit : ℕ
+gateway_limit = 16
 
 -- identifiers are below 2^29
-abbrev pub identifierLimit : ℕ
-identifierLimit = 536870912
+abbrev pub identifier_limit : ℕ
+identifier_limit = 536870912
 
 -- starts are 0 to 63
-abbrev pub startLimit : ℕ
-startLimit = 64
+abbrev pub start_limit : ℕ
+start_limit = 64
 
 -- the longest text, in bytes
-abbrev pub textLimit : ℕ
-textLimit = 32768
+abbrev pub text_limit : ℕ
+text_limit = 32768

@@ -2,9 +2,9 @@
 // number of a place; and the two signals with a fixed start.
 // Every call on a book reads it through these accessors. Nothing here judges what the words say.
 ghost use Rattle.std.specs.Prelude.{◌≡◌, ◌<◌, ◌≤◌, length, take};
-ghost use Rattle.record.specs.Limits.{messageLimit, signalLimit, routeLimit, busLimit, identifierLimit};
-ghost use Rattle.record.specs.Place.{placeKey};
-ghost use Rattle.record.specs.Columns.{messageCountOf, signalCountOf, routeCountOf, ids_of, endsOf, numbersOf, startsOf, fromsOf, tosOf, gatewaysOf, emptyBook};
+ghost use Rattle.record.specs.Limits.{message_limit, signal_limit, route_limit, bus_limit, identifier_limit};
+ghost use Rattle.record.specs.Place.{place_key};
+ghost use Rattle.record.specs.Columns.{message_count_of, signal_count_of, route_count_of, ids_of, ends_of, numbers_of, starts_of, froms_of, tos_of, gateways_of, empty_book};
 
 // How much a book holds, and how far its numbers go.
 pub const MESSAGES: usize = 64;
@@ -78,26 +78,26 @@ pub fn wide(word: u32) -> usize
 
 // How many messages the words say there are, whatever it is; as the next two.
 pub fn message_count(book: &[u32; BOOK_WORDS]) -> u32
-    ensures { result ≡ messageCountOf book.now }
+    ensures { result ≡ message_count_of book.now }
 {
     book[MESSAGE_COUNT]
 }
 
 pub fn signal_count(book: &[u32; BOOK_WORDS]) -> u32
-    ensures { result ≡ signalCountOf book.now }
+    ensures { result ≡ signal_count_of book.now }
 {
     book[SIGNAL_COUNT]
 }
 
 pub fn route_count(book: &[u32; BOOK_WORDS]) -> u32
-    ensures { result ≡ routeCountOf book.now }
+    ensures { result ≡ route_count_of book.now }
 {
     book[ROUTE_COUNT]
 }
 
 // The messages' identifiers.
 pub fn ids(book: &[u32; BOOK_WORDS]) -> &[u32]
-    ensures { (result.now ≡ ids_of book.now) × (length result.now ≡ messageLimit) }
+    ensures { (result.now ≡ ids_of book.now) × (length result.now ≡ message_limit) }
 {
     let words: &[u32] = book;
     &words[IDS..IDS_END]
@@ -105,7 +105,7 @@ pub fn ids(book: &[u32; BOOK_WORDS]) -> &[u32]
 
 // For each message, how many signals there are up to its last one.
 pub fn ends(book: &[u32; BOOK_WORDS]) -> &[u32]
-    ensures { (result.now ≡ endsOf book.now) × (length result.now ≡ messageLimit) }
+    ensures { (result.now ≡ ends_of book.now) × (length result.now ≡ message_limit) }
 {
     let words: &[u32] = book;
     &words[ENDS..ENDS_END]
@@ -113,7 +113,7 @@ pub fn ends(book: &[u32; BOOK_WORDS]) -> &[u32]
 
 // The signals' numbers, message by message.
 pub fn numbers(book: &[u32; BOOK_WORDS]) -> &[u32]
-    ensures { (result.now ≡ numbersOf book.now) × (length result.now ≡ signalLimit) }
+    ensures { (result.now ≡ numbers_of book.now) × (length result.now ≡ signal_limit) }
 {
     let words: &[u32] = book;
     &words[NUMBERS..NUMBERS_END]
@@ -121,7 +121,7 @@ pub fn numbers(book: &[u32; BOOK_WORDS]) -> &[u32]
 
 // The signals' starts, in step with their numbers.
 pub fn starts(book: &[u32; BOOK_WORDS]) -> &[u32]
-    ensures { (result.now ≡ startsOf book.now) × (length result.now ≡ signalLimit) }
+    ensures { (result.now ≡ starts_of book.now) × (length result.now ≡ signal_limit) }
 {
     let words: &[u32] = book;
     &words[STARTS..STARTS_END]
@@ -129,7 +129,7 @@ pub fn starts(book: &[u32; BOOK_WORDS]) -> &[u32]
 
 // The places that the routes lead from.
 pub fn froms(book: &[u32; BOOK_WORDS]) -> &[u32]
-    ensures { (result.now ≡ fromsOf book.now) × (length result.now ≡ routeLimit) }
+    ensures { (result.now ≡ froms_of book.now) × (length result.now ≡ route_limit) }
 {
     let words: &[u32] = book;
     &words[FROMS..FROMS_END]
@@ -137,7 +137,7 @@ pub fn froms(book: &[u32; BOOK_WORDS]) -> &[u32]
 
 // The places that the routes lead to, in step with those they lead from.
 pub fn tos(book: &[u32; BOOK_WORDS]) -> &[u32]
-    ensures { (result.now ≡ tosOf book.now) × (length result.now ≡ routeLimit) }
+    ensures { (result.now ≡ tos_of book.now) × (length result.now ≡ route_limit) }
 {
     let words: &[u32] = book;
     &words[TOS..TOS_END]
@@ -145,7 +145,7 @@ pub fn tos(book: &[u32; BOOK_WORDS]) -> &[u32]
 
 // The gateways that carry the routes, in step with their places.
 pub fn gateways(book: &[u32; BOOK_WORDS]) -> &[u32]
-    ensures { (result.now ≡ gatewaysOf book.now) × (length result.now ≡ routeLimit) }
+    ensures { (result.now ≡ gateways_of book.now) × (length result.now ≡ route_limit) }
 {
     let words: &[u32] = book;
     &words[GATEWAYS..GATEWAYS_END]
@@ -161,15 +161,15 @@ pub fn first(column: &[u32], count: usize) -> &[u32]
 
 // Makes the book the empty one.
 pub fn clear(book: &mut [u32; BOOK_WORDS])
-    ensures { book.new ≡ emptyBook }
+    ensures { book.new ≡ empty_book }
 {
     *book = [0; BOOK_WORDS];
 }
 
 // The place that is an identifier on a bus.
 pub fn place(bus: u32, identifier: u32) -> u32
-    requires { (bus < busLimit) × (identifier < identifierLimit) }
-    ensures { result ≡ placeKey bus identifier }
+    requires { (bus < bus_limit) × (identifier < identifier_limit) }
+    ensures { result ≡ place_key bus identifier }
 {
     bus * IDENTIFIER_LIMIT + identifier
 }

@@ -1,8 +1,8 @@
 // What the programs `spread_vectors` and `writer_vectors` share, which ask a lent book record, sound or damaged: an entry of the record set by
 // a line of standard input; and a number of two hex digits, for `routes_vectors` too.
 ghost use Rattle.std.specs.Prelude.{◌≡◌, [], ◌∷◌, ◌≤◌};
-ghost use Rattle.numerals.specs.Numeral.{numeralFrom, or_zero};
-ghost use Rattle.record.specs.Columns.{bookWords};
+ghost use Rattle.numerals.specs.Numeral.{numeral_from, or_zero};
+ghost use Rattle.record.specs.Columns.{book_words};
 
 use libc::STDIN_FILENO;
 use numerals::identifier_or_0;
@@ -13,14 +13,14 @@ use record::{
 
 // The number that two digits 0-9 A-F write; 0 where they write none.
 pub fn short_hex(high: u8, low: u8) -> u32
-    ensures { result ≡ or_zero (numeralFrom 16 0 (high ∷ low ∷ [])) }
+    ensures { result ≡ or_zero (numeral_from 16 0 (high ∷ low ∷ [])) }
 {
     identifier_or_0(&[b'0', b'0', b'0', b'0', b'0', b'0', high, low])
 }
 
 // Where the column of a letter begins.
 fn column(letter: u8) -> usize
-    ensures { result ≤ bookWords }
+    ensures { result ≤ book_words }
 {
     match letter {
         b'M' => MESSAGE_COUNT,

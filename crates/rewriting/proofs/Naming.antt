@@ -9,174 +9,174 @@ use lib.Dec.{eqb}
 use lib.ListN.{length, length-append}
 use borrow.Author.Tests.{eqb-false}
 use Rattle.lists.specs.Lists.{those}
-use Rattle.parts.specs.Parts.{TextLine, newline, onFirst, split, fields, lines_of, lines}
-use Rattle.parts.specs.Joined.{textOfLines, none, more, AllLack, no_part, part}
+use Rattle.parts.specs.Parts.{TextLine, newline, on_first, split, fields, lines_of, lines}
+use Rattle.parts.specs.Joined.{text_of_lines, none, more, AllLack, no_part, part}
 use Rattle.parts.proofs.Splits.{some}
-use Rattle.parts.proofs.Joins.{split-join}
+use Rattle.parts.proofs.Joins.{split_join}
 use Rattle.line.specs.declared.Line.{Line}
-use Rattle.line.specs.Meaning.{lineMeaning, meaningOf}
-use Rattle.line.specs.Named.{fourValues, gatewayNamed}
-use Rattle.line.proofs.Named.{four-is-r, named-same, named-means, named-free, named_none, named-begins, named-longer}
+use Rattle.line.specs.Meaning.{line_meaning, meaning_of}
+use Rattle.line.specs.Named.{four_values, gateway_named}
+use Rattle.line.proofs.Named.{four_is_r, named_same, named_means, named_free, named_none, named_begins, named_longer}
 use Rattle.line.proofs.Named as naming
 use Rattle.reading.specs.Reading.{meanings, lines_read}
-use Rattle.rewriting.specs.LineKinds.{lineBytes, textLines, isMOrSLine, isRLine, messageLinesOf, routeLinesOf, MSAndRLines, m-or-s-line, r-line, AllRLines, no_more, r-next, RoutesLast, r-lines, no-r-line}
+use Rattle.rewriting.specs.LineKinds.{line_bytes, text_lines, is_mor_sline, is_rline, message_lines_of, route_lines_of, MSAndRLines, m_or_s_line, r_line, AllRLines, no_more, r_next, RoutesLast, r_lines, no_r_line}
 use Rattle.rewriting.specs.LineKinds as kinds
-use Rattle.rewriting.specs.Naming.{EachNamed, no_line, five-values, namedText}
+use Rattle.rewriting.specs.Naming.{EachNamed, no_line, five_values, named_text}
 
 -- ---- one line: it stays of its kind
-pub r-named : (l : List ℕ) → isRLine (gatewayNamed l) ≡ isRLine l
-unfolding isRLine
-r-named [] = ap isRLine named_none
-r-named (k ∷ l) = ap isRLine (named-begins k l)
+pub r_named : (l : List ℕ) → is_rline (gateway_named l) ≡ is_rline l
+unfolding is_rline
+r_named [] = ap is_rline named_none
+r_named (k ∷ l) = ap is_rline (named_begins k l)
 
-pub m-or-s-named : (l : List ℕ) → isMOrSLine (gatewayNamed l) ≡ isMOrSLine l
-unfolding isMOrSLine
-m-or-s-named [] = ap isMOrSLine named_none
-m-or-s-named (k ∷ l) = ap isMOrSLine (named-begins k l)
+pub m_or_s_named : (l : List ℕ) → is_mor_sline (gateway_named l) ≡ is_mor_sline l
+unfolding is_mor_sline
+m_or_s_named [] = ap is_mor_sline named_none
+m_or_s_named (k ∷ l) = ap is_mor_sline (named_begins k l)
 
 -- and an M or S line stays as it is
-not-m-or-s : (l : List ℕ) → fourValues l ≡ true → isMOrSLine l ≡ false
-unfolding isMOrSLine
-not-m-or-s [] f = refl
-not-m-or-s (k ∷ l) f = let e : k ≡ 82 = four-is-r (k ∷ l) f in rw e
+not_m_or_s : (l : List ℕ) → four_values l ≡ true → is_mor_sline l ≡ false
+unfolding is_mor_sline
+not_m_or_s [] f = refl
+not_m_or_s (k ∷ l) f = let e : k ≡ 82 = four_is_r (k ∷ l) f in rw e
 
-pub m-or-s-stays : (l : List ℕ) → isMOrSLine l ≡ true → gatewayNamed l ≡ l
-m-or-s-stays l e = go (fourValues l) refl
+pub m_or_s_stays : (l : List ℕ) → is_mor_sline l ≡ true → gateway_named l ≡ l
+m_or_s_stays l e = go (four_values l) refl
   where
-    go : (q : Bool) → fourValues l ≡ q → gatewayNamed l ≡ l
-    go true f = absurd (true≢false (sym e ∙ not-m-or-s l f))
-    go false f = named-same l f
+    go : (q : Bool) → four_values l ≡ q → gateway_named l ≡ l
+    go true f = absurd (true≢false (sym e ∙ not_m_or_s l f))
+    go false f = named_same l f
 
-pub not-shorter : (l : List ℕ) → length l ≤ length (gatewayNamed l)
-not-shorter l = go (fourValues l) refl
+pub not_shorter : (l : List ℕ) → length l ≤ length (gateway_named l)
+not_shorter l = go (four_values l) refl
   where
-    go : (q : Bool) → fourValues l ≡ q → length l ≤ length (gatewayNamed l)
-    go true f = omega (arith, named-longer l f)
-    go false f = omega (arith, ap length (named-same l f))
+    go : (q : Bool) → four_values l ≡ q → length l ≤ length (gateway_named l)
+    go true f = omega (arith, named_longer l f)
+    go false f = omega (arith, ap length (named_same l f))
 
 -- ---- lines
-pub those-r-named : (ls : List (List ℕ)) → those isRLine (map gatewayNamed ls) ≡ map gatewayNamed (those isRLine ls)
-those-r-named [] = refl
-those-r-named (l ∷ ls) = rw (r-named l) (go (isRLine l) (those-r-named ls))
+pub those_r_named : (ls : List (List ℕ)) → those is_rline (map gateway_named ls) ≡ map gateway_named (those is_rline ls)
+those_r_named [] = refl
+those_r_named (l ∷ ls) = rw (r_named l) (go (is_rline l) (those_r_named ls))
   where
-    go : (q : Bool) → those isRLine (map gatewayNamed ls) ≡ map gatewayNamed (those isRLine ls)
-        → cond q (gatewayNamed l ∷ those isRLine (map gatewayNamed ls)) (those isRLine (map gatewayNamed ls)) ≡ map gatewayNamed (cond q (l ∷ those isRLine ls) (those isRLine ls))
-    go true h = ap (◌∷◌ (gatewayNamed l)) h
+    go : (q : Bool) → those is_rline (map gateway_named ls) ≡ map gateway_named (those is_rline ls)
+        → cond q (gateway_named l ∷ those is_rline (map gateway_named ls)) (those is_rline (map gateway_named ls)) ≡ map gateway_named (cond q (l ∷ those is_rline ls) (those is_rline ls))
+    go true h = ap (◌∷◌ (gateway_named l)) h
     go false h = h
 
-pub those-m-or-s-named : (ls : List (List ℕ)) → those isMOrSLine (map gatewayNamed ls) ≡ those isMOrSLine ls
-those-m-or-s-named [] = refl
-those-m-or-s-named (l ∷ ls) = rw (m-or-s-named l) (go (isMOrSLine l) refl (those-m-or-s-named ls))
+pub those_m_or_s_named : (ls : List (List ℕ)) → those is_mor_sline (map gateway_named ls) ≡ those is_mor_sline ls
+those_m_or_s_named [] = refl
+those_m_or_s_named (l ∷ ls) = rw (m_or_s_named l) (go (is_mor_sline l) refl (those_m_or_s_named ls))
   where
-    go : (q : Bool) → isMOrSLine l ≡ q → those isMOrSLine (map gatewayNamed ls) ≡ those isMOrSLine ls
-        → cond q (gatewayNamed l ∷ those isMOrSLine (map gatewayNamed ls)) (those isMOrSLine (map gatewayNamed ls)) ≡ cond q (l ∷ those isMOrSLine ls) (those isMOrSLine ls)
-    go true e h = ap (λ (x : List ℕ). x ∷ those isMOrSLine (map gatewayNamed ls)) (m-or-s-stays l e) ∙ ap (◌∷◌ l) h
+    go : (q : Bool) → is_mor_sline l ≡ q → those is_mor_sline (map gateway_named ls) ≡ those is_mor_sline ls
+        → cond q (gateway_named l ∷ those is_mor_sline (map gateway_named ls)) (those is_mor_sline (map gateway_named ls)) ≡ cond q (l ∷ those is_mor_sline ls) (those is_mor_sline ls)
+    go true e h = ap (λ (x : List ℕ). x ∷ those is_mor_sline (map gateway_named ls)) (m_or_s_stays l e) ∙ ap (◌∷◌ l) h
     go false e h = h
 
 -- R lines that name their gateways stay as they are
-pub each-stays : {ls : List (List ℕ)} → EachNamed ls → map gatewayNamed ls ≡ ls
-each-stays no_line = refl
-each-stays (five-values {l} {ls} e n) = ap (λ (x : List ℕ). x ∷ map gatewayNamed ls) (named-same l (naming.five-values l e)) ∙ ap (◌∷◌ l) (each-stays n)
+pub each_stays : {ls : List (List ℕ)} → EachNamed ls → map gateway_named ls ≡ ls
+each_stays no_line = refl
+each_stays (five_values {l} {ls} e n) = ap (λ (x : List ℕ). x ∷ map gateway_named ls) (named_same l (naming.five_values l e)) ∙ ap (◌∷◌ l) (each_stays n)
 
 -- R lines stay last
-all-r-named : {ls : List (List ℕ)} → AllRLines ls → AllRLines (map gatewayNamed ls)
-all-r-named no_more = no_more
-all-r-named (r-next {l} e a) = r-next (r-named l ∙ e) (all-r-named a)
+all_r_named : {ls : List (List ℕ)} → AllRLines ls → AllRLines (map gateway_named ls)
+all_r_named no_more = no_more
+all_r_named (r_next {l} e a) = r_next (r_named l ∙ e) (all_r_named a)
 
-pub last-named : {ls : List (List ℕ)} → RoutesLast ls → RoutesLast (map gatewayNamed ls)
-last-named (r-lines a) = r-lines (all-r-named a)
-last-named (no-r-line {l} e r) = no-r-line (r-named l ∙ e) (last-named r)
+pub last_named : {ls : List (List ℕ)} → RoutesLast ls → RoutesLast (map gateway_named ls)
+last_named (r_lines a) = r_lines (all_r_named a)
+last_named (no_r_line {l} e r) = no_r_line (r_named l ∙ e) (last_named r)
 
-first-and-rest : {l : List ℕ} {ls : List (List ℕ)} → EachNamed (l ∷ ls) → (length (fields l) ≡ 6) × EachNamed ls
-first-and-rest (five-values e n) = (e, n)
+first_and_rest : {l : List ℕ} {ls : List (List ℕ)} → EachNamed (l ∷ ls) → (length (fields l) ≡ 6) × EachNamed ls
+first_and_rest (five_values e n) = (e, n)
 
 -- lines of M and S, and R lines that name their gateways, stay as they are
-pub all_stay : {ts : List TextLine} → MSAndRLines ts → EachNamed (those isRLine (map lineBytes ts)) → map gatewayNamed (map lineBytes ts) ≡ map lineBytes ts
+pub all_stay : {ts : List TextLine} → MSAndRLines ts → EachNamed (those is_rline (map line_bytes ts)) → map gateway_named (map line_bytes ts) ≡ map line_bytes ts
 all_stay kinds.no_line n = refl
-all_stay (m-or-s-line {l} {ls} e k) n =
-    ap (λ (x : List ℕ). x ∷ map gatewayNamed (map lineBytes ls)) (m-or-s-stays l e) ∙
-    ap (◌∷◌ l) (all_stay k (go (isRLine l) n))
+all_stay (m_or_s_line {l} {ls} e k) n =
+    ap (λ (x : List ℕ). x ∷ map gateway_named (map line_bytes ls)) (m_or_s_stays l e) ∙
+    ap (◌∷◌ l) (all_stay k (go (is_rline l) n))
   where
-    go : (q : Bool) → EachNamed (cond q (l ∷ those isRLine (map lineBytes ls)) (those isRLine (map lineBytes ls))) → EachNamed (those isRLine (map lineBytes ls))
-    go true (five-values f m) = m
+    go : (q : Bool) → EachNamed (cond q (l ∷ those is_rline (map line_bytes ls)) (those is_rline (map line_bytes ls))) → EachNamed (those is_rline (map line_bytes ls))
+    go true (five_values f m) = m
     go false m = m
-all_stay (r-line {l} {ls} e k) n =
-    let f = first-and-rest (subst (λ (q : Bool). EachNamed (cond q (l ∷ those isRLine (map lineBytes ls)) (those isRLine (map lineBytes ls)))) e n) in
-    ap (λ (x : List ℕ). x ∷ map gatewayNamed (map lineBytes ls)) (named-same l (naming.five-values l f.0)) ∙ ap (◌∷◌ l) (all_stay k f.1)
+all_stay (r_line {l} {ls} e k) n =
+    let f = first_and_rest (subst (λ (q : Bool). EachNamed (cond q (l ∷ those is_rline (map line_bytes ls)) (those is_rline (map line_bytes ls)))) e n) in
+    ap (λ (x : List ℕ). x ∷ map gateway_named (map line_bytes ls)) (named_same l (naming.five_values l f.0)) ∙ ap (◌∷◌ l) (all_stay k f.1)
 
 -- a text is no longer than with every gateway named
-pub text-not-shorter : (ls : List (List ℕ)) → length (textOfLines ls) ≤ length (textOfLines (map gatewayNamed ls))
-unfolding textOfLines
-text-not-shorter [] = omega arith
-text-not-shorter (l ∷ ls) =
+pub text_not_shorter : (ls : List (List ℕ)) → length (text_of_lines ls) ≤ length (text_of_lines (map gateway_named ls))
+unfolding text_of_lines
+text_not_shorter [] = omega arith
+text_not_shorter (l ∷ ls) =
     omega (
       arith,
-      length-append l (newline ∷ textOfLines ls),
-      length-append (gatewayNamed l) (newline ∷ textOfLines (map gatewayNamed ls)),
-      not-shorter l,
-      text-not-shorter ls,
+      length-append l (newline ∷ text_of_lines ls),
+      length-append (gateway_named l) (newline ∷ text_of_lines (map gateway_named ls)),
+      not_shorter l,
+      text_not_shorter ls,
     )
 
 -- ---- a text, between its newlines
-first-lacks : (s b : ℕ) → (b ≡ s → ⊥) → {ps : List (List ℕ)} → AllLack s ps → AllLack s (onFirst b ps)
-unfolding onFirst
-first-lacks s b n no_part = part (more n none) no_part
-first-lacks s b n (part p ps) = part (more n p) ps
+first_lacks : (s b : ℕ) → (b ≡ s → ⊥) → {ps : List (List ℕ)} → AllLack s ps → AllLack s (on_first b ps)
+unfolding on_first
+first_lacks s b n no_part = part (more n none) no_part
+first_lacks s b n (part p ps) = part (more n p) ps
 
-split-lacks : (s : ℕ) (l : List ℕ) → AllLack s (split s l)
+split_lacks : (s : ℕ) (l : List ℕ) → AllLack s (split s l)
 unfolding split
-split-lacks s [] = part none no_part
-split-lacks s (b ∷ t) = go (eqb b s) refl (split-lacks s t)
+split_lacks s [] = part none no_part
+split_lacks s (b ∷ t) = go (eqb b s) refl (split_lacks s t)
   where
-    go : (q : Bool) → eqb b s ≡ q → AllLack s (split s t) → AllLack s (cond q ([] ∷ split s t) (onFirst b (split s t)))
+    go : (q : Bool) → eqb b s ≡ q → AllLack s (split s t) → AllLack s (cond q ([] ∷ split s t) (on_first b (split s t)))
     go true e a = part none a
-    go false e a = first-lacks s b (eqb-false b s e) a
+    go false e a = first_lacks s b (eqb-false b s e) a
 
-all-free : {ps : List (List ℕ)} → AllLack newline ps → AllLack newline (map gatewayNamed ps)
-all-free no_part = no_part
-all-free (part {p} f a) = part (named-free p f) (all-free a)
+all_free : {ps : List (List ℕ)} → AllLack newline ps → AllLack newline (map gateway_named ps)
+all_free no_part = no_part
+all_free (part {p} f a) = part (named_free p f) (all_free a)
 
-parts-named : (text : List ℕ) → split newline (namedText text) ≡ map gatewayNamed (split newline text)
-unfolding namedText
-parts-named text =
+parts_named : (text : List ℕ) → split newline (named_text text) ≡ map gateway_named (split newline text)
+unfolding named_text
+parts_named text =
     let p = some newline text in
-    let free = subst (AllLack newline) p.same (split-lacks newline text) in
-    rw p.same (split-join newline (gatewayNamed p.first) (map gatewayNamed p.others) (all-free free))
+    let free = subst (AllLack newline) p.same (split_lacks newline text) in
+    rw p.same (split_join newline (gateway_named p.first) (map gateway_named p.others) (all_free free))
 
 -- it says the same
-same-meanings : (ps : List (List ℕ)) → map meaningOf (lines_of (map gatewayNamed ps)) ≡ map meaningOf (lines_of ps)
-unfolding lines_of meaningOf
-same-meanings [] = refl
-same-meanings ([] ∷ []) = ap (λ (x : List ℕ). map meaningOf (lines_of (x ∷ []))) named_none
-same-meanings ((b ∷ l) ∷ []) = ap (λ (x : List ℕ). map meaningOf (lines_of (x ∷ []))) (named-begins b l)
-same-meanings (l ∷ p ∷ ps) =
-    ap (λ (x : Line). x ∷ map meaningOf (lines_of (map gatewayNamed (p ∷ ps)))) (named-means l) ∙ ap (◌∷◌ (lineMeaning l)) (same-meanings (p ∷ ps))
+same_meanings : (ps : List (List ℕ)) → map meaning_of (lines_of (map gateway_named ps)) ≡ map meaning_of (lines_of ps)
+unfolding lines_of meaning_of
+same_meanings [] = refl
+same_meanings ([] ∷ []) = ap (λ (x : List ℕ). map meaning_of (lines_of (x ∷ []))) named_none
+same_meanings ((b ∷ l) ∷ []) = ap (λ (x : List ℕ). map meaning_of (lines_of (x ∷ []))) (named_begins b l)
+same_meanings (l ∷ p ∷ ps) =
+    ap (λ (x : Line). x ∷ map meaning_of (lines_of (map gateway_named (p ∷ ps)))) (named_means l) ∙ ap (◌∷◌ (line_meaning l)) (same_meanings (p ∷ ps))
 
-pub meanings-named : (text : List ℕ) → meanings (namedText text) ≡ meanings text
+pub meanings_named : (text : List ℕ) → meanings (named_text text) ≡ meanings text
 unfolding meanings lines
-meanings-named text = ap (λ (ps : List (List ℕ)). map meaningOf (lines_of ps)) (parts-named text) ∙ same-meanings (split newline text)
+meanings_named text = ap (λ (ps : List (List ℕ)). map meaning_of (lines_of ps)) (parts_named text) ∙ same_meanings (split newline text)
 
-pub read_named : (text : List ℕ) → lines_read (namedText text) ≡ lines_read text
+pub read_named : (text : List ℕ) → lines_read (named_text text) ≡ lines_read text
 unfolding lines_read
-read_named text = rw (meanings-named text)
+read_named text = rw (meanings_named text)
 
 -- and its lines are those of the text, named
-same_bytes : (ps : List (List ℕ)) → map lineBytes (lines_of (map gatewayNamed ps)) ≡ map gatewayNamed (map lineBytes (lines_of ps))
+same_bytes : (ps : List (List ℕ)) → map line_bytes (lines_of (map gateway_named ps)) ≡ map gateway_named (map line_bytes (lines_of ps))
 unfolding lines_of
 same_bytes [] = refl
-same_bytes ([] ∷ []) = ap (λ (x : List ℕ). map lineBytes (lines_of (x ∷ []))) named_none
+same_bytes ([] ∷ []) = ap (λ (x : List ℕ). map line_bytes (lines_of (x ∷ []))) named_none
 same_bytes ((b ∷ l) ∷ []) =
-    ap (λ (x : List ℕ). map lineBytes (lines_of (x ∷ []))) (named-begins b l) ∙ ap (λ (x : List ℕ). x ∷ []) (sym (named-begins b l))
-same_bytes (l ∷ p ∷ ps) = ap (◌∷◌ (gatewayNamed l)) (same_bytes (p ∷ ps))
+    ap (λ (x : List ℕ). map line_bytes (lines_of (x ∷ []))) (named_begins b l) ∙ ap (λ (x : List ℕ). x ∷ []) (sym (named_begins b l))
+same_bytes (l ∷ p ∷ ps) = ap (◌∷◌ (gateway_named l)) (same_bytes (p ∷ ps))
 
-pub lines-named : (text : List ℕ) → textLines (namedText text) ≡ map gatewayNamed (textLines text)
-unfolding textLines lines
-lines-named text = ap (λ (ps : List (List ℕ)). map lineBytes (lines_of ps)) (parts-named text) ∙ same_bytes (split newline text)
+pub lines_named : (text : List ℕ) → text_lines (named_text text) ≡ map gateway_named (text_lines text)
+unfolding text_lines lines
+lines_named text = ap (λ (ps : List (List ℕ)). map line_bytes (lines_of ps)) (parts_named text) ∙ same_bytes (split newline text)
 
-pub messages-named : (text : List ℕ) → messageLinesOf (namedText text) ≡ messageLinesOf text
-unfolding messageLinesOf
-messages-named text = ap (those isMOrSLine) (lines-named text) ∙ those-m-or-s-named (textLines text)
+pub messages_named : (text : List ℕ) → message_lines_of (named_text text) ≡ message_lines_of text
+unfolding message_lines_of
+messages_named text = ap (those is_mor_sline) (lines_named text) ∙ those_m_or_s_named (text_lines text)
 
-pub routes-named : (text : List ℕ) → routeLinesOf (namedText text) ≡ map gatewayNamed (routeLinesOf text)
-unfolding routeLinesOf
-routes-named text = ap (those isRLine) (lines-named text) ∙ those-r-named (textLines text)
+pub routes_named : (text : List ℕ) → route_lines_of (named_text text) ≡ map gateway_named (route_lines_of text)
+unfolding route_lines_of
+routes_named text = ap (those is_rline) (lines_named text) ∙ those_r_named (text_lines text)

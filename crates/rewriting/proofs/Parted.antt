@@ -9,90 +9,90 @@ use lib.ListN.{length, length-append}
 use borrow.Author.Tests.{eqb-true}
 use Rattle.lists.specs.Lists.{those}
 use Rattle.parts.specs.Parts.{TextLine, newline, split, lines_of, lines}
-use Rattle.parts.specs.Joined.{join, textOfLines}
-use Rattle.parts.proofs.Joins.{join-split, text-append}
-use Rattle.line.specs.Meaning.{letterR}
-use Rattle.rewriting.specs.LineKinds.{lineBytes, textLines, isMOrSLine, isRLine, MSAndRLines, no_line, m-or-s-line, r-line, AllRLines, no_more, r-next, RoutesLast, r-lines, no-r-line}
+use Rattle.parts.specs.Joined.{join, text_of_lines}
+use Rattle.parts.proofs.Joins.{join_split, text_append}
+use Rattle.line.specs.Meaning.{letter_r}
+use Rattle.rewriting.specs.LineKinds.{line_bytes, text_lines, is_mor_sline, is_rline, MSAndRLines, no_line, m_or_s_line, r_line, AllRLines, no_more, r_next, RoutesLast, r_lines, no_r_line}
 
 -- ---- no line is of both kinds
-pub r-only : (l : List ℕ) → isRLine l ≡ true → isMOrSLine l ≡ false
-unfolding isRLine isMOrSLine
-r-only [] e = refl
-r-only (k ∷ l) e = rw (eqb-true k letterR e)
+pub r_only : (l : List ℕ) → is_rline l ≡ true → is_mor_sline l ≡ false
+unfolding is_rline is_mor_sline
+r_only [] e = refl
+r_only (k ∷ l) e = rw (eqb-true k letter_r e)
 
-pub m-or-s-only : (l : List ℕ) → isMOrSLine l ≡ true → isRLine l ≡ false
-m-or-s-only l e = go (isRLine l) refl
+pub m_or_s_only : (l : List ℕ) → is_mor_sline l ≡ true → is_rline l ≡ false
+m_or_s_only l e = go (is_rline l) refl
   where
-    go : (q : Bool) → isRLine l ≡ q → q ≡ false
-    go true f = absurd (true≢false (sym e ∙ r-only l f))
+    go : (q : Bool) → is_rline l ≡ q → q ≡ false
+    go true f = absurd (true≢false (sym e ∙ r_only l f))
     go false f = refl
 
 -- ---- the text is its lines, each with its newline
-joined : (ps : List (List ℕ)) → MSAndRLines (lines_of ps) → join newline ps ≡ textOfLines (map lineBytes (lines_of ps))
-unfolding join lines_of textOfLines
+joined : (ps : List (List ℕ)) → MSAndRLines (lines_of ps) → join newline ps ≡ text_of_lines (map line_bytes (lines_of ps))
+unfolding join lines_of text_of_lines
 joined [] k = refl
 joined ([] ∷ []) k = refl
-joined (l ∷ p ∷ ps) (m-or-s-line e k) = ap (λ (t : List ℕ). l ++ newline ∷ t) (joined (p ∷ ps) k)
-joined (l ∷ p ∷ ps) (r-line e k) = ap (λ (t : List ℕ). l ++ newline ∷ t) (joined (p ∷ ps) k)
+joined (l ∷ p ∷ ps) (m_or_s_line e k) = ap (λ (t : List ℕ). l ++ newline ∷ t) (joined (p ∷ ps) k)
+joined (l ∷ p ∷ ps) (r_line e k) = ap (λ (t : List ℕ). l ++ newline ∷ t) (joined (p ∷ ps) k)
 
-pub whole : (text : List ℕ) → MSAndRLines (lines text) → text ≡ textOfLines (textLines text)
-unfolding lines textLines
-whole text k = sym (join-split newline text) ∙ joined (split newline text) k
+pub whole : (text : List ℕ) → MSAndRLines (lines text) → text ≡ text_of_lines (text_lines text)
+unfolding lines text_lines
+whole text k = sym (join_split newline text) ∙ joined (split newline text) k
 
 -- ---- how long it is
-length-line : (l : List ℕ) (ls : List (List ℕ)) → length (textOfLines (l ∷ ls)) ≡ length l + 1 + length (textOfLines ls)
-unfolding textOfLines
-length-line l ls = omega (arith, length-append l (newline ∷ textOfLines ls))
+length_line : (l : List ℕ) (ls : List (List ℕ)) → length (text_of_lines (l ∷ ls)) ≡ length l + 1 + length (text_of_lines ls)
+unfolding text_of_lines
+length_line l ls = omega (arith, length-append l (newline ∷ text_of_lines ls))
 
-length-sum : {ts : List TextLine} → MSAndRLines ts
-    → length (textOfLines (map lineBytes ts)) ≡ length (textOfLines (those isMOrSLine (map lineBytes ts))) + length (textOfLines (those isRLine (map lineBytes ts)))
-unfolding textOfLines
-length-sum no_line = refl
-length-sum (m-or-s-line {l} {ls} e k) =
-    rw (e, m-or-s-only l e) (omega (arith, length-sum k, length-line l (map lineBytes ls), length-line l (those isMOrSLine (map lineBytes ls))))
-length-sum (r-line {l} {ls} e k) =
-    rw (e, r-only l e) (omega (arith, length-sum k, length-line l (map lineBytes ls), length-line l (those isRLine (map lineBytes ls))))
+length_sum : {ts : List TextLine} → MSAndRLines ts
+    → length (text_of_lines (map line_bytes ts)) ≡ length (text_of_lines (those is_mor_sline (map line_bytes ts))) + length (text_of_lines (those is_rline (map line_bytes ts)))
+unfolding text_of_lines
+length_sum no_line = refl
+length_sum (m_or_s_line {l} {ls} e k) =
+    rw (e, m_or_s_only l e) (omega (arith, length_sum k, length_line l (map line_bytes ls), length_line l (those is_mor_sline (map line_bytes ls))))
+length_sum (r_line {l} {ls} e k) =
+    rw (e, r_only l e) (omega (arith, length_sum k, length_line l (map line_bytes ls), length_line l (those is_rline (map line_bytes ls))))
 
-pub length-parted : {ts : List TextLine} → MSAndRLines ts
-    → length (textOfLines (those isMOrSLine (map lineBytes ts) ++ those isRLine (map lineBytes ts))) ≡ length (textOfLines (map lineBytes ts))
-length-parted {ts} k =
-    let ms = those isMOrSLine (map lineBytes ts) in
-    let rs = those isRLine (map lineBytes ts) in
-    ap length (text-append ms rs) ∙ length-append (textOfLines ms) (textOfLines rs) ∙ sym (length-sum k)
+pub length_parted : {ts : List TextLine} → MSAndRLines ts
+    → length (text_of_lines (those is_mor_sline (map line_bytes ts) ++ those is_rline (map line_bytes ts))) ≡ length (text_of_lines (map line_bytes ts))
+length_parted {ts} k =
+    let ms = those is_mor_sline (map line_bytes ts) in
+    let rs = those is_rline (map line_bytes ts) in
+    ap length (text_append ms rs) ∙ length-append (text_of_lines ms) (text_of_lines rs) ∙ sym (length_sum k)
 
 -- ---- lines with the R lines last
-none-of-m : {ls : List (List ℕ)} → AllRLines ls → those isMOrSLine ls ≡ []
-none-of-m no_more = refl
-none-of-m (r-next {l} e a) = rw (r-only l e) (none-of-m a)
+none_of_m : {ls : List (List ℕ)} → AllRLines ls → those is_mor_sline ls ≡ []
+none_of_m no_more = refl
+none_of_m (r_next {l} e a) = rw (r_only l e) (none_of_m a)
 
-all-of-r : {ls : List (List ℕ)} → AllRLines ls → those isRLine ls ≡ ls
-all-of-r no_more = refl
-all-of-r (r-next {l} e a) = rw e (ap (◌∷◌ l) (all-of-r a))
+all_of_r : {ls : List (List ℕ)} → AllRLines ls → those is_rline ls ≡ ls
+all_of_r no_more = refl
+all_of_r (r_next {l} e a) = rw e (ap (◌∷◌ l) (all_of_r a))
 
-all-r : {ls : List (List ℕ)} → AllRLines ls → those isMOrSLine ls ++ those isRLine ls ≡ ls
-all-r {ls} a = ap (λ (ms : List (List ℕ)). ms ++ those isRLine ls) (none-of-m a) ∙ all-of-r a
+all_r : {ls : List (List ℕ)} → AllRLines ls → those is_mor_sline ls ++ those is_rline ls ≡ ls
+all_r {ls} a = ap (λ (ms : List (List ℕ)). ms ++ those is_rline ls) (none_of_m a) ∙ all_of_r a
 
-pub last-parted : {ts : List TextLine} → MSAndRLines ts → RoutesLast (map lineBytes ts)
-    → those isMOrSLine (map lineBytes ts) ++ those isRLine (map lineBytes ts) ≡ map lineBytes ts
-last-parted no_line r = refl
-last-parted (m-or-s-line e k) (r-lines a) = all-r a
-last-parted (m-or-s-line {l} e k) (no-r-line f r) = rw (e, m-or-s-only l e) (ap (◌∷◌ l) (last-parted k r))
-last-parted (r-line e k) (r-lines a) = all-r a
-last-parted (r-line {l} e k) (no-r-line f r) = absurd (true≢false (sym e ∙ f))
+pub last_parted : {ts : List TextLine} → MSAndRLines ts → RoutesLast (map line_bytes ts)
+    → those is_mor_sline (map line_bytes ts) ++ those is_rline (map line_bytes ts) ≡ map line_bytes ts
+last_parted no_line r = refl
+last_parted (m_or_s_line e k) (r_lines a) = all_r a
+last_parted (m_or_s_line {l} e k) (no_r_line f r) = rw (e, m_or_s_only l e) (ap (◌∷◌ l) (last_parted k r))
+last_parted (r_line e k) (r_lines a) = all_r a
+last_parted (r_line {l} e k) (no_r_line f r) = absurd (true≢false (sym e ∙ f))
 
 -- those of M and S, then those of R, have the R lines last
-pub all-those : (ls : List (List ℕ)) → AllRLines (those isRLine ls)
-all-those [] = no_more
-all-those (l ∷ ls) = go (isRLine l) refl (all-those ls)
+pub all_those : (ls : List (List ℕ)) → AllRLines (those is_rline ls)
+all_those [] = no_more
+all_those (l ∷ ls) = go (is_rline l) refl (all_those ls)
   where
-    go : (q : Bool) → isRLine l ≡ q → AllRLines (those isRLine ls) → AllRLines (cond q (l ∷ those isRLine ls) (those isRLine ls))
-    go true e a = r-next e a
+    go : (q : Bool) → is_rline l ≡ q → AllRLines (those is_rline ls) → AllRLines (cond q (l ∷ those is_rline ls) (those is_rline ls))
+    go true e a = r_next e a
     go false e a = a
 
-pub parted-last : (ls : List (List ℕ)) {ms : List (List ℕ)} → AllRLines ms → RoutesLast (those isMOrSLine ls ++ ms)
-parted-last [] a = r-lines a
-parted-last (l ∷ ls) {ms} a = go (isMOrSLine l) refl (parted-last ls a)
+pub parted_last : (ls : List (List ℕ)) {ms : List (List ℕ)} → AllRLines ms → RoutesLast (those is_mor_sline ls ++ ms)
+parted_last [] a = r_lines a
+parted_last (l ∷ ls) {ms} a = go (is_mor_sline l) refl (parted_last ls a)
   where
-    go : (q : Bool) → isMOrSLine l ≡ q → RoutesLast (those isMOrSLine ls ++ ms) → RoutesLast (cond q (l ∷ those isMOrSLine ls) (those isMOrSLine ls) ++ ms)
-    go true e r = no-r-line (m-or-s-only l e) r
+    go : (q : Bool) → is_mor_sline l ≡ q → RoutesLast (those is_mor_sline ls ++ ms) → RoutesLast (cond q (l ∷ those is_mor_sline ls) (those is_mor_sline ls) ++ ms)
+    go true e r = no_r_line (m_or_s_only l e) r
     go false e r = r

@@ -3,45 +3,45 @@
 use Rattle.std.specs.Prelude.{◌≡◌, ℕ, Bool, true, false, ◌||◌, List, [], ◌∷◌, map, eqb}
 use Rattle.lists.specs.Lists.{those}
 use Rattle.parts.specs.Parts.{TextLine, ended, unended, lines}
-use Rattle.line.specs.Meaning.{letterM, letterS, letterR}
+use Rattle.line.specs.Meaning.{letter_m, letter_s, letter_r}
 
 -- the bytes of a line, without its newline
-abbrev pub lineBytes : TextLine → List ℕ
-lineBytes (ended l) = l
-lineBytes (unended l) = l
+abbrev pub line_bytes : TextLine → List ℕ
+line_bytes (ended l) = l
+line_bytes (unended l) = l
 
 -- the lines of a text, as they stand
-unfoldable pub textLines : List ℕ → List (List ℕ)
-textLines text = map lineBytes (lines text)
+unfoldable pub text_lines : List ℕ → List (List ℕ)
+text_lines text = map line_bytes (lines text)
 
 -- M and S lines, and R lines: by the first byte
-unfoldable pub isMOrSLine : List ℕ → Bool
-isMOrSLine [] = false
-isMOrSLine (k ∷ l) = eqb k letterM || eqb k letterS
+unfoldable pub is_mor_sline : List ℕ → Bool
+is_mor_sline [] = false
+is_mor_sline (k ∷ l) = eqb k letter_m || eqb k letter_s
 
-unfoldable pub isRLine : List ℕ → Bool
-isRLine [] = false
-isRLine (k ∷ l) = eqb k letterR
+unfoldable pub is_rline : List ℕ → Bool
+is_rline [] = false
+is_rline (k ∷ l) = eqb k letter_r
 
 -- the M and S lines of a text, and its R lines: as they stand, each in their order
-unfoldable pub messageLinesOf : List ℕ → List (List ℕ)
-messageLinesOf text = those isMOrSLine (textLines text)
+unfoldable pub message_lines_of : List ℕ → List (List ℕ)
+message_lines_of text = those is_mor_sline (text_lines text)
 
-unfoldable pub routeLinesOf : List ℕ → List (List ℕ)
-routeLinesOf text = those isRLine (textLines text)
+unfoldable pub route_lines_of : List ℕ → List (List ℕ)
+route_lines_of text = those is_rline (text_lines text)
 
 -- lines that are each ended by a newline, and each an M or S line or an R line
 pub data MSAndRLines : List TextLine → Type 0 where
   no_line : MSAndRLines []
-  m-or-s-line : {l : List ℕ} {ls : List TextLine} → isMOrSLine l ≡ true → MSAndRLines ls → MSAndRLines (ended l ∷ ls)
-  r-line : {l : List ℕ} {ls : List TextLine} → isRLine l ≡ true → MSAndRLines ls → MSAndRLines (ended l ∷ ls)
+  m_or_s_line : {l : List ℕ} {ls : List TextLine} → is_mor_sline l ≡ true → MSAndRLines ls → MSAndRLines (ended l ∷ ls)
+  r_line : {l : List ℕ} {ls : List TextLine} → is_rline l ≡ true → MSAndRLines ls → MSAndRLines (ended l ∷ ls)
 
 -- R lines alone
 pub data AllRLines : List (List ℕ) → Type 0 where
   no_more : AllRLines []
-  r-next : {l : List ℕ} {ls : List (List ℕ)} → isRLine l ≡ true → AllRLines ls → AllRLines (l ∷ ls)
+  r_next : {l : List ℕ} {ls : List (List ℕ)} → is_rline l ≡ true → AllRLines ls → AllRLines (l ∷ ls)
 
 -- lines with the R lines last: some that are no R lines, then R lines alone
 pub data RoutesLast : List (List ℕ) → Type 0 where
-  r-lines : {ls : List (List ℕ)} → AllRLines ls → RoutesLast ls
-  no-r-line : {l : List ℕ} {ls : List (List ℕ)} → isRLine l ≡ false → RoutesLast ls → RoutesLast (l ∷ ls)
+  r_lines : {ls : List (List ℕ)} → AllRLines ls → RoutesLast ls
+  no_r_line : {l : List ℕ} {ls : List (List ℕ)} → is_rline l ≡ false → RoutesLast ls → RoutesLast (l ∷ ls)

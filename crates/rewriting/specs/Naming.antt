@@ -3,18 +3,18 @@
 use Rattle.std.specs.Prelude.{◌≡◌, ℕ, List, [], ◌∷◌, map, length}
 use Rattle.parts.specs.Parts.{newline, split, fields}
 use Rattle.parts.specs.Joined.{join}
-use Rattle.line.specs.Named.{gatewayNamed}
-use Rattle.rewriting.specs.LineKinds.{routeLinesOf}
+use Rattle.line.specs.Named.{gateway_named}
+use Rattle.rewriting.specs.LineKinds.{route_lines_of}
 
 -- R lines that each have six fields: R, and five values, of which the gateway is the first
 pub data EachNamed : List (List ℕ) → Type 0 where
   no_line : EachNamed []
-  five-values : {l : List ℕ} {ls : List (List ℕ)} → length (fields l) ≡ 6 → EachNamed ls → EachNamed (l ∷ ls)
+  five_values : {l : List ℕ} {ls : List (List ℕ)} → length (fields l) ≡ 6 → EachNamed ls → EachNamed (l ∷ ls)
 
 -- a text names every gateway
 abbrev pub NamesGateways : List ℕ → Type 0
-NamesGateways text = EachNamed (routeLinesOf text)
+NamesGateways text = EachNamed (route_lines_of text)
 
 -- the text with every gateway named: between its newlines, each R line with four values has `0` and a tab before them
-unfoldable pub namedText : List ℕ → List ℕ
-namedText text = join newline (map gatewayNamed (split newline text))
+unfoldable pub named_text : List ℕ → List ℕ
+named_text text = join newline (map gateway_named (split newline text))

@@ -6,71 +6,71 @@ use native.Mathlib.Omega.{arith}
 use mathlib.Core.List.{List, [], ◌∷◌}
 use lib.ListN.{get_or, take, drop}
 use lib.Seq.{get_or-drop}
-use Rattle.record.specs.Limits.{routeLimit}
-use Rattle.record.specs.Place.{placeLimit}
-use Rattle.record.specs.Columns.{fromsAt, tosAt, routeCountOf, fromsOf, tosOf, gatewaysOf, IsRecord}
+use Rattle.record.specs.Limits.{route_limit}
+use Rattle.record.specs.Place.{place_limit}
+use Rattle.record.specs.Columns.{froms_at, tos_at, route_count_of, froms_of, tos_of, gateways_of, IsRecord}
 use Rattle.books.specs.Book.{Route}
-use Rattle.books.specs.Words.{gateways, RoutesStand, routesSideBySide, routesOf}
-use Rattle.books.proofs.RouteColumns.{shows-routes}
-use Rattle.reading.specs.Written.{RoutesInLimits, no-route, route, Routed}
+use Rattle.books.specs.Words.{gateways, RoutesStand, routes_side_by_side, routes_of}
+use Rattle.books.proofs.RouteColumns.{shows_routes}
+use Rattle.reading.specs.Written.{RoutesInLimits, no_route, route, Routed}
 use Rattle.reading.specs.Taken.{SoundRoutes, RoutesFrom}
-use Rattle.reading.proofs.Exact.{from-routes, routes-from}
+use Rattle.reading.proofs.Exact.{from_routes, routes_from_law}
 use Rattle.route_tables.specs.Tables.{AllGateways, RoutesTaken}
-use Rattle.route_tables.proofs.Shown.{few-shown}
+use Rattle.route_tables.proofs.Shown.{few_shown}
 
 -- every entry is the number of a place
 Small : List ℕ → Type 0
-Small l = (k : ℕ) → get_or l k 0 < placeLimit
+Small l = (k : ℕ) → get_or l k 0 < place_limit
 
-side-limits : (fs ts gs : List ℕ) → Small fs → Small ts → AllGateways (gateways (routesSideBySide fs ts gs)) → RoutesInLimits (routesSideBySide fs ts gs)
-unfolding routesSideBySide Small
-side-limits [] ts gs a b c = no-route
-side-limits (f ∷ fs) [] gs a b c = no-route
-side-limits (f ∷ fs) (t ∷ ts) [] a b c = no-route
-side-limits (f ∷ fs) (t ∷ ts) (g ∷ gs) a b c = route (c 0) (a 0) (b 0) (side-limits fs ts gs (λ k. a (suc k)) (λ k. b (suc k)) (λ k. c (suc k)))
+side_limits : (fs ts gs : List ℕ) → Small fs → Small ts → AllGateways (gateways (routes_side_by_side fs ts gs)) → RoutesInLimits (routes_side_by_side fs ts gs)
+unfolding routes_side_by_side Small
+side_limits [] ts gs a b c = no_route
+side_limits (f ∷ fs) [] gs a b c = no_route
+side_limits (f ∷ fs) (t ∷ ts) [] a b c = no_route
+side_limits (f ∷ fs) (t ∷ ts) (g ∷ gs) a b c = route (c 0) (a 0) (b 0) (side_limits fs ts gs (λ k. a (suc k)) (λ k. b (suc k)) (λ k. c (suc k)))
 
-small-drop : (n : ℕ) (l : List ℕ) → Small l → Small (drop n l)
+small_drop : (n : ℕ) (l : List ℕ) → Small l → Small (drop n l)
 unfolding Small
-small-drop n l h k = rw get_or-drop (h (n + k))
+small_drop n l h k = rw get_or-drop (h (n + k))
 
-small-take : (n : ℕ) (l : List ℕ) → Small l → Small (take n l)
+small_take : (n : ℕ) (l : List ℕ) → Small l → Small (take n l)
 unfolding Small
-small-take zero l h k = omega arith
-small-take (suc n) [] h k = h k
-small-take (suc n) (x ∷ l) h zero = h 0
-small-take (suc n) (x ∷ l) h (suc k) = small-take n l (λ j. h (suc j)) k
+small_take zero l h k = omega arith
+small_take (suc n) [] h k = h k
+small_take (suc n) (x ∷ l) h zero = h 0
+small_take (suc n) (x ∷ l) h (suc k) = small_take n l (λ j. h (suc j)) k
 
 -- the routes that the words of a record show are within the limits where each is carried by a gateway, and no more than a book may have
-pub routed-shown : (w : List ℕ) → IsRecord w → AllGateways (gateways (routesOf w)) → Routed (routesOf w)
-unfolding routesOf Small
-routed-shown w r g = record {
-  few = few-shown w;
+pub routed_shown : (w : List ℕ) → IsRecord w → AllGateways (gateways (routes_of w)) → Routed (routes_of w)
+unfolding routes_of Small
+routed_shown w r g = record {
+  few = few_shown w;
   limits =
-      side-limits (take (routeCountOf w) (fromsOf w)) (take (routeCountOf w) (tosOf w)) (take (routeCountOf w) (gatewaysOf w))
-      (small-take (routeCountOf w) (fromsOf w) (small-take routeLimit (drop fromsAt w) (small-drop fromsAt w r.small)))
-      (small-take (routeCountOf w) (tosOf w) (small-take routeLimit (drop tosAt w) (small-drop tosAt w r.small)))
+      side_limits (take (route_count_of w) (froms_of w)) (take (route_count_of w) (tos_of w)) (take (route_count_of w) (gateways_of w))
+      (small_take (route_count_of w) (froms_of w) (small_take route_limit (drop froms_at w) (small_drop froms_at w r.small)))
+      (small_take (route_count_of w) (tos_of w) (small_take route_limit (drop tos_at w) (small_drop tos_at w r.small)))
       g;
 }
 
 -- some text is taken with the route tables of a record exactly when the test behind 12 says so
-pub routes-from-text : (w : List ℕ) → IsRecord w → RoutesTaken w → RoutesFrom w
-routes-from-text w r t = from-routes w (record { routes = routesOf w; routed = routed-shown w r t.carried; sound = t.sound; stand = t.stand })
+pub routes_from_text : (w : List ℕ) → IsRecord w → RoutesTaken w → RoutesFrom w
+routes_from_text w r t = from_routes w (record { routes = routes_of w; routed = routed_shown w r t.carried; sound = t.sound; stand = t.stand })
 
 -- routes within the limits are carried by gateways
-all-carried : {rs : List Route} → RoutesInLimits rs → AllGateways (gateways rs)
-all-carried no-route k = omega arith
-all-carried (route g f t l) zero = g
-all-carried (route g f t l) (suc k) = all-carried l k
+all_carried : {rs : List Route} → RoutesInLimits rs → AllGateways (gateways rs)
+all_carried no_route k = omega arith
+all_carried (route g f t l) zero = g
+all_carried (route g f t l) (suc k) = all_carried l k
 
 -- sound routes that stand in the words
-pub stand-taken : (w : List ℕ) {rs : List Route} → Routed rs → RoutesStand w rs → SoundRoutes rs → RoutesTaken w
-stand-taken w {rs} few s h =
-    let e = shows-routes w rs few.few s in
+pub stand_taken : (w : List ℕ) {rs : List Route} → Routed rs → RoutesStand w rs → SoundRoutes rs → RoutesTaken w
+stand_taken w {rs} few s h =
+    let e = shows_routes w rs few.few s in
     record {
       stand = subst (RoutesStand w) (sym e) s;
-      carried = subst (λ (x : List Route). AllGateways (gateways x)) (sym e) (all-carried few.limits);
+      carried = subst (λ (x : List Route). AllGateways (gateways x)) (sym e) (all_carried few.limits);
       sound = subst SoundRoutes (sym e) h;
     }
 
-pub text-to-routes : (w : List ℕ) → RoutesFrom w → RoutesTaken w
-text-to-routes w f = let i = routes-from w f in stand-taken w i.routed i.stand i.sound
+pub text_to_routes : (w : List ℕ) → RoutesFrom w → RoutesTaken w
+text_to_routes w f = let i = routes_from_law w f in stand_taken w i.routed i.stand i.sound

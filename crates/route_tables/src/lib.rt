@@ -2,7 +2,7 @@
 // (refusal 12). proofs/ shows that it is exact: it passes just where some text is taken with those tables.
 ghost use Rattle.std.specs.Prelude.{◌≡◌, ◌&&◌, ◌≤◌, length, drop};
 ghost use Rattle.zeros.specs.Zeros.{zeros};
-ghost use Rattle.record.specs.Columns.{routeCountOf};
+ghost use Rattle.record.specs.Columns.{route_count_of};
 ghost use Rattle.chains.specs.Tells.{Tells};
 ghost use Rattle.route_tables.specs.Tables.{AllGateways, RoutesTaken};
 
@@ -11,7 +11,7 @@ use zeros::four_zero;
 
 // How many routes the book says it has.
 fn count(book: &[u32; BOOK_WORDS]) -> usize
-    ensures { result ≡ routeCountOf book.now }
+    ensures { result ≡ route_count_of book.now }
 {
     wide(record::route_count(book))
 }

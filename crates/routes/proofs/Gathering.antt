@@ -6,138 +6,138 @@ use native.Mathlib.Omega.{arith}
 use mathlib.Core.List.{List, [], ◌∷◌, ◌++◌, map}
 use lib.ListN.{length, get_or, take, drop, replicate, length-map, length-replicate}
 use lib.Seq.{get_or-take}
-use Rattle.record.specs.Limits.{routeLimit, gatewayLimit}
-use Rattle.record.specs.Columns.{routeCountOf, fromsOf, tosOf, gatewaysOf}
-use Rattle.record.specs.Place.{placeKey}
-use Rattle.lists.proofs.Lists.{mem-at}
+use Rattle.record.specs.Limits.{route_limit, gateway_limit}
+use Rattle.record.specs.Columns.{route_count_of, froms_of, tos_of, gateways_of}
+use Rattle.record.specs.Place.{place_key}
+use Rattle.lists.proofs.Lists.{mem_at}
 use Rattle.chains.specs.Chain.{IsSound}
-use Rattle.chains.specs.Copies.{ofRoutes}
-use Rattle.chains.proofs.Spreads.{spread-few}
-use Rattle.chains.proofs.Copies.{copies-places, copies-count, copies-routes}
+use Rattle.chains.specs.Copies.{of_routes}
+use Rattle.chains.proofs.Spreads.{spread_few}
+use Rattle.chains.proofs.Copies.{copies_places, copies_count, copies_routes}
 use Rattle.books.specs.Book.{Route}
-use Rattle.books.specs.Words.{column, froms, tos, gateways, routesOf}
-use Rattle.books.proofs.RouteColumns.{froms-stand, tos-stand, gateways-stand, from-count, froms-are, tos-are}
-use Rattle.zeros.proofs.Gathering.{zero-at}
-use Rattle.sending.specs.Writing.{liveFroms, liveTos, copiesIn, Ready, Written}
+use Rattle.books.specs.Words.{column, froms, tos, gateways, routes_of}
+use Rattle.books.proofs.RouteColumns.{froms_stand, tos_stand, gateways_stand, from_count, froms_are, tos_are}
+use Rattle.zeros.proofs.Gathering.{zero_at}
+use Rattle.sending.specs.Writing.{live_froms, live_tos, copies_in, Ready, Written}
 use Rattle.route_tables.specs.Tables.{AllGateways, RoutesTaken}
-use Rattle.route_tables.proofs.Shown.{few-shown, few-counted}
-use Rattle.routes.specs.Answers.{IsPlace, spreadAlong, copiesAlong, gatewaysAlong, Rooms, rooms, roomIn, SpreadBy, no_room, spreads}
-use Rattle.routes.specs.Telling.{Tellable, routesTold}
+use Rattle.route_tables.proofs.Shown.{few_shown, few_counted}
+use Rattle.routes.specs.Answers.{IsPlace, spread_along, copies_along, gateways_along, Rooms, rooms, room_in, SpreadBy, no_room, spreads}
+use Rattle.routes.specs.Telling.{Tellable, routes_told}
 use Rattle.routes.proofs.Front.{front}
 
 -- past its entries a column has 0, as the list of them is read
 filled_at : (l : List ℕ) (n i : ℕ) → get_or (l ++ replicate n 0) i 0 ≡ get_or l i 0
-filled_at [] n i = zero-at n i
+filled_at [] n i = zero_at n i
 filled_at (x ∷ l) n zero = refl
 filled_at (x ∷ l) n (suc i) = filled_at l n i
 
-column-at : (l : List ℕ) (i : ℕ) → get_or (column routeLimit l) i 0 ≡ get_or l i 0
+column_at : (l : List ℕ) (i : ℕ) → get_or (column route_limit l) i 0 ≡ get_or l i 0
 unfolding column
-column-at l i = filled_at l (routeLimit - length l) i
+column_at l i = filled_at l (route_limit - length l) i
 
 module _ (w : List ℕ) (taken : RoutesTaken w) where
   -- the routes that are counted are the book's
-  from-live : liveFroms w ≡ froms (routesOf w)
-  from-live = froms-are w (routesOf w) (few-shown w) taken.stand
+  from_live : live_froms w ≡ froms (routes_of w)
+  from_live = froms_are w (routes_of w) (few_shown w) taken.stand
 
-  to-live : liveTos w ≡ tos (routesOf w)
-  to-live = tos-are w (routesOf w) (few-shown w) taken.stand
+  to_live : live_tos w ≡ tos (routes_of w)
+  to_live = tos_are w (routes_of w) (few_shown w) taken.stand
 
-  live-count : length (liveFroms w) ≡ routeCountOf w
-  live-count = ap length from-live ∙ length-map (routesOf w) (λ (r : Route). r.from) ∙ sym taken.stand.count
+  live_count : length (live_froms w) ≡ route_count_of w
+  live_count = ap length from_live ∙ length-map (routes_of w) (λ (r : Route). r.from) ∙ sym taken.stand.count
 
-  in_step : length (liveFroms w) ≡ length (liveTos w)
-  in_step = live-count ∙ taken.stand.count ∙ sym (length-map (routesOf w) (λ (r : Route). r.to)) ∙ ap length (sym to-live)
+  in_step : length (live_froms w) ≡ length (live_tos w)
+  in_step = live_count ∙ taken.stand.count ∙ sym (length-map (routes_of w) (λ (r : Route). r.to)) ∙ ap length (sym to_live)
 
-  live-sound : IsSound (liveFroms w) (liveTos w)
-  live-sound = rw (from-live, to-live) taken.sound
+  live_sound : IsSound (live_froms w) (live_tos w)
+  live_sound = rw (from_live, to_live) taken.sound
 
-  few : (p : ℕ) → length (copiesIn w p) ≤ routeLimit
+  few : (p : ℕ) → length (copies_in w p) ≤ route_limit
   few p =
       omega (
         arith,
-        copies-count (liveFroms w) (liveTos w) p,
-        spread-few (liveFroms w) (liveTos w) live-sound.loop-free live-sound.single in_step p,
-        live-count,
-        few-counted w taken.stand,
+        copies_count (live_froms w) (live_tos w) p,
+        spread_few (live_froms w) (live_tos w) live_sound.loop_free live_sound.single in_step p,
+        live_count,
+        few_counted w taken.stand,
       )
 
-  pub ready : (p : ℕ) → Ready w (copiesIn w p) 0
-  ready p = record { few = few-counted w taken.stand; whole = live-count; free = live-sound.loop-free; space = omega (arith, few p) }
+  pub ready : (p : ℕ) → Ready w (copies_in w p) 0
+  ready p = record { few = few_counted w taken.stand; whole = live_count; free = live_sound.loop_free; space = omega (arith, few p) }
 
   -- a column of the words has for each route what the book's own has
-  pub from_at : (i : ℕ) → get_or (fromsOf w) i 0 ≡ get_or (froms (routesOf w)) i 0
-  from_at i = ap (λ (l : List ℕ). get_or l i 0) (froms-stand w (routesOf w) (few-shown w) taken.stand) ∙ column-at (froms (routesOf w)) i
+  pub from_at : (i : ℕ) → get_or (froms_of w) i 0 ≡ get_or (froms (routes_of w)) i 0
+  from_at i = ap (λ (l : List ℕ). get_or l i 0) (froms_stand w (routes_of w) (few_shown w) taken.stand) ∙ column_at (froms (routes_of w)) i
 
-  pub to_at : (i : ℕ) → get_or (tosOf w) i 0 ≡ get_or (tos (routesOf w)) i 0
-  to_at i = ap (λ (l : List ℕ). get_or l i 0) (tos-stand w (routesOf w) (few-shown w) taken.stand) ∙ column-at (tos (routesOf w)) i
+  pub to_at : (i : ℕ) → get_or (tos_of w) i 0 ≡ get_or (tos (routes_of w)) i 0
+  to_at i = ap (λ (l : List ℕ). get_or l i 0) (tos_stand w (routes_of w) (few_shown w) taken.stand) ∙ column_at (tos (routes_of w)) i
 
-  pub gateway-at : (i : ℕ) → get_or (gatewaysOf w) i 0 ≡ get_or (gateways (routesOf w)) i 0
-  gateway-at i = ap (λ (l : List ℕ). get_or l i 0) (gateways-stand w (routesOf w) (few-shown w) taken.stand) ∙ column-at (gateways (routesOf w)) i
+  pub gateway_at : (i : ℕ) → get_or (gateways_of w) i 0 ≡ get_or (gateways (routes_of w)) i 0
+  gateway_at i = ap (λ (l : List ℕ). get_or l i 0) (gateways_stand w (routes_of w) (few_shown w) taken.stand) ∙ column_at (gateways (routes_of w)) i
 
-  all-carried : AllGateways (gatewaysOf w)
-  all-carried k = subst (λ (x : ℕ). x < gatewayLimit) (sym (gateway-at k)) (taken.carried k)
+  all_carried : AllGateways (gateways_of w)
+  all_carried k = subst (λ (x : ℕ). x < gateway_limit) (sym (gateway_at k)) (taken.carried k)
 
   abbrev empty : List ℕ
-  empty = replicate routeLimit 0
+  empty = replicate route_limit 0
 
   -- what is gathered in an empty room of that size
-  module _ (bus identifier place : ℕ) (is : place ≡ placeKey bus identifier) (after : List ℕ) (n : ℕ) (h : Written (copiesIn w place) empty 0 after n) where
+  module _ (bus identifier place : ℕ) (is : place ≡ place_key bus identifier) (after : List ℕ) (n : ℕ) (h : Written (copies_in w place) empty 0 after n) where
     abbrev rs : List Route
-    rs = routesOf w
+    rs = routes_of w
 
     abbrev s : List ℕ
-    s = copiesAlong rs bus identifier
+    s = copies_along rs bus identifier
 
-    same : copiesIn w place ≡ s
-    same = ap (copiesIn w) is ∙ (rw (from-live, to-live))
+    same : copies_in w place ≡ s
+    same = ap (copies_in w) is ∙ (rw (from_live, to_live))
 
-    fits : length (copiesIn w place) ≤ length empty
-    fits = omega (arith, few place, length-replicate {A = ℕ} routeLimit 0)
+    fits : length (copies_in w place) ≤ length empty
+    fits = omega (arith, few place, length-replicate {A = ℕ} route_limit 0)
 
     gathered : take n after ≡ s
-    gathered = (front (copiesIn w place) empty after n fits h).1 ∙ same
+    gathered = (front (copies_in w place) empty after n fits h).1 ∙ same
 
-    counted : n ≡ length (spreadAlong rs bus identifier)
-    counted = (front (copiesIn w place) empty after n fits h).0 ∙ ap length same ∙ copies-count (froms rs) (tos rs) (placeKey bus identifier)
+    counted : n ≡ length (spread_along rs bus identifier)
+    counted = (front (copies_in w place) empty after n fits h).0 ∙ ap length same ∙ copies_count (froms rs) (tos rs) (place_key bus identifier)
 
-    enough : n ≤ routeLimit
-    enough = omega (arith, (front (copiesIn w place) empty after n fits h).0, few place)
+    enough : n ≤ route_limit
+    enough = omega (arith, (front (copies_in w place) empty after n fits h).0, few place)
 
-    route-of : (k : ℕ) → k < n → get_or after k 0 < routeLimit
-    route-of k l =
+    route_of_law : (k : ℕ) → k < n → get_or after k 0 < route_limit
+    route_of_law k l =
         let e : get_or s k 0 ≡ get_or after k 0 = ap (λ (t : List ℕ). get_or t k 0) (sym gathered) ∙ get_or-take n after k 0 l in
-        let i : k < length s = omega (arith, counted, copies-count (froms rs) (tos rs) (placeKey bus identifier)) in
+        let i : k < length s = omega (arith, counted, copies_count (froms rs) (tos rs) (place_key bus identifier)) in
         omega (
           arith,
           e,
-          copies-routes (froms rs) (tos rs) (placeKey bus identifier) (get_or s k 0) (mem-at s 0 k i),
-          from-count w rs (few-shown w) taken.stand,
-          few-counted w taken.stand,
+          copies_routes (froms rs) (tos rs) (place_key bus identifier) (get_or s k 0) (mem_at s 0 k i),
+          from_count w rs (few_shown w) taken.stand,
+          few_counted w taken.stand,
         )
 
     module _ (room : Rooms) where
       pub tellable : (m : ℕ) → m ≤ n → m ≤ length room.places → m ≤ length room.gateways → Tellable w after m room
-      tellable m l a b = record { few = omega (arith, enough); space = omega arith; routes = λ k i. route-of k (omega arith); carried = all-carried }
+      tellable m l a b = record { few = omega (arith, enough); space = omega arith; routes = λ k i. route_of_law k (omega arith); carried = all_carried }
 
       -- where they lead is the spread, and what carries them are the gateways that made it
-      places-told : ofRoutes (tosOf w) (take n after) ≡ spreadAlong rs bus identifier
-      places-told =
-          ap (ofRoutes (tosOf w)) gathered ∙ ap (λ (f : ℕ → ℕ). map f s) (λ i k. to_at k i) ∙ sym (copies-places (froms rs) (tos rs) (placeKey bus identifier))
+      places_told : of_routes (tos_of w) (take n after) ≡ spread_along rs bus identifier
+      places_told =
+          ap (of_routes (tos_of w)) gathered ∙ ap (λ (f : ℕ → ℕ). map f s) (λ i k. to_at k i) ∙ sym (copies_places (froms rs) (tos rs) (place_key bus identifier))
 
-      gateways-told : ofRoutes (gatewaysOf w) (take n after) ≡ gatewaysAlong rs bus identifier
-      gateways-told = ap (ofRoutes (gatewaysOf w)) gathered ∙ ap (λ (f : ℕ → ℕ). map f s) (λ i k. gateway-at k i)
+      gateways_told : of_routes (gateways_of w) (take n after) ≡ gateways_along rs bus identifier
+      gateways_told = ap (of_routes (gateways_of w)) gathered ∙ ap (λ (f : ℕ → ℕ). map f s) (λ i k. gateway_at k i)
 
       module _ (at : IsPlace bus identifier) where
-        pub too_small : roomIn room < n → SpreadBy rs bus identifier room 62 0 room
+        pub too_small : room_in room < n → SpreadBy rs bus identifier room 62 0 room
         too_small l = no_room at (omega (arith, counted))
 
-        pub written : (m : ℕ) (left : Rooms) → left ≡ routesTold w after m room → m ≡ n → m ≤ roomIn room → SpreadBy rs bus identifier room 0 n left
+        pub written : (m : ℕ) (left : Rooms) → left ≡ routes_told w after m room → m ≡ n → m ≤ room_in room → SpreadBy rs bus identifier room 0 n left
         written m left e is l =
             let k = counted in
-            let f : left ≡ rooms (spreadAlong rs bus identifier ++ drop n room.places) (gatewaysAlong rs bus identifier ++ drop n room.gateways) =
-            e ∙ ap (λ (j : ℕ). routesTold w after j room) is ∙ (λ i. rooms (places-told i ++ drop n room.places) (gateways-told i ++ drop n room.gateways))
+            let f : left ≡ rooms (spread_along rs bus identifier ++ drop n room.places) (gateways_along rs bus identifier ++ drop n room.gateways) =
+            e ∙ ap (λ (j : ℕ). routes_told w after j room) is ∙ (λ i. rooms (places_told i ++ drop n room.places) (gateways_told i ++ drop n room.gateways))
             in
             subst (SpreadBy rs bus identifier room 0 n) (sym f)
-            (subst (λ (m : ℕ). SpreadBy rs bus identifier room 0 m (rooms (spreadAlong rs bus identifier ++ drop m room.places) (gatewaysAlong rs bus identifier ++ drop m room.gateways))) (sym k)
+            (subst (λ (m : ℕ). SpreadBy rs bus identifier room 0 m (rooms (spread_along rs bus identifier ++ drop m room.places) (gateways_along rs bus identifier ++ drop m room.gateways))) (sym k)
             (spreads at (omega (arith, k))))

@@ -2,10 +2,10 @@
 // and gateways: `spread` is the call. It has no `requires`, tests the book's route tables first (refusal 12), writes nothing where it
 // refuses, and what it writes is the place's spread (specs/Answers.antt), which specs/Listed.antt says over chains.
 ghost use Rattle.std.specs.Prelude.{◌≡◌};
-ghost use Rattle.books.specs.Words.{routesOf};
+ghost use Rattle.books.specs.Words.{routes_of};
 ghost use Rattle.route_tables.specs.Tables.{RoutesTaken};
-ghost use Rattle.routes.specs.Answers.{sentNumber, placeCount, rooms, SpreadAnswer, SpreadBy};
-ghost use Rattle.routes.specs.Telling.{Tellable, routesTold};
+ghost use Rattle.routes.specs.Answers.{sent_number, place_count, rooms, SpreadAnswer, SpreadBy};
+ghost use Rattle.routes.specs.Telling.{Tellable, routes_told};
 
 use record::{BOOK_WORDS, BUSES, IDENTIFIER_LIMIT, ROUTES, wide};
 use route_tables::routes_taken;
@@ -32,7 +32,7 @@ fn tell(
     gateways: &mut [u8],
 )
     requires { Tellable book.now copies.now n (rooms places.old gateways.old) }
-    ensures { rooms places.new gateways.new ≡ routesTold book.now copies.now n (rooms places.old gateways.old) }
+    ensures { rooms places.new gateways.new ≡ routes_told book.now copies.now n (rooms places.old gateways.old) }
 {
     let made: &[u32] = copies;
     let tos = record::tos(book);
@@ -55,7 +55,7 @@ fn spread_tested(
     gateways: &mut [u8],
 ) -> Sent
     requires { RoutesTaken book.now }
-    ensures { SpreadBy (routesOf book.now) bus identifier (rooms places.old gateways.old) (sentNumber result) (placeCount result) (rooms places.new gateways.new) }
+    ensures { SpreadBy (routes_of book.now) bus identifier (rooms places.old gateways.old) (sent_number result) (place_count result) (rooms places.new gateways.new) }
 {
     if bus >= BUSES {
         return Sent::NoSuchPlace;
@@ -85,7 +85,7 @@ pub fn spread(
     places: &mut [u32],
     gateways: &mut [u8],
 ) -> Sent
-    ensures { SpreadAnswer book.now bus identifier (rooms places.old gateways.old) (sentNumber result) (placeCount result) (rooms places.new gateways.new) }
+    ensures { SpreadAnswer book.now bus identifier (rooms places.old gateways.old) (sent_number result) (place_count result) (rooms places.new gateways.new) }
 {
     if !routes_taken(book) {
         return Sent::NotABook;

@@ -13,59 +13,59 @@ use lib.Signed.{quot_z, rem_z}
 use borrow.Author.Tests.{leb-true}
 use Rattle.rows.specs.declared.Row.{Row}
 use Rattle.rows.specs.Rows.{rows, blank}
-use Rattle.rows.specs.PrintedLimits.{PrintedLimits, prints, printedLimits}
-use Rattle.rows.specs.RawLimits.{limitsOf, rawReading, isVersionRow, limitReadings, IsRawLimit, RawLimits}
-use Rattle.rows.proofs.Whole.{count, rule-at}
+use Rattle.rows.specs.PrintedLimits.{PrintedLimits, prints, printed_limits}
+use Rattle.rows.specs.RawLimits.{limits_of, raw_reading, is_version_row, limit_readings, IsRawLimit, RawLimits}
+use Rattle.rows.proofs.Whole.{count, rule_at}
 
 -- the readings of a row's raw limits; none for 1301 to 1304
 abbrev readings : Row → Option PrintedLimits
-readings r = cond (isVersionRow r) none (some (prints r.number (rawReading r r.lowest) (rawReading r r.highest)))
+readings r = cond (is_version_row r) none (some (prints r.number (raw_reading r r.lowest) (raw_reading r r.highest)))
 
 -- the list of what is printed is whole, and has nothing else: the readings of the raw limits of every row but those four
-pub whole-list : printedLimits ≡ limitReadings rows
-unfolding rows printedLimits limitReadings
-whole-list = refl
+pub whole_list : printed_limits ≡ limit_readings rows
+unfolding rows printed_limits limit_readings
+whole_list = refl
 
 -- what is printed for each row are the readings of its raw limits
-all-printed : map (λ (r : Row). limitsOf r.number) rows ≡ map readings rows
-unfolding rows limitsOf printedLimits
-all-printed = refl
+all_printed : map (λ (r : Row). limits_of r.number) rows ≡ map readings rows
+unfolding rows limits_of printed_limits
+all_printed = refl
 
 -- ---- from a reading back to the count
 
-raw-limit : (r : Row) (raw : ℕ) → 0 < r.resolution → IsRawLimit r (rawReading r raw) raw
-raw-limit r raw h =
-    let less : rawReading r raw -ℤ r.offset ≡ pos (raw * r.resolution) = +ℤ-neg_ℤ_cancel (pos (raw * r.resolution)) r.offset in
+raw_limit : (r : Row) (raw : ℕ) → 0 < r.resolution → IsRawLimit r (raw_reading r raw) raw
+raw_limit r raw h =
+    let less : raw_reading r raw -ℤ r.offset ≡ pos (raw * r.resolution) = +ℤ-neg_ℤ_cancel (pos (raw * r.resolution)) r.offset in
     record {
       quotient = ap (λ (z : ℤ). quot_z z (pos r.resolution)) less ∙ ap pos (mul-div_cancel raw h);
       exact = ap (λ (z : ℤ). rem_z z (pos r.resolution)) less ∙ ap pos (mul-mod_left raw r.resolution);
       reads = refl;
     }
 
-raw-limits-by : (r : Row) → 0 < r.resolution → RawLimits r (readings r)
-raw-limits-by r h = go (isVersionRow r) refl
+raw_limits_by : (r : Row) → 0 < r.resolution → RawLimits r (readings r)
+raw_limits_by r h = go (is_version_row r) refl
   where
-    go : (b : Bool) → isVersionRow r ≡ b → RawLimits r (cond b none (some (prints r.number (rawReading r r.lowest) (rawReading r r.highest))))
+    go : (b : Bool) → is_version_row r ≡ b → RawLimits r (cond b none (some (prints r.number (raw_reading r r.lowest) (raw_reading r r.highest))))
     go true e =
         let both = (and-eq-true_iff (leb 1301 r.number) (leb r.number 1304)).0 e in
         (leb-true 1301 r.number both.0, leb-true r.number 1304 both.1)
-    go false e = (raw-limit r r.lowest h, raw-limit r r.highest h)
+    go false e = (raw_limit r r.lowest h, raw_limit r r.highest h)
 
 -- ---- at each row
 
 -- what a column of options has at a place within the table
-in-column : (f : Row → Option PrintedLimits) (rs : List Row) (i : ℕ) → i < length rs → get_or (map f rs) i none ≡ f (get_or rs i blank)
-in-column f [] i h = absurd (not-suc-le-zero h)
-in-column f (r ∷ rs) zero h = refl
-in-column f (r ∷ rs) (suc i) h = in-column f rs i (le_of_suc-le-suc h)
+in_column : (f : Row → Option PrintedLimits) (rs : List Row) (i : ℕ) → i < length rs → get_or (map f rs) i none ≡ f (get_or rs i blank)
+in_column f [] i h = absurd (not-suc-le-zero h)
+in_column f (r ∷ rs) zero h = refl
+in_column f (r ∷ rs) (suc i) h = in_column f rs i (le_of_suc-le-suc h)
 
-printed-at : (i : ℕ) → i < length rows → limitsOf (get_or rows i blank).number ≡ readings (get_or rows i blank)
-printed-at i h =
-    sym (in-column (λ (r : Row). limitsOf r.number) rows i h)
-    ∙ ap (λ (ps : List (Option PrintedLimits)). get_or ps i none) all-printed
-    ∙ in-column readings rows i h
+printed_at : (i : ℕ) → i < length rows → limits_of (get_or rows i blank).number ≡ readings (get_or rows i blank)
+printed_at i h =
+    sym (in_column (λ (r : Row). limits_of r.number) rows i h)
+    ∙ ap (λ (ps : List (Option PrintedLimits)). get_or ps i none) all_printed
+    ∙ in_column readings rows i h
 
-pub raw-limits : (i : ℕ) → i < 199 → RawLimits (get_or rows i blank) (limitsOf (get_or rows i blank).number)
-raw-limits i h =
+pub raw_limits : (i : ℕ) → i < 199 → RawLimits (get_or rows i blank) (limits_of (get_or rows i blank).number)
+raw_limits i h =
     let r = get_or rows i blank in
-    subst (RawLimits r) (sym (printed-at i (subst (λ (n : ℕ). i < n) (sym count) h))) (raw-limits-by r (rule-at i h).some-step)
+    subst (RawLimits r) (sym (printed_at i (subst (λ (n : ℕ). i < n) (sym count) h))) (raw_limits_by r (rule_at i h).some_step)

@@ -10,20 +10,20 @@ use types.Logic.{Logic}
 use contract.Monad.{Fun}
 use denote.Triple.Clauses.{AtExit}
 use lib.ListN.{get_or}
-use Rattle.only.specs.Only.{Only, only-this}
+use Rattle.only.specs.Only.{Only, only_this}
 use Rattle.rows.specs.Rows.{rows, blank}
-use Rattle.rows.specs.Widths.{widthsOf, lastStartsOf}
+use Rattle.rows.specs.Widths.{widths_of, last_starts_of}
 use Rattle.rows.specs.contracts.Row as Row
 use Rattle.rows.specs.contracts.table.last_starts as last-starts
 use Rattle.rows.specs.contracts.table.row_at as row_at
 use Rattle.rows.specs.contracts.table.widths as widths
 
 module _ {M : Type 1} {𝓤 : Ura M} (𝓛 : Logic 𝓤) (mem : Memory → SProp 𝓤) (run : Routine → Fun 𝓤) where
-  pub one-row-at : (place : ℕ) (e : AtExit row_at.ended tt) → Only 𝓤 (λ r. (row_at.clauses 𝓛 mem run tt (place, tt)).ensures tt r e)
-  one-row-at place e = only-this 𝓤 _ (Row.the_row).coded (get_or rows place blank) (λ r. refl)
+  pub one_row_at : (place : ℕ) (e : AtExit row_at.ended tt) → Only 𝓤 (λ r. (row_at.clauses 𝓛 mem run tt (place, tt)).ensures tt r e)
+  one_row_at place e = only_this 𝓤 _ (Row.the_row).coded (get_or rows place blank) (λ r. refl)
 
-  pub one-widths : (e : AtExit widths.ended tt) → Only 𝓤 (λ r. (widths.clauses 𝓛 mem run tt tt).ensures tt r e)
-  one-widths e = only-this 𝓤 _ (coded_list coded_ℕ) (widthsOf rows) (λ r. refl)
+  pub one_widths : (e : AtExit widths.ended tt) → Only 𝓤 (λ r. (widths.clauses 𝓛 mem run tt tt).ensures tt r e)
+  one_widths e = only_this 𝓤 _ (coded_list coded_ℕ) (widths_of rows) (λ r. refl)
 
-  pub one-last-starts : (e : AtExit last-starts.ended tt) → Only 𝓤 (λ r. (last-starts.clauses 𝓛 mem run tt tt).ensures tt r e)
-  one-last-starts e = only-this 𝓤 _ (coded_list coded_ℕ) (lastStartsOf rows) (λ r. refl)
+  pub one_last_starts : (e : AtExit last-starts.ended tt) → Only 𝓤 (λ r. (last-starts.clauses 𝓛 mem run tt tt).ensures tt r e)
+  one_last_starts e = only_this 𝓤 _ (coded_list coded_ℕ) (last_starts_of rows) (λ r. refl)

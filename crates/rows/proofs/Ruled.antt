@@ -12,8 +12,8 @@ use lib.IntN.{nat_abs}
 use lib.ListN.{length, get_or}
 use Rattle.rows.specs.declared.Mark.{Mark}
 use Rattle.rows.specs.declared.Row.{Row}
-use Rattle.rows.specs.Rows.{blank, unmarkedKind, markKinds}
-use Rattle.rows.specs.Rule.{Rule, Apart, Among, Kinded, a-mark, no-mark, Kept, mostBits, exactDoubles}
+use Rattle.rows.specs.Rows.{blank, unmarked_kind, mark_kinds}
+use Rattle.rows.specs.Rule.{Rule, Apart, Among, Kinded, a_mark, no_mark, Kept, most_bits, exact_doubles}
 
 -- ---- tests of one row
 
@@ -51,34 +51,34 @@ among→ (x ∷ xs) k t = elim (or (eqb k x) (among xs k) t) [ inl e ↦ inl (eq
 
 -- a mark, or none
 abbrev pub kinded : Mark → Bool
-kinded m = (among markKinds m.kind && leb m.first m.last) || (eqb m.kind unmarkedKind && ltb m.last m.first)
+kinded m = (among mark_kinds m.kind && leb m.first m.last) || (eqb m.kind unmarked_kind && ltb m.last m.first)
 
 pub kinded→ : (m : Mark) → T (kinded m) → Kinded m
-kinded→ m t = go (or (among markKinds m.kind && leb m.first m.last) (eqb m.kind unmarkedKind && ltb m.last m.first) t)
+kinded→ m t = go (or (among mark_kinds m.kind && leb m.first m.last) (eqb m.kind unmarked_kind && ltb m.last m.first) t)
   where
-    go : T (among markKinds m.kind && leb m.first m.last) ⊎ T (eqb m.kind unmarkedKind && ltb m.last m.first) → Kinded m
+    go : T (among mark_kinds m.kind && leb m.first m.last) ⊎ T (eqb m.kind unmarked_kind && ltb m.last m.first) → Kinded m
     go (inl x) =
-        let a = and_l (among markKinds m.kind) (leb m.first m.last) x in
-        let b = and_r (among markKinds m.kind) (leb m.first m.last) x in
-        a-mark (among→ markKinds m.kind a) (leb→le m.first m.last b)
+        let a = and_l (among mark_kinds m.kind) (leb m.first m.last) x in
+        let b = and_r (among mark_kinds m.kind) (leb m.first m.last) x in
+        a_mark (among→ mark_kinds m.kind a) (leb→le m.first m.last b)
     go (inr x) =
-        let a = and_l (eqb m.kind unmarkedKind) (ltb m.last m.first) x in
-        let b = and_r (eqb m.kind unmarkedKind) (ltb m.last m.first) x in
-        no-mark (eqb→eq m.kind unmarkedKind a) (ltb→lt m.last m.first b)
+        let a = and_l (eqb m.kind unmarked_kind) (ltb m.last m.first) x in
+        let b = and_r (eqb m.kind unmarked_kind) (ltb m.last m.first) x in
+        no_mark (eqb→eq m.kind unmarked_kind a) (ltb→lt m.last m.first b)
 
 -- a test for each field of the rule, in its order
 abbrev right : Row → Bool
 right r =
-    leb 1 r.bits && (leb r.bits mostBits && (leb 1 r.resolution && (leb r.lowest r.highest && (ltb r.highest (2 ^ r.bits)
+    leb 1 r.bits && (leb r.bits most_bits && (leb 1 r.resolution && (leb r.lowest r.highest && (ltb r.highest (2 ^ r.bits)
     && (ltb r.mark1.last (2 ^ r.bits) && (ltb r.mark2.last (2 ^ r.bits) && (ltb r.mark3.last (2 ^ r.bits)
     && (apart r.mark1 r.mark2 && (apart r.mark1 r.mark3 && (apart r.mark2 r.mark3
     && (kinded r.mark1 && (kinded r.mark2 && (kinded r.mark3
-    && (leb (2 ^ r.bits * r.resolution + nat_abs r.offset) exactDoubles))))))))))))))
+    && (leb (2 ^ r.bits * r.resolution + nat_abs r.offset) exact_doubles))))))))))))))
 
 right→ : (r : Row) → T (right r) → Rule r
 right→ r t0 =
     let t1 = and_r (leb 1 r.bits) _ t0 in
-    let t2 = and_r (leb r.bits mostBits) _ t1 in
+    let t2 = and_r (leb r.bits most_bits) _ t1 in
     let t3 = and_r (leb 1 r.resolution) _ t2 in
     let t4 = and_r (leb r.lowest r.highest) _ t3 in
     let t5 = and_r (ltb r.highest (2 ^ r.bits)) _ t4 in
@@ -93,20 +93,20 @@ right→ r t0 =
     let t14 = and_r (kinded r.mark3) _ t13 in
     record {
       some_bits = leb→le 1 r.bits (and_l (leb 1 r.bits) _ t0);
-      few_bits = leb→le r.bits mostBits (and_l (leb r.bits mostBits) _ t1);
-      some-step = leb→le 1 r.resolution (and_l (leb 1 r.resolution) _ t2);
+      few_bits = leb→le r.bits most_bits (and_l (leb r.bits most_bits) _ t1);
+      some_step = leb→le 1 r.resolution (and_l (leb 1 r.resolution) _ t2);
       limits = leb→le r.lowest r.highest (and_l (leb r.lowest r.highest) _ t3);
-      highest-fits = ltb→lt r.highest (2 ^ r.bits) (and_l (ltb r.highest (2 ^ r.bits)) _ t4);
-      mark1-fits = ltb→lt r.mark1.last (2 ^ r.bits) (and_l (ltb r.mark1.last (2 ^ r.bits)) _ t5);
-      mark2-fits = ltb→lt r.mark2.last (2 ^ r.bits) (and_l (ltb r.mark2.last (2 ^ r.bits)) _ t6);
-      mark3-fits = ltb→lt r.mark3.last (2 ^ r.bits) (and_l (ltb r.mark3.last (2 ^ r.bits)) _ t7);
+      highest_fits = ltb→lt r.highest (2 ^ r.bits) (and_l (ltb r.highest (2 ^ r.bits)) _ t4);
+      mark1_fits = ltb→lt r.mark1.last (2 ^ r.bits) (and_l (ltb r.mark1.last (2 ^ r.bits)) _ t5);
+      mark2_fits = ltb→lt r.mark2.last (2 ^ r.bits) (and_l (ltb r.mark2.last (2 ^ r.bits)) _ t6);
+      mark3_fits = ltb→lt r.mark3.last (2 ^ r.bits) (and_l (ltb r.mark3.last (2 ^ r.bits)) _ t7);
       apart12 = apart→ r.mark1 r.mark2 (and_l (apart r.mark1 r.mark2) _ t8);
       apart13 = apart→ r.mark1 r.mark3 (and_l (apart r.mark1 r.mark3) _ t9);
       apart23 = apart→ r.mark2 r.mark3 (and_l (apart r.mark2 r.mark3) _ t10);
-      mark1-kind = kinded→ r.mark1 (and_l (kinded r.mark1) _ t11);
-      mark2-kind = kinded→ r.mark2 (and_l (kinded r.mark2) _ t12);
-      mark3-kind = kinded→ r.mark3 (and_l (kinded r.mark3) _ t13);
-      small = leb→le (2 ^ r.bits * r.resolution + nat_abs r.offset) exactDoubles t14;
+      mark1_kind = kinded→ r.mark1 (and_l (kinded r.mark1) _ t11);
+      mark2_kind = kinded→ r.mark2 (and_l (kinded r.mark2) _ t12);
+      mark3_kind = kinded→ r.mark3 (and_l (kinded r.mark3) _ t13);
+      small = leb→le (2 ^ r.bits * r.resolution + nat_abs r.offset) exact_doubles t14;
     }
 
 -- ---- over the table: each row is right, and has a number above m, and so on from its own number

@@ -6,13 +6,13 @@ use Rattle.rows.specs.Rows.{rows, blank}
 use Rattle.rows.specs.Rule.{Rule, Kept}
 use Rattle.rows.proofs.Ruled.{at}
 
-pub all-kept : Kept rows
+pub all_kept : Kept rows
 unfolding rows
-all-kept = at rows tt
+all_kept = at rows tt
 
 pub count : length rows ≡ 199
 unfolding rows
 count = refl
 
-pub rule-at : (i : ℕ) → i < 199 → Rule (get_or rows i blank)
-rule-at i h = all-kept.rule i (subst (λ (n : ℕ). i < n) (sym count) h)
+pub rule_at : (i : ℕ) → i < 199 → Rule (get_or rows i blank)
+rule_at i h = all_kept.rule i (subst (λ (n : ℕ). i < n) (sym count) h)

@@ -13,8 +13,8 @@ prints number lowest highest = record { number = number; lowest = lowest; highes
 
 -- ---- the list, table by table
 
-unfoldable pub printedLimits : List PrintedLimits
-printedLimits =
+unfoldable pub printed_limits : List PrintedLimits
+printed_limits =
     prints 201 (plus 0) (plus 6553500) ∷ prints 202 (plus 0) (plus 6553500) ∷ prints 203 (minus 2000000) (plus 4553500) ∷ prints 204 (plus 0) (plus 100000)
     ∷ prints 205 (plus 0) (plus 100000) ∷ prints 206 (plus 0) (plus 3000) ∷ prints 207 (plus 0) (plus 60000000) ∷ prints 208 (plus 0) (plus 60000000)
     ∷ prints 209 (plus 0) (plus 6553500) ∷ prints 210 (plus 0) (plus 6553500)

@@ -16,43 +16,43 @@ abbrev pub minus : ℕ → ℤ
 minus n = neg_ℤ (pos n)
 
 -- the kinds of marks, by their codes in the table
-abbrev pub unmarkedKind : ℕ
-unmarkedKind = 0
+abbrev pub unmarked_kind : ℕ
+unmarked_kind = 0
 
-abbrev pub invalidKind : ℕ
-invalidKind = 1
+abbrev pub invalid_kind : ℕ
+invalid_kind = 1
 
-abbrev pub absentKind : ℕ
-absentKind = 2
+abbrev pub absent_kind : ℕ
+absent_kind = 2
 
-abbrev pub errorKind : ℕ
-errorKind = 3
+abbrev pub error_kind : ℕ
+error_kind = 3
 
-abbrev pub reservedKind : ℕ
-reservedKind = 4
+abbrev pub reserved_kind : ℕ
+reserved_kind = 4
 
 -- every kind that a mark may be of
-abbrev pub markKinds : List ℕ
-markKinds = invalidKind ∷ absentKind ∷ errorKind ∷ reservedKind ∷ []
+abbrev pub mark_kinds : List ℕ
+mark_kinds = invalid_kind ∷ absent_kind ∷ error_kind ∷ reserved_kind ∷ []
 
 abbrev pub mark : ℕ → ℕ → ℕ → Mark
 mark kind first last = record { kind = kind; first = first; last = last }
 
 abbrev pub invalid : ℕ → ℕ → Mark
-invalid first last = mark invalidKind first last
+invalid first last = mark invalid_kind first last
 
 abbrev pub absent : ℕ → ℕ → Mark
-absent first last = mark absentKind first last
+absent first last = mark absent_kind first last
 
 abbrev pub error : ℕ → ℕ → Mark
-error first last = mark errorKind first last
+error first last = mark error_kind first last
 
 abbrev pub reserved : ℕ → ℕ → Mark
-reserved first last = mark reservedKind first last
+reserved first last = mark reserved_kind first last
 
 -- no mark: an interval with no code in it
 abbrev pub unmarked : Mark
-unmarked = mark unmarkedKind 1 0
+unmarked = mark unmarked_kind 1 0
 
 abbrev pub row : ℕ → ℕ → ℕ → ℤ → ℕ → ℕ → Mark → Mark → Mark → Row
 row number bits resolution offset lowest highest mark1 mark2 mark3 =

@@ -2,9 +2,9 @@
 use Rattle.std.specs.Prelude.{List, map, ℕ, ◌-◌}
 use Rattle.rows.specs.declared.Row.{Row}
 
-abbrev pub widthsOf : List Row → List ℕ
-widthsOf rs = map (λ (r : Row). r.bits) rs
+abbrev pub widths_of : List Row → List ℕ
+widths_of rs = map (λ (r : Row). r.bits) rs
 
 -- the last start that a signal of so many bits may have in a frame of 64
-abbrev pub lastStartsOf : List Row → List ℕ
-lastStartsOf rs = map (λ (r : Row). 64 - r.bits) rs
+abbrev pub last_starts_of : List Row → List ℕ
+last_starts_of rs = map (λ (r : Row). 64 - r.bits) rs

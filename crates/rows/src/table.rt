@@ -4,7 +4,7 @@
 // signal of a frame goes by the signal's shape instead.
 ghost use Rattle.std.specs.Prelude.{◌≡◌, ◌<◌, get_or};
 ghost use Rattle.rows.specs.Rows.{rows, blank};
-ghost use Rattle.rows.specs.Widths.{widthsOf, lastStartsOf};
+ghost use Rattle.rows.specs.Widths.{widths_of, last_starts_of};
 
 use crate::columns::{
     BITS, FIRSTS_1, FIRSTS_2, FIRSTS_3, HIGHESTS, KINDS_1, KINDS_2, KINDS_3, LAST_STARTS, LASTS_1,
@@ -20,14 +20,14 @@ fn wide(bits: u8) -> u32
 
 // The bits of each row: a caller that asks for those of many signals holds them, since a const array is built anew at every read.
 pub fn widths() -> [u8; 199]
-    ensures { result ≡ widthsOf rows }
+    ensures { result ≡ widths_of rows }
 {
     BITS
 }
 
 // The last start of each row: the highest at which a signal of its bits ends within a frame.
 pub fn last_starts() -> [u8; 199]
-    ensures { result ≡ lastStartsOf rows }
+    ensures { result ≡ last_starts_of rows }
 {
     LAST_STARTS
 }

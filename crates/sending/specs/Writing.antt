@@ -1,41 +1,41 @@
 -- What the two functions of the spread ask and do. Assumes nothing: these are definitions.
 use Rattle.std.specs.Prelude.{◌≡◌, ℕ, ◌+◌, ◌<◌, ◌≤◌, List, ◌∷◌, length, get_or, take}
 use Rattle.std.proofs.lemmas.List.Edits.{sets}
-use Rattle.record.specs.Limits.{routeLimit}
-use Rattle.record.specs.Columns.{routeCountOf, fromsOf, tosOf}
+use Rattle.record.specs.Limits.{route_limit}
+use Rattle.record.specs.Columns.{route_count_of, froms_of, tos_of}
 use Rattle.chains.specs.Chain.{LoopFree}
-use Rattle.chains.specs.Copies.{copiesOf}
+use Rattle.chains.specs.Copies.{copies_of}
 
 -- the places that the routes of a book's words lead from, as many as are counted, and those they lead to
-abbrev pub liveFroms : List ℕ → List ℕ
-liveFroms w = take (routeCountOf w) (fromsOf w)
+abbrev pub live_froms : List ℕ → List ℕ
+live_froms w = take (route_count_of w) (froms_of w)
 
-abbrev pub liveTos : List ℕ → List ℕ
-liveTos w = take (routeCountOf w) (tosOf w)
+abbrev pub live_tos : List ℕ → List ℕ
+live_tos w = take (route_count_of w) (tos_of w)
 
 -- the routes that make the copies of a place's spread along them
-abbrev pub copiesIn : List ℕ → ℕ → List ℕ
-copiesIn w place = copiesOf (liveFroms w) (liveTos w) place
+abbrev pub copies_in : List ℕ → ℕ → List ℕ
+copies_in w place = copies_of (live_froms w) (live_tos w) place
 
 -- what a route hands on: the copy that it makes itself, then those of the place it leads to
-abbrev pub handedAlong : List ℕ → List ℕ → ℕ → List ℕ
-handedAlong froms tos i = i ∷ copiesOf froms tos (get_or tos i 0)
+abbrev pub handed_along : List ℕ → List ℕ → ℕ → List ℕ
+handed_along froms tos i = i ∷ copies_of froms tos (get_or tos i 0)
 
-abbrev pub handedOn : List ℕ → ℕ → List ℕ
-handedOn w i = handedAlong (liveFroms w) (liveTos w) i
+abbrev pub handed_on : List ℕ → ℕ → List ℕ
+handed_on w i = handed_along (live_froms w) (live_tos w) i
 
 -- a route of these words, which count no more than a book may have
 pub record RouteOf (w : List ℕ) (i : ℕ) : Type 0 where
-  pub counted : i < routeCountOf w
-  pub few : routeCountOf w ≤ routeLimit
+  pub counted : i < route_count_of w
+  pub few : route_count_of w ≤ route_limit
 
 -- the words count no more routes than a book may have, all of which they have, these have no closed chain, and a room with as many
 -- entries as there may be routes has enough for s from `at` on
 pub record Ready (w s : List ℕ) (at : ℕ) : Type 0 where
-  pub few : routeCountOf w ≤ routeLimit
-  pub whole : length (liveFroms w) ≡ routeCountOf w
-  pub free : LoopFree (liveFroms w) (liveTos w)
-  pub space : at + length s ≤ routeLimit
+  pub few : route_count_of w ≤ route_limit
+  pub whole : length (live_froms w) ≡ route_count_of w
+  pub free : LoopFree (live_froms w) (live_tos w)
+  pub space : at + length s ≤ route_limit
 
 -- s is written into the room from `at` on, and next is the entry after it
 pub record Written (s room : List ℕ) (at : ℕ) (after : List ℕ) (next : ℕ) : Type 0 where

@@ -2,16 +2,16 @@
 // place, so the work is two functions in a cycle, which ends since the longest chain that remains falls. Each turn of it stands on the
 // stack, so it keeps as little as there is: the book and the room, each lent as one address, the place, and the number of a route.
 ghost use Rattle.std.specs.Prelude.{◌≡◌, ◌<◌, get_or, set};
-ghost use Rattle.record.specs.Limits.{routeLimit};
-ghost use Rattle.record.specs.Columns.{routeCountOf};
-ghost use Rattle.sending.specs.Writing.{RouteOf, Ready, Written, liveFroms, liveTos, copiesIn, handedOn};
+ghost use Rattle.record.specs.Limits.{route_limit};
+ghost use Rattle.record.specs.Columns.{route_count_of};
+ghost use Rattle.sending.specs.Writing.{RouteOf, Ready, Written, live_froms, live_tos, copies_in, handed_on};
 
 use record::{BOOK_WORDS, ROUTES, wide};
 
 // The place that a route of the book leads from.
 fn from_of(book: &[u32; BOOK_WORDS], route: u32) -> u32
     requires { RouteOf book.now route }
-    ensures { result ≡ get_or (liveFroms book.now) route 0 }
+    ensures { result ≡ get_or (live_froms book.now) route 0 }
 {
     let froms = record::froms(book);
     froms[wide(route)]
@@ -20,7 +20,7 @@ fn from_of(book: &[u32; BOOK_WORDS], route: u32) -> u32
 // The place that it leads to.
 fn to_of(book: &[u32; BOOK_WORDS], route: u32) -> u32
     requires { RouteOf book.now route }
-    ensures { result ≡ get_or (liveTos book.now) route 0 }
+    ensures { result ≡ get_or (live_tos book.now) route 0 }
 {
     let tos = record::tos(book);
     tos[wide(route)]
@@ -28,7 +28,7 @@ fn to_of(book: &[u32; BOOK_WORDS], route: u32) -> u32
 
 // Writes a route into the room.
 fn put(room: &mut [u32; ROUTES], at: u32, route: u32)
-    requires { at < routeLimit }
+    requires { at < route_limit }
     ensures { room.new ≡ set room.old at route }
 {
     room[wide(at)] = route;
@@ -38,8 +38,8 @@ fn put(room: &mut [u32; ROUTES], at: u32, route: u32)
 // answer is the entry after them.
 #[cycle(hand_on_send)]
 pub fn send(book: &[u32; BOOK_WORDS], place: u32, room: &mut [u32; ROUTES], at: u32) -> u32
-    requires { Ready book.now (copiesIn book.now place) at }
-    ensures { Written (copiesIn book.now place) room.old at room.new result }
+    requires { Ready book.now (copies_in book.now place) at }
+    ensures { Written (copies_in book.now place) room.old at room.new result }
 {
     let count = record::route_count(book);
     let mut next = at;
@@ -56,8 +56,8 @@ pub fn send(book: &[u32; BOOK_WORDS], place: u32, room: &mut [u32; ROUTES], at: 
 // A route hands on to the place it leads to: the route itself makes a copy there, then those of that place are made.
 #[cycle(hand_on_send)]
 fn hand_on(book: &[u32; BOOK_WORDS], route: u32, room: &mut [u32; ROUTES], at: u32) -> u32
-    requires { (route < routeCountOf book.now) × Ready book.now (handedOn book.now route) at }
-    ensures { Written (handedOn book.now route) room.old at room.new result }
+    requires { (route < route_count_of book.now) × Ready book.now (handed_on book.now route) at }
+    ensures { Written (handed_on book.now route) room.old at room.new result }
 {
     let place = to_of(book, route);
     put(room, at, route);

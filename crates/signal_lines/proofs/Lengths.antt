@@ -8,63 +8,63 @@ use mir.Syntax.{w64}
 use mir.Val.{SFits}
 use Rattle.catalogue.specs.declared.Class.{Class}
 use Rattle.catalogue.specs.declared.Class.TheVariants.{Value, Invalid, Absent, Error, Reserved, Outside, NotInCatalogue, TooWide}
-use Rattle.catalogue.specs.Class.{carriedBy}
-use Rattle.numerals.specs.Written.{identifierText}
+use Rattle.catalogue.specs.Class.{carried_by}
+use Rattle.numerals.specs.Written.{identifier_text}
 use Rattle.numerals.proofs.Digits.{length_digits}
 use Rattle.parts.specs.Parts.{tab, newline}
-use Rattle.printing.specs.Decimal.{naturalText}
-use Rattle.printing.proofs.Spelling.{natural-few}
+use Rattle.printing.specs.Decimal.{natural_text}
+use Rattle.printing.proofs.Spelling.{natural_few}
 use Rattle.signal_lines.specs.declared.figures.Figures.{Figures}
-use Rattle.signal_lines.specs.Printed.{printedLine, readingLine, refusedFrameLine, listedLineRoom}
-use Rattle.signal_lines.specs.Words.{no_word, classWord, figureOf}
-use Rattle.signal_lines.proofs.Fields.{field-more, field-last}
-use Rattle.signal_lines.proofs.Showing.{figure-few}
+use Rattle.signal_lines.specs.Printed.{printed_line, reading_line, refused_frame_line, listed_line_room}
+use Rattle.signal_lines.specs.Words.{no_word, class_word, figure_of}
+use Rattle.signal_lines.proofs.Fields.{field_more, field_last}
+use Rattle.signal_lines.proofs.Showing.{figure_few}
 
 -- a field, its tab, and the rest of the line
-more-long : (a b : List ℕ) (fs : List (List ℕ)) → length (printedLine (a ∷ b ∷ fs)) ≡ length a + suc (length (printedLine (b ∷ fs)))
-more-long a b fs = ap length (field-more a b fs) ∙ length-append a ((tab ∷ []) ++ printedLine (b ∷ fs))
+more_long : (a b : List ℕ) (fs : List (List ℕ)) → length (printed_line (a ∷ b ∷ fs)) ≡ length a + suc (length (printed_line (b ∷ fs)))
+more_long a b fs = ap length (field_more a b fs) ∙ length-append a ((tab ∷ []) ++ printed_line (b ∷ fs))
 
 -- the last field and the newline
-last-long : (a : List ℕ) → length (printedLine (a ∷ [])) ≡ length a + 1
-last-long a = ap length (field-last a) ∙ length-append a (newline ∷ [])
+last_long : (a : List ℕ) → length (printed_line (a ∷ [])) ≡ length a + 1
+last_long a = ap length (field_last a) ∙ length-append a (newline ∷ [])
 
-identifier-long : (i : ℕ) → length (identifierText i) ≡ 8
-unfolding identifierText
-identifier-long i = length_digits 16 8 i
+identifier_long : (i : ℕ) → length (identifier_text i) ≡ 8
+unfolding identifier_text
+identifier_long i = length_digits 16 8 i
 
 -- no class word is longer than `reserved`
-word-short : (class : Class) → length (classWord class) ≤ 8
-word-short (Value t) = omega arith
-word-short (Invalid raw) = omega arith
-word-short (Absent raw) = omega arith
-word-short (Error raw) = omega arith
-word-short (Reserved raw) = omega arith
-word-short (Outside raw) = omega arith
-word-short NotInCatalogue = omega arith
-word-short TooWide = omega arith
+word_short : (class : Class) → length (class_word class) ≤ 8
+word_short (Value t) = omega arith
+word_short (Invalid raw) = omega arith
+word_short (Absent raw) = omega arith
+word_short (Error raw) = omega arith
+word_short (Reserved raw) = omega arith
+word_short (Outside raw) = omega arith
+word_short NotInCatalogue = omega arith
+word_short TooWide = omega arith
 
 module _ (identifier number : ℕ) (h : number < 2 ^ 64) where
-  pub reading-short : (figures : Figures) (class : Class) → SFits w64 (carriedBy class) → length (readingLine figures identifier number class) ≤ listedLineRoom
-  reading-short figures class f =
+  pub reading_short : (figures : Figures) (class : Class) → SFits w64 (carried_by class) → length (reading_line figures identifier number class) ≤ listed_line_room
+  reading_short figures class f =
       omega (
         arith,
-        more-long (identifierText identifier) (naturalText number) (classWord class ∷ figureOf figures class ∷ []),
-        more-long (naturalText number) (classWord class) (figureOf figures class ∷ []),
-        more-long (classWord class) (figureOf figures class) [],
-        last-long (figureOf figures class),
-        identifier-long identifier,
-        natural-few number h,
-        word-short class,
-        figure-few figures class f,
+        more_long (identifier_text identifier) (natural_text number) (class_word class ∷ figure_of figures class ∷ []),
+        more_long (natural_text number) (class_word class) (figure_of figures class ∷ []),
+        more_long (class_word class) (figure_of figures class) [],
+        last_long (figure_of figures class),
+        identifier_long identifier,
+        natural_few number h,
+        word_short class,
+        figure_few figures class f,
       )
 
-  pub refused-short : length (refusedFrameLine identifier number) ≤ listedLineRoom
-  refused-short =
+  pub refused_short : length (refused_frame_line identifier number) ≤ listed_line_room
+  refused_short =
       omega (
         arith,
-        more-long (identifierText identifier) no_word (naturalText number ∷ []),
-        more-long no_word (naturalText number) [],
-        last-long (naturalText number),
-        identifier-long identifier,
-        natural-few number h,
+        more_long (identifier_text identifier) no_word (natural_text number ∷ []),
+        more_long no_word (natural_text number) [],
+        last_long (natural_text number),
+        identifier_long identifier,
+        natural_few number h,
       )

@@ -11,49 +11,49 @@ use mir.Val.{SFits}
 use Rattle.catalogue.specs.declared.Thousandths.{Thousandths}
 use Rattle.catalogue.specs.declared.Class.{Class}
 use Rattle.catalogue.specs.declared.Class.TheVariants.{Value, Invalid, Absent, Error, Reserved, Outside, NotInCatalogue, TooWide}
-use Rattle.catalogue.specs.Class.{carriedBy}
-use Rattle.doubles.specs.Doubles.{inUnits}
-use Rattle.numerals.specs.Written.{digitsOf}
+use Rattle.catalogue.specs.Class.{carried_by}
+use Rattle.doubles.specs.Doubles.{in_units_spec}
+use Rattle.numerals.specs.Written.{digits_of_spec}
 use Rattle.numerals.proofs.Digits.{length_digits}
-use Rattle.printing.specs.Decimal.{signedText, signedRoom}
+use Rattle.printing.specs.Decimal.{signed_text, signed_room}
 use Rattle.printing.specs.Put.{Put}
-use Rattle.printing.proofs.Spelling.{signed-few}
+use Rattle.printing.proofs.Spelling.{signed_few}
 use Rattle.signal_lines.specs.declared.figures.Figures.{Figures}
 use Rattle.signal_lines.specs.declared.figures.Figures.TheVariants.{InThousandths, AsDoubles}
-use Rattle.signal_lines.specs.Words.{doubleDigits, doubleText, figureOf}
+use Rattle.signal_lines.specs.Words.{double_digits, double_text, figure_of}
 
 -- the thousandths of a value, or the raw count of any other class
-pub in-thousandths : (class : Class) → figureOf InThousandths class ≡ signedText (carriedBy class)
-in-thousandths (Value t) = refl
-in-thousandths (Invalid raw) = refl
-in-thousandths (Absent raw) = refl
-in-thousandths (Error raw) = refl
-in-thousandths (Reserved raw) = refl
-in-thousandths (Outside raw) = refl
-in-thousandths NotInCatalogue = refl
-in-thousandths TooWide = refl
+pub in_thousandths : (class : Class) → figure_of InThousandths class ≡ signed_text (carried_by class)
+in_thousandths (Value t) = refl
+in_thousandths (Invalid raw) = refl
+in_thousandths (Absent raw) = refl
+in_thousandths (Error raw) = refl
+in_thousandths (Reserved raw) = refl
+in_thousandths (Outside raw) = refl
+in_thousandths NotInCatalogue = refl
+in_thousandths TooWide = refl
 
-pub double-put : {old new : List ℕ} {at bits : ℕ} (t : Thousandths) → bits ≡ to_bits binary64 (inUnits t) → new ≡ sets old at (digitsOf 16 doubleDigits bits)
-    → Put old at (doubleText (inUnits t)) new (at + doubleDigits)
-unfolding doubleText
-double-put {old} {new} {at} {bits} t e p =
+pub double_put : {old new : List ℕ} {at bits : ℕ} (t : Thousandths) → bits ≡ to_bits binary64 (in_units_spec t) → new ≡ sets old at (digits_of_spec 16 double_digits bits)
+    → Put old at (double_text (in_units_spec t)) new (at + double_digits)
+unfolding double_text
+double_put {old} {new} {at} {bits} t e p =
     record {
-      now-there = p ∙ ap (λ (n : ℕ). sets old at (digitsOf 16 doubleDigits n)) e;
-      now-at = ap (λ (n : ℕ). at + n) (sym (length_digits 16 doubleDigits (to_bits binary64 (inUnits t))));
+      now_there = p ∙ ap (λ (n : ℕ). sets old at (digits_of_spec 16 double_digits n)) e;
+      now_at = ap (λ (n : ℕ). at + n) (sym (length_digits 16 double_digits (to_bits binary64 (in_units_spec t))));
     }
 
-pub double-long : (x : Float) → length (doubleText x) ≡ doubleDigits
-unfolding doubleText
-double-long x = length_digits 16 16 (to_bits binary64 x)
+pub double_long : (x : Float) → length (double_text x) ≡ double_digits
+unfolding double_text
+double_long x = length_digits 16 16 (to_bits binary64 x)
 
 -- whatever a value shows, there is room for it
-pub figure-few : (figures : Figures) (class : Class) → SFits w64 (carriedBy class) → length (figureOf figures class) ≤ signedRoom
-figure-few InThousandths class f = rw (in-thousandths class) (signed-few (carriedBy class) f)
-figure-few AsDoubles (Value t) f = omega (arith, double-long (inUnits t))
-figure-few AsDoubles (Invalid raw) f = signed-few (carriedBy (Invalid raw)) f
-figure-few AsDoubles (Absent raw) f = signed-few (carriedBy (Absent raw)) f
-figure-few AsDoubles (Error raw) f = signed-few (carriedBy (Error raw)) f
-figure-few AsDoubles (Reserved raw) f = signed-few (carriedBy (Reserved raw)) f
-figure-few AsDoubles (Outside raw) f = signed-few (carriedBy (Outside raw)) f
-figure-few AsDoubles NotInCatalogue f = signed-few (carriedBy NotInCatalogue) f
-figure-few AsDoubles TooWide f = signed-few (carriedBy TooWide) f
+pub figure_few : (figures : Figures) (class : Class) → SFits w64 (carried_by class) → length (figure_of figures class) ≤ signed_room
+figure_few InThousandths class f = rw (in_thousandths class) (signed_few (carried_by class) f)
+figure_few AsDoubles (Value t) f = omega (arith, double_long (in_units_spec t))
+figure_few AsDoubles (Invalid raw) f = signed_few (carried_by (Invalid raw)) f
+figure_few AsDoubles (Absent raw) f = signed_few (carried_by (Absent raw)) f
+figure_few AsDoubles (Error raw) f = signed_few (carried_by (Error raw)) f
+figure_few AsDoubles (Reserved raw) f = signed_few (carried_by (Reserved raw)) f
+figure_few AsDoubles (Outside raw) f = signed_few (carried_by (Outside raw)) f
+figure_few AsDoubles NotInCatalogue f = signed_few (carried_by NotInCatalogue) f
+figure_few AsDoubles TooWide f = signed_few (carried_by TooWide) f

@@ -2,41 +2,41 @@
 use Rattle.std.specs.Prelude.{List, [], ◌∷◌, ◌++◌, ℕ}
 use Rattle.catalogue.specs.declared.Class.{Class}
 use Rattle.frame_lines.specs.declared.FrameLine.TheVariants.{IllFormed}
-use Rattle.frame_lines.specs.Meaning.{frameLineNumber}
-use Rattle.numerals.specs.Written.{identifierText}
+use Rattle.frame_lines.specs.Meaning.{frame_line_number}
+use Rattle.numerals.specs.Written.{identifier_text}
 use Rattle.parts.specs.Parts.{tab, newline}
 use Rattle.parts.specs.Joined.{join}
-use Rattle.printing.specs.Decimal.{naturalText}
+use Rattle.printing.specs.Decimal.{natural_text}
 use Rattle.signal_lines.specs.declared.figures.Figures.{Figures}
-use Rattle.signal_lines.specs.Words.{no_word, classWord, figureOf}
+use Rattle.signal_lines.specs.Words.{no_word, class_word, figure_of}
 
-unfoldable pub printedLine : List (List ℕ) → List ℕ
-printedLine fields = join tab fields ++ (newline ∷ [])
+unfoldable pub printed_line : List (List ℕ) → List ℕ
+printed_line fields = join tab fields ++ (newline ∷ [])
 
 -- "Each signal gives identifier, number, class word, and the thousandths of a value or the raw count of any other class."
 -- The dash's lister has the bits of the double "in place of the thousandths".
-abbrev pub readingLine : Figures → ℕ → ℕ → Class → List ℕ
-readingLine figures identifier number class =
-    printedLine (identifierText identifier ∷ naturalText number ∷ classWord class ∷ figureOf figures class ∷ [])
+abbrev pub reading_line : Figures → ℕ → ℕ → Class → List ℕ
+reading_line figures identifier number class =
+    printed_line (identifier_text identifier ∷ natural_text number ∷ class_word class ∷ figure_of figures class ∷ [])
 
 -- the end of that line: the class word and its number
-abbrev pub classEnd : Figures → Class → List ℕ
-classEnd figures class = printedLine (classWord class ∷ figureOf figures class ∷ [])
+abbrev pub class_end : Figures → Class → List ℕ
+class_end figures class = printed_line (class_word class ∷ figure_of figures class ∷ [])
 
 -- "A refused frame gives identifier, `no`, number"
-abbrev pub refusedFrameLine : ℕ → ℕ → List ℕ
-refusedFrameLine identifier number = printedLine (identifierText identifier ∷ no_word ∷ naturalText number ∷ [])
+abbrev pub refused_frame_line : ℕ → ℕ → List ℕ
+refused_frame_line identifier number = printed_line (identifier_text identifier ∷ no_word ∷ natural_text number ∷ [])
 
 -- "an ill-formed line gives" `no`, 20
-abbrev pub illFormedLine : List ℕ
-illFormedLine = printedLine (no_word ∷ naturalText (frameLineNumber IllFormed) ∷ [])
+abbrev pub ill_formed_line : List ℕ
+ill_formed_line = printed_line (no_word ∷ natural_text (frame_line_number IllFormed) ∷ [])
 
 -- ---- room: no line is longer than listedLineRoom, no end of one (a word with its number) than endRoom, no word than wordRoom
-abbrev pub listedLineRoom : ℕ
-listedLineRoom = 64
+abbrev pub listed_line_room : ℕ
+listed_line_room = 64
 
-abbrev pub endRoom : ℕ
-endRoom = 34
+abbrev pub end_room : ℕ
+end_room = 34
 
-abbrev pub wordRoom : ℕ
-wordRoom = 12
+abbrev pub word_room : ℕ
+word_room = 12

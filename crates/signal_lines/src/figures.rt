@@ -1,9 +1,9 @@
 // The figures that a value shows, which is all that the two listers differ in: its thousandths, or the bits of its double.
 ghost use Rattle.std.specs.Prelude.{◌+◌, ◌≤◌, length};
-ghost use Rattle.doubles.specs.Doubles.{inUnits, Small};
-ghost use Rattle.printing.specs.Decimal.{signedRoom};
+ghost use Rattle.doubles.specs.Doubles.{in_units_spec, Small};
+ghost use Rattle.printing.specs.Decimal.{signed_room};
 ghost use Rattle.printing.specs.Put.{Put, PutWithin};
-ghost use Rattle.signal_lines.specs.Words.{doubleDigits, doubleText, valueFigures};
+ghost use Rattle.signal_lines.specs.Words.{double_digits, double_text, value_figures};
 
 use catalogue::Thousandths;
 use doubles::bits_in_units;
@@ -20,8 +20,8 @@ const DOUBLE_DIGITS: usize = 16;
 
 // The bits of a reading's double: 16 digits 0-9 A-F, the highest first.
 fn put_double(out: &mut [u8], at: usize, reading: Thousandths) -> usize
-    requires { (at + doubleDigits ≤ length out.old) × Small reading }
-    ensures { Put out.old at (doubleText (inUnits reading)) out.new result }
+    requires { (at + double_digits ≤ length out.old) × Small reading }
+    ensures { Put out.old at (double_text (in_units_spec reading)) out.new result }
 {
     let bits = bits_in_units(reading);
     put_hexadecimals(&mut *out, at, DOUBLE_DIGITS, bits);
@@ -29,8 +29,8 @@ fn put_double(out: &mut [u8], at: usize, reading: Thousandths) -> usize
 }
 
 pub fn put_figures(out: &mut [u8], at: usize, reading: Thousandths, figures: Figures) -> usize
-    requires { (at + signedRoom ≤ length out.old) × Small reading }
-    ensures { PutWithin out.old at signedRoom (valueFigures figures reading) out.new result }
+    requires { (at + signed_room ≤ length out.old) × Small reading }
+    ensures { PutWithin out.old at signed_room (value_figures figures reading) out.new result }
 {
     match figures {
         Figures::InThousandths => put_signed(out, at, reading.0),

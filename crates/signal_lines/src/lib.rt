@@ -6,8 +6,8 @@ mod figures;
 ghost use Rattle.std.specs.Prelude.{[], ◌∷◌, ◌+◌, ◌≤◌, length};
 ghost use Rattle.doubles.specs.Doubles.{Small, SmallIfValue};
 ghost use Rattle.printing.specs.Put.{PutWithin};
-ghost use Rattle.printing.specs.Decimal.{naturalText};
-ghost use Rattle.signal_lines.specs.Printed.{printedLine, readingLine, classEnd, refusedFrameLine, listedLineRoom, endRoom, wordRoom};
+ghost use Rattle.printing.specs.Decimal.{natural_text};
+ghost use Rattle.signal_lines.specs.Printed.{printed_line, reading_line, class_end, refused_frame_line, listed_line_room, end_room, word_room};
 
 use catalogue::{Class, Thousandths};
 pub use figures::Figures;
@@ -24,8 +24,8 @@ pub const LISTED_LINE_ROOM: usize = 64;
 
 // A word and a number, the end of a line.
 fn put_count(out: &mut [u8], at: usize, word: &[u8], count: u32) -> usize
-    requires { (at + endRoom ≤ length out.old) × (length word.now ≤ wordRoom) }
-    ensures { PutWithin out.old at endRoom (printedLine (word.now ∷ naturalText count ∷ [])) out.new result }
+    requires { (at + end_room ≤ length out.old) × (length word.now ≤ word_room) }
+    ensures { PutWithin out.old at end_room (printed_line (word.now ∷ natural_text count ∷ [])) out.new result }
 {
     let after_word = put_bytes(&mut *out, at, word);
     let number = put_byte(&mut *out, after_word, TAB);
@@ -35,8 +35,8 @@ fn put_count(out: &mut [u8], at: usize, word: &[u8], count: u32) -> usize
 
 // The word and the figures of a value.
 fn put_value(out: &mut [u8], at: usize, reading: Thousandths, figures: Figures) -> usize
-    requires { (at + endRoom ≤ length out.old) × Small reading }
-    ensures { PutWithin out.old at endRoom (classEnd figures (Class.Value reading)) out.new result }
+    requires { (at + end_room ≤ length out.old) × Small reading }
+    ensures { PutWithin out.old at end_room (class_end figures (Class.Value reading)) out.new result }
 {
     let after_word = put_bytes(&mut *out, at, b"value");
     let number = put_byte(&mut *out, after_word, TAB);
@@ -46,8 +46,8 @@ fn put_value(out: &mut [u8], at: usize, reading: Thousandths, figures: Figures) 
 
 // The word of a class, and its figures or count.
 fn put_class(out: &mut [u8], at: usize, class: Class, figures: Figures) -> usize
-    requires { (at + endRoom ≤ length out.old) × SmallIfValue class }
-    ensures { PutWithin out.old at endRoom (classEnd figures class) out.new result }
+    requires { (at + end_room ≤ length out.old) × SmallIfValue class }
+    ensures { PutWithin out.old at end_room (class_end figures class) out.new result }
 {
     match class {
         Class::Value(reading) => put_value(out, at, reading, figures),
@@ -70,8 +70,8 @@ pub fn put_reading(
     class: Class,
     figures: Figures,
 ) -> usize
-    requires { (at + listedLineRoom ≤ length out.old) × SmallIfValue class }
-    ensures { PutWithin out.old at listedLineRoom (readingLine figures identifier number class) out.new result }
+    requires { (at + listed_line_room ≤ length out.old) × SmallIfValue class }
+    ensures { PutWithin out.old at listed_line_room (reading_line figures identifier number class) out.new result }
 {
     let after_identifier = put_identifier(&mut *out, at, identifier);
     let second = put_byte(&mut *out, after_identifier, TAB);
@@ -82,8 +82,8 @@ pub fn put_reading(
 
 // A refused frame.
 pub fn put_refused(out: &mut [u8], at: usize, identifier: u32, refusal: u32) -> usize
-    requires { at + listedLineRoom ≤ length out.old }
-    ensures { PutWithin out.old at listedLineRoom (refusedFrameLine identifier refusal) out.new result }
+    requires { at + listed_line_room ≤ length out.old }
+    ensures { PutWithin out.old at listed_line_room (refused_frame_line identifier refusal) out.new result }
 {
     let after_identifier = put_identifier(&mut *out, at, identifier);
     let second = put_byte(&mut *out, after_identifier, TAB);

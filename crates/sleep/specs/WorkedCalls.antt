@@ -5,7 +5,7 @@ use Rattle.sleep.specs.declared.Watch.{Watch}
 use Rattle.sleep.specs.declared.SleepAnswer.{SleepAnswer}
 use Rattle.sleep.specs.declared.SleepAnswer.TheVariants.{Taken, ClockWentBack}
 use Rattle.sleep.specs.declared.Updated.{Updated}
-use Rattle.sleep.specs.Watching.{awakeAt, watchOf, watchAndAnswer}
+use Rattle.sleep.specs.Watching.{awake_at, watch_of, watch_and_answer}
 
 -- a watch, a call on it, and the watch with the answer after it
 pub record WorkedCall : Type 0 where
@@ -14,23 +14,23 @@ pub record WorkedCall : Type 0 where
   pub wake : Bool
   pub after : Updated
 
-abbrev pub workedCall : Watch → ℕ → Bool → Watch → SleepAnswer → WorkedCall
-workedCall w t b x a = record { before = w; time = t; wake = b; after = watchAndAnswer x a }
+abbrev pub worked_call : Watch → ℕ → Bool → Watch → SleepAnswer → WorkedCall
+worked_call w t b x a = record { before = w; time = t; wake = b; after = watch_and_answer x a }
 
-abbrev pub asleepSince : ℕ → Watch
-asleepSince time = watchOf time true
+abbrev pub asleep_since : ℕ → Watch
+asleep_since time = watch_of time true
 
-unfoldable pub workedCalls : List WorkedCall
-workedCalls =
-    workedCall (awakeAt 5) 10004 false (awakeAt 5) Taken
-    ∷ workedCall (awakeAt 5) 10005 false (asleepSince 5) Taken
-    ∷ workedCall (awakeAt 4294967295) 9998 false (awakeAt 4294967295) Taken
-    ∷ workedCall (awakeAt 4294967295) 9999 false (asleepSince 4294967295) Taken
-    ∷ workedCall (awakeAt 1000) 999 true (awakeAt 1000) ClockWentBack
-    ∷ workedCall (awakeAt 0) 2147483648 true (awakeAt 0) ClockWentBack
-    ∷ workedCall (awakeAt 0) 2147483648 false (awakeAt 0) ClockWentBack
-    ∷ workedCall (awakeAt 0) 2147483647 true (awakeAt 2147483647) Taken
-    ∷ workedCall (awakeAt 0) 2147483647 false (asleepSince 0) Taken
-    ∷ workedCall (asleepSince 1000) 999 false (asleepSince 1000) Taken
-    ∷ workedCall (asleepSince 1000) 999 true (awakeAt 999) Taken
+unfoldable pub worked_calls : List WorkedCall
+worked_calls =
+    worked_call (awake_at 5) 10004 false (awake_at 5) Taken
+    ∷ worked_call (awake_at 5) 10005 false (asleep_since 5) Taken
+    ∷ worked_call (awake_at 4294967295) 9998 false (awake_at 4294967295) Taken
+    ∷ worked_call (awake_at 4294967295) 9999 false (asleep_since 4294967295) Taken
+    ∷ worked_call (awake_at 1000) 999 true (awake_at 1000) ClockWentBack
+    ∷ worked_call (awake_at 0) 2147483648 true (awake_at 0) ClockWentBack
+    ∷ worked_call (awake_at 0) 2147483648 false (awake_at 0) ClockWentBack
+    ∷ worked_call (awake_at 0) 2147483647 true (awake_at 2147483647) Taken
+    ∷ worked_call (awake_at 0) 2147483647 false (asleep_since 0) Taken
+    ∷ worked_call (asleep_since 1000) 999 false (asleep_since 1000) Taken
+    ∷ worked_call (asleep_since 1000) 999 true (awake_at 999) Taken
     ∷ []

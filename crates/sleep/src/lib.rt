@@ -4,7 +4,7 @@
 // over its 32 bits. No function has a `requires`: every watch, time and wake is answered, and a refused call leaves the
 // watch as it stood. `specs/Watching.antt` says what each call does, for every input.
 ghost use Rattle.std.specs.Prelude.{◌≡◌};
-ghost use Rattle.sleep.specs.Watching.{awakeAt, age, after_call, watchAndAnswer};
+ghost use Rattle.sleep.specs.Watching.{awake_at, age, after_call, watch_and_answer};
 
 // The clock's time at the last wake, and whether the truck sleeps.
 #[derive(Drop)]
@@ -41,7 +41,7 @@ fn age_at(time: u32, last: u32) -> u32
 impl Watch {
     // A watch starts awake, at the time given.
     pub fn new(time: u32) -> Watch
-        ensures { result ≡ awakeAt time }
+        ensures { result ≡ awake_at time }
     {
         Watch {
             last_wake: time,
@@ -91,7 +91,7 @@ impl Watch {
 
 // One call on the watch where it stands.
 pub fn update(watch: &mut Watch, time: u32, wake: bool) -> SleepAnswer
-    ensures { watchAndAnswer watch.new result ≡ after_call watch.old time wake }
+    ensures { watch_and_answer watch.new result ≡ after_call watch.old time wake }
 {
     let next = (*watch).updated(time, wake);
     *watch = next.watch;

@@ -2,37 +2,37 @@
 use mathlib.Core.Path.{◌≡◌, sym, subst}
 use mathlib.Core.List.{List, [], ◌∷◌, ◌++◌}
 use Prim.Native.Nat.{ℕ, suc}
-use Rattle.catalogue.specs.Find.{bitsOf}
-use Rattle.books.specs.Book.{Placement, Message, Book, fresh, inLast, lastPlacements, withSignal}
-use Rattle.books.specs.Lines.{signalRefusal}
+use Rattle.catalogue.specs.Find.{bits_of_spec}
+use Rattle.books.specs.Book.{Placement, Message, Book, fresh, in_last, last_placements, with_signal}
+use Rattle.books.specs.Lines.{signal_refusal}
 use Rattle.books.specs.Words.{words_of}
-use Rattle.books.proofs.Ends.{last-placements, last-longer}
+use Rattle.books.proofs.Ends.{last_placements_law, last_longer}
 use Rattle.placing.specs.declared.Filled.{Filled}
 use Rattle.placing.specs.Filling.{Fills, FilledMore}
-use Rattle.placing.proofs.Placing.{has-bits}
-use Rattle.placing.proofs.Filling.{fills-none, fills-more}
+use Rattle.placing.proofs.Placing.{has_bits}
+use Rattle.placing.proofs.Filling.{fills_none, fills_more}
 use Rattle.tables.specs.declared.AddedSignal.{AddedSignal}
-use Rattle.tables.specs.Adding.{HoldsFilled, SignalJudged, addedNumber, unless}
+use Rattle.tables.specs.Adding.{HoldsFilled, SignalJudged, added_number, unless}
 use Rattle.tables.proofs.Refused.{stays, takes}
-use Rattle.tables.proofs.Room.{signal-room}
+use Rattle.tables.proofs.Room.{signal_room}
 
 -- a new message has no signals
-pub fills-fresh : (ms : List Message) (i : ℕ) (f : Filled) → f.bits ≡ 0 → f.marks ≡ 0 → Fills (lastPlacements (ms ++ (fresh i ∷ []))) f
-fills-fresh ms i f b m = subst (λ (ps : List Placement). Fills ps f) (sym (last-placements ms (fresh i))) (fills-none f b m)
+pub fills_fresh : (ms : List Message) (i : ℕ) (f : Filled) → f.bits ≡ 0 → f.marks ≡ 0 → Fills (last_placements (ms ++ (fresh i ∷ []))) f
+fills_fresh ms i f b m = subst (λ (ps : List Placement). Fills ps f) (sym (last_placements_law ms (fresh i))) (fills_none f b m)
 
 -- a signal that is taken
-pub fills-signal : (ms : List Message) (p : Placement) → signalRefusal ms p ≡ 0 → (f : Filled) → Fills (lastPlacements ms) f
-    → (b : ℕ) → b ≡ bitsOf p.number → (g : Filled) → FilledMore f p.number p.start b g → Fills (lastPlacements (inLast ms p)) g
-fills-signal ms p e f h b eb g m =
-    let r = signal-room ms p e in
-    subst (λ (ps : List Placement). Fills ps g) (sym (last-longer ms p r.some))
-    (fills-more (lastPlacements ms) p f h (has-bits p r.alone) b eb g m)
+pub fills_signal : (ms : List Message) (p : Placement) → signal_refusal ms p ≡ 0 → (f : Filled) → Fills (last_placements ms) f
+    → (b : ℕ) → b ≡ bits_of_spec p.number → (g : Filled) → FilledMore f p.number p.start b g → Fills (last_placements (in_last ms p)) g
+fills_signal ms p e f h b eb g m =
+    let r = signal_room ms p e in
+    subst (λ (ps : List Placement). Fills ps g) (sym (last_longer ms p r.some))
+    (fills_more (last_placements ms) p f h (has_bits p r.alone) b eb g m)
 
-module _ (b : Book) (p : Placement) (r : AddedSignal) (w : List ℕ) (e : addedNumber r.added ≡ signalRefusal b.messages p) where
-  pub signal-stays : (n : ℕ) → signalRefusal b.messages p ≡ suc n → HoldsFilled w r.filled b → SignalJudged b p r w
+module _ (b : Book) (p : Placement) (r : AddedSignal) (w : List ℕ) (e : added_number r.added ≡ signal_refusal b.messages p) where
+  pub signal_stays : (n : ℕ) → signal_refusal b.messages p ≡ suc n → HoldsFilled w r.filled b → SignalJudged b p r w
   unfolding unless
-  signal-stays n f k = record { judged = stays _ w b (withSignal b p) r.added e n f k.holds; fills = rw f k.fills }
+  signal_stays n f k = record { judged = stays _ w b (with_signal b p) r.added e n f k.holds; fills = rw f k.fills }
 
-  pub signal-takes : signalRefusal b.messages p ≡ 0 → w ≡ words_of (withSignal b p) → Fills (lastPlacements (inLast b.messages p)) r.filled → SignalJudged b p r w
+  pub signal_takes : signal_refusal b.messages p ≡ 0 → w ≡ words_of (with_signal b p) → Fills (last_placements (in_last b.messages p)) r.filled → SignalJudged b p r w
   unfolding unless
-  signal-takes f g h = record { judged = takes _ w b (withSignal b p) r.added e f g; fills = rw f h }
+  signal_takes f g h = record { judged = takes _ w b (with_signal b p) r.added e f g; fills = rw f h }

@@ -3,14 +3,14 @@ use mathlib.Core.Path.{◌≡◌, sym, ◌∙◌}
 use mathlib.Core.List.{List}
 use Prim.Native.Nat.{ℕ}
 use Rattle.books.specs.Book.{Book}
-use Rattle.books.proofs.RouteColumns.{shows-routes}
+use Rattle.books.proofs.RouteColumns.{shows_routes}
 use Rattle.tables.specs.Adding.{Holds}
-use Rattle.tables.proofs.Held.{messages-shown, routes-stand}
+use Rattle.tables.proofs.Held.{messages_shown, routes_stand}
 
-pub one-book : (w : List ℕ) (b c : Book) → Holds w b → Holds w c → b ≡ c
-one-book w b c h k =
-    let messages = sym (messages-shown w b h) ∙ messages-shown w c k in
+pub one_book : (w : List ℕ) (b c : Book) → Holds w b → Holds w c → b ≡ c
+one_book w b c h k =
+    let messages = sym (messages_shown w b h) ∙ messages_shown w c k in
     let routes =
-    sym (shows-routes w b.routes h.within.routes (routes-stand w b h)) ∙ shows-routes w c.routes k.within.routes (routes-stand w c k)
+    sym (shows_routes w b.routes h.within.routes (routes_stand w b h)) ∙ shows_routes w c.routes k.within.routes (routes_stand w c k)
     in
     λ i. record { messages = messages i; routes = routes i }

@@ -1,8 +1,8 @@
 -- One line more in a book's words: what is answered, and what the words are then. Assumes nothing: these are definitions.
 use Rattle.std.specs.Prelude.{◌≡◌, ℕ, zero, suc, ◌≤◌, List, length}
 use Rattle.answers.specs.Numbers.{number}
-use Rattle.books.specs.Book.{Placement, Book, numbers, allPlacements, lastPlacements, route, withMessage, withSignal, withRoute}
-use Rattle.books.specs.Lines.{messageRefusal, signalRefusal, routeRefusal, messageLimit, signalLimit, routeLimit}
+use Rattle.books.specs.Book.{Placement, Book, numbers, all_placements, last_placements, route, with_message, with_signal, with_route}
+use Rattle.books.specs.Lines.{message_refusal, signal_refusal, route_refusal, message_limit, signal_limit, route_limit}
 use Rattle.books.specs.Words.{words_of}
 use Rattle.placing.specs.declared.Filled.{Filled}
 use Rattle.placing.specs.Filling.{Fills}
@@ -11,15 +11,15 @@ use Rattle.tables.specs.declared.Added.TheVariants as added
 use Rattle.tables.specs.declared.AddedSignal.{AddedSignal}
 
 -- the refusal number of each answer, 0 where the line is taken
-abbrev pub addedNumber : Added → ℕ
-addedNumber added.Taken = 0
-addedNumber (added.Refused why) = number why
+abbrev pub added_number : Added → ℕ
+added_number added.Taken = 0
+added_number (added.Refused why) = number why
 
 -- no more lines of each kind than a book may have
 pub record Within (b : Book) : Type 0 where
-  pub messages : length b.messages ≤ messageLimit
-  pub signals : length (allPlacements b.messages) ≤ signalLimit
-  pub routes : length b.routes ≤ routeLimit
+  pub messages : length b.messages ≤ message_limit
+  pub signals : length (all_placements b.messages) ≤ signal_limit
+  pub routes : length b.routes ≤ route_limit
 
 -- the words are those of the book, which is within the limits
 pub record Holds (w : List ℕ) (b : Book) : Type 0 where
@@ -33,7 +33,7 @@ OfBook w = (b : Book) × Holds w b
 -- the words are those of the book, and so much is filled by the signals of its last message
 pub record HoldsFilled (w : List ℕ) (f : Filled) (b : Book) : Type 0 where
   pub holds : Holds w b
-  pub fills : Fills (lastPlacements b.messages) f
+  pub fills : Fills (last_placements b.messages) f
 
 -- the same of a book
 abbrev pub OfBookFilled : List ℕ → Filled → Type 0
@@ -46,20 +46,20 @@ unless (suc refusal) old new = old
 
 -- the answer gives the refusal, and the words are those of the book with the line, or of the book where it is refused
 pub record LineJudged (refusal : ℕ) (old new : Book) (r : Added) (w : List ℕ) : Type 0 where
-  pub answer : addedNumber r ≡ refusal
+  pub answer : added_number r ≡ refusal
   pub words : w ≡ words_of (unless refusal old new)
 
 -- what an `M` line and an `R` line make of the words of any book
 abbrev pub MessageAdded : List ℕ → ℕ → Added → List ℕ → Type 0
-MessageAdded words i r left = (b : Book) → Holds words b → LineJudged (messageRefusal b.messages i) b (withMessage b i) r left
+MessageAdded words i r left = (b : Book) → Holds words b → LineJudged (message_refusal b.messages i) b (with_message b i) r left
 
 abbrev pub RouteAdded : List ℕ → ℕ → ℕ → ℕ → ℕ → ℕ → Added → List ℕ → Type 0
-RouteAdded words g a i c j r left = (b : Book) → Holds words b → LineJudged (routeRefusal b.routes g a i c j) b (withRoute b (route g a i c j)) r left
+RouteAdded words g a i c j r left = (b : Book) → Holds words b → LineJudged (route_refusal b.routes g a i c j) b (with_route b (route g a i c j)) r left
 
 -- so with an `S` line, and it is told what the signals of the last message fill then
 pub record SignalJudged (b : Book) (p : Placement) (r : AddedSignal) (w : List ℕ) : Type 0 where
-  pub judged : LineJudged (signalRefusal b.messages p) b (withSignal b p) r.added w
-  pub fills : Fills (lastPlacements (unless (signalRefusal b.messages p) b (withSignal b p)).messages) r.filled
+  pub judged : LineJudged (signal_refusal b.messages p) b (with_signal b p) r.added w
+  pub fills : Fills (last_placements (unless (signal_refusal b.messages p) b (with_signal b p)).messages) r.filled
 
 -- the signals before one in its message: the column has their numbers, and so much is filled by them
 pub record Earlier (column : List ℕ) (f : Filled) (ps : List Placement) : Type 0 where

@@ -1,18 +1,18 @@
 -- The words of a book with those of one more line stored at the ends of the columns, and the counts raised: how an addition works, and
 -- no promise. proofs/Stored.antt shows that they are the words of the book with the line. Assumes nothing: these are definitions.
 use Rattle.std.specs.Prelude.{List, ℕ, ◌+◌, ◌-◌, set}
-use Rattle.record.specs.Columns.{messageCountAt, signalCountAt, routeCountAt, idsAt, ends_at, numbersAt, startsAt, fromsAt, tosAt, gatewaysAt}
+use Rattle.record.specs.Columns.{message_count_at, signal_count_at, route_count_at, ids_at, ends_at, numbers_at, starts_at, froms_at, tos_at, gateways_at}
 
 -- a message after `count` others, which ends where the signals end
-abbrev pub messageStored : List ℕ → ℕ → ℕ → ℕ → List ℕ
-messageStored words count identifier end = set (set (set words (idsAt + count) identifier) (ends_at + count) end) messageCountAt (count + 1)
+abbrev pub message_stored : List ℕ → ℕ → ℕ → ℕ → List ℕ
+message_stored words count identifier end = set (set (set words (ids_at + count) identifier) (ends_at + count) end) message_count_at (count + 1)
 
 -- a signal after `signals` others, of the last of the messages, which now ends with it
-abbrev pub signalStored : List ℕ → ℕ → ℕ → ℕ → ℕ → List ℕ
-signalStored words messages signals number start =
-    set (set (set (set words (numbersAt + signals) number) (startsAt + signals) start) (ends_at + (messages - 1)) (signals + 1)) signalCountAt (signals + 1)
+abbrev pub signal_stored : List ℕ → ℕ → ℕ → ℕ → ℕ → List ℕ
+signal_stored words messages signals number start =
+    set (set (set (set words (numbers_at + signals) number) (starts_at + signals) start) (ends_at + (messages - 1)) (signals + 1)) signal_count_at (signals + 1)
 
 -- a route after `count` others
-abbrev pub routeStored : List ℕ → ℕ → ℕ → ℕ → ℕ → List ℕ
-routeStored words count gateway from to =
-    set (set (set (set words (fromsAt + count) from) (tosAt + count) to) (gatewaysAt + count) gateway) routeCountAt (count + 1)
+abbrev pub route_stored : List ℕ → ℕ → ℕ → ℕ → ℕ → List ℕ
+route_stored words count gateway from to =
+    set (set (set (set words (froms_at + count) from) (tos_at + count) to) (gateways_at + count) gateway) route_count_at (count + 1)

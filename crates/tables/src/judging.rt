@@ -1,11 +1,11 @@
 // Whether a line may be added, by what the book holds already.
 ghost use Rattle.std.specs.Prelude.{◌≡◌, ◌||◌, List, ◌∷◌, ◌-◌, ◌≤◌, ◌<◌, leb, take, get_or};
-ghost use Rattle.rows.specs.Rule.{mostBits};
-ghost use Rattle.catalogue.specs.Find.{bitsOf};
+ghost use Rattle.rows.specs.Rule.{most_bits};
+ghost use Rattle.catalogue.specs.Find.{bits_of_spec};
 ghost use Rattle.books.specs.Book.{Placement, Book, placement};
-ghost use Rattle.books.specs.Lines.{isIn, afterRefusal, signalRefusal, messageLimit, busLimit, identifierLimit, startLimit};
-ghost use Rattle.record.specs.Columns.{ids_of, endsOf};
-ghost use Rattle.tables.specs.Adding.{OfBookFilled, HoldsFilled, Earlier, addedNumber};
+ghost use Rattle.books.specs.Lines.{is_in, after_refusal, signal_refusal, message_limit, bus_limit, identifier_limit, start_limit};
+ghost use Rattle.record.specs.Columns.{ids_of, ends_of};
+ghost use Rattle.tables.specs.Adding.{OfBookFilled, HoldsFilled, Earlier, added_number};
 
 use crate::Added;
 use answers::Refusal;
@@ -14,15 +14,15 @@ use record::{BOOK_WORDS, BUSES, IDENTIFIER_LIMIT, SIGNALS, START_LIMIT, wide};
 
 // Whether a place has a bus or an identifier over the limit.
 pub fn over_limit(bus: u32, identifier: u32) -> bool
-    ensures { result ≡ leb busLimit bus || leb identifierLimit identifier }
+    ensures { result ≡ leb bus_limit bus || leb identifier_limit identifier }
 {
     (bus >= BUSES) | (identifier >= IDENTIFIER_LIMIT)
 }
 
 // Whether one of the first `count` messages has the identifier.
 pub fn has_message(book: &[u32; BOOK_WORDS], count: u32, identifier: u32) -> bool
-    requires { count ≤ messageLimit }
-    ensures { result ≡ isIn identifier (take count (ids_of book.now)) }
+    requires { count ≤ message_limit }
+    ensures { result ≡ is_in identifier (take count (ids_of book.now)) }
 {
     let ids = record::ids(book);
     let n = wide(count);
@@ -31,8 +31,8 @@ pub fn has_message(book: &[u32; BOOK_WORDS], count: u32, identifier: u32) -> boo
 
 // Where the signals of the last of the messages begin.
 fn last_begin(book: &[u32; BOOK_WORDS], messages: u32) -> usize
-    requires { (0 < messages) × (messages ≤ messageLimit) }
-    ensures { result ≡ get_or (0 ∷ endsOf book.now) (messages - 1) 0 }
+    requires { (0 < messages) × (messages ≤ message_limit) }
+    ensures { result ≡ get_or (0 ∷ ends_of book.now) (messages - 1) 0 }
 {
     columns::begin(record::ends(book), wide(messages) - 1)
 }
@@ -46,8 +46,8 @@ fn judge_after(
     start: u32,
     bits: u32,
 ) -> Added
-    requires { ((ps : List Placement) × Earlier before.now filled ps) × (start < startLimit) × (0 < bits) × (bits ≤ mostBits) × (bits ≡ bitsOf number) }
-    ensures { (ps : List Placement) → Earlier before.now filled ps → addedNumber result ≡ afterRefusal ps count (placement number start) }
+    requires { ((ps : List Placement) × Earlier before.now filled ps) × (start < start_limit) × (0 < bits) × (bits ≤ most_bits) × (bits ≡ bits_of_spec number) }
+    ensures { (ps : List Placement) → Earlier before.now filled ps → added_number result ≡ after_refusal ps count (placement number start) }
 {
     if is_repeated(before, filled, number) {
         return Added::Refused(Refusal::SignalRepeated);
@@ -72,8 +72,8 @@ pub fn judge_signal(
     start: u32,
     bits: u32,
 ) -> Added
-    requires { OfBookFilled book.now filled × (bits ≡ bitsOf number) }
-    ensures { (b : Book) → HoldsFilled book.now filled b → addedNumber result ≡ signalRefusal b.messages (placement number start) }
+    requires { OfBookFilled book.now filled × (bits ≡ bits_of_spec number) }
+    ensures { (b : Book) → HoldsFilled book.now filled b → added_number result ≡ signal_refusal b.messages (placement number start) }
 {
     if bits == 0 {
         return Added::Refused(Refusal::OverLimit);

@@ -1,7 +1,7 @@
 // The words of a line, stored at the ends of the columns, with the counts raised.
 ghost use Rattle.std.specs.Prelude.{◌≡◌, ◌<◌, ◌≤◌};
-ghost use Rattle.books.specs.Lines.{messageLimit, signalLimit, routeLimit};
-ghost use Rattle.tables.specs.Storing.{messageStored, signalStored, routeStored};
+ghost use Rattle.books.specs.Lines.{message_limit, signal_limit, route_limit};
+ghost use Rattle.tables.specs.Storing.{message_stored, signal_stored, route_stored};
 
 use record::{
     BOOK_WORDS, ENDS, FROMS, GATEWAYS, IDS, MESSAGE_COUNT, NUMBERS, ROUTE_COUNT, SIGNAL_COUNT,
@@ -10,8 +10,8 @@ use record::{
 
 // A message after `count` others. It has no signals yet, so it ends where they end.
 pub fn put_message(book: &mut [u32; BOOK_WORDS], count: u32, identifier: u32, end: u32)
-    requires { count < messageLimit }
-    ensures { book.new ≡ messageStored book.old count identifier end }
+    requires { count < message_limit }
+    ensures { book.new ≡ message_stored book.old count identifier end }
 {
     let at = wide(count);
     book[IDS + at] = identifier;
@@ -27,8 +27,8 @@ pub fn put_signal(
     number: u32,
     start: u32,
 )
-    requires { (0 < messages) × (messages ≤ messageLimit) × (signals < signalLimit) }
-    ensures { book.new ≡ signalStored book.old messages signals number start }
+    requires { (0 < messages) × (messages ≤ message_limit) × (signals < signal_limit) }
+    ensures { book.new ≡ signal_stored book.old messages signals number start }
 {
     let at = wide(signals);
     let last = wide(messages) - 1;
@@ -40,8 +40,8 @@ pub fn put_signal(
 
 // A route after `count` others.
 pub fn put_route(book: &mut [u32; BOOK_WORDS], count: u32, gateway: u32, from: u32, to: u32)
-    requires { count < routeLimit }
-    ensures { book.new ≡ routeStored book.old count gateway from to }
+    requires { count < route_limit }
+    ensures { book.new ≡ route_stored book.old count gateway from to }
 {
     let at = wide(count);
     book[FROMS + at] = from;

@@ -1,7 +1,7 @@
 // The test behind refusal 12 for the message and signal tables: whether they are those of a taken book, whatever the words are.
 ghost use Rattle.std.specs.Prelude.{◌≡◌, ◌&&◌, ◌+◌, ◌≤◌, ◌<◌, length, drop};
-ghost use Rattle.books.specs.Words.{side_by_side, messagesTaken};
-ghost use Rattle.books.specs.Lines.{messageLimit, signalLimit};
+ghost use Rattle.books.specs.Words.{side_by_side, messages_taken_spec};
+ghost use Rattle.books.specs.Lines.{message_limit, signal_limit};
 ghost use Rattle.catalogue.specs.Places.{StartColumns};
 ghost use Rattle.placing.specs.Stamps.{Below};
 ghost use Rattle.zeros.specs.Zeros.{zeros};
@@ -27,7 +27,7 @@ fn rests_zero(one: &[u32], other: &[u32], count: usize) -> bool
 
 // The stamp of the message at a place: one more than the place.
 fn stamp_of(at: usize) -> u8
-    requires { at < messageLimit }
+    requires { at < message_limit }
     ensures { result ≡ at + 1 }
 {
     (at + 1) as u8
@@ -43,7 +43,7 @@ fn well_parted(
     lasts: &[u8],
     stamps: &mut [u8],
 ) -> bool
-    requires { (length starts.now ≡ length numbers.now) × (length numbers.now ≤ signalLimit) × (length ends.now ≤ messageLimit) × StartColumns above.now bounds.now lasts.now × Below stamps.old 1 }
+    requires { (length starts.now ≡ length numbers.now) × (length numbers.now ≤ signal_limit) × (length ends.now ≤ message_limit) × StartColumns above.now bounds.now lasts.now × Below stamps.old 1 }
     ensures { result ≡ parted 0 ends.now (side_by_side numbers.now starts.now) }
 {
     let mut begin: usize = 0;
@@ -77,7 +77,7 @@ fn well_parted(
 
 // Whether the message and signal tables are those of a taken book.
 pub fn messages_taken(book: &[u32; BOOK_WORDS]) -> bool
-    ensures { result ≡ messagesTaken book.now }
+    ensures { result ≡ messages_taken_spec book.now }
 {
     let messages = wide(record::message_count(book));
     if messages > MESSAGES {

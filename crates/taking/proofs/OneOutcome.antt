@@ -14,29 +14,29 @@ use contract.Monad.{Fun}
 use denote.Ref.{MutBor, at_last}
 use denote.Triple.Clauses.{AtExit}
 use lib.ListN.{get_or}
-use Rattle.only.specs.Only.{Only, only-this}
+use Rattle.only.specs.Only.{Only, only_this}
 use Rattle.reading.specs.Reading.{meanings}
-use Rattle.reading.specs.Taken.{rLinesFrom}
+use Rattle.reading.specs.Taken.{r_lines_from}
 use Rattle.taking.specs.declared.LinesAnswer.{LinesAnswer}
 use Rattle.taking.specs.Taking.{Came}
-use Rattle.taking.proofs.Once.{came-there, came-once}
+use Rattle.taking.proofs.Once.{came_there, came_once}
 use Rattle.taking.specs.contracts.LinesAnswer as the-lines
 use Rattle.taking.specs.contracts.take_lines as take-lines
 use Rattle.taking.specs.contracts.route_line as route-line
 
 module _ {M : Type 1} {𝓤 : Ura M} (𝓛 : Logic 𝓤) (mem : Memory → SProp 𝓤) (run : Routine → Fun 𝓤) (κs : Lfts 2) (text book : MutBor (List ℕ)) where
-  pub one-take-lines : Only 𝓤 (λ (x : LinesAnswer × List ℕ). (take-lines.clauses 𝓛 mem run κs (text, (book, tt))).ensures tt x.0 (text, (at_last book x.1, tt)))
-  one-take-lines =
-      let here = came-there text.now in
+  pub one_take_lines : Only 𝓤 (λ (x : LinesAnswer × List ℕ). (take-lines.clauses 𝓛 mem run κs (text, (book, tt))).ensures tt x.0 (text, (at_last book x.1, tt)))
+  one_take_lines =
+      let here = came_there text.now in
       record {
         coded = coded× (the-lines.the_row).coded (coded_list coded_ℕ);
         outcome = here.0;
         Says = λ x. Came text.now x.0 x.1;
         says = λ x. refl;
         there = here.1;
-        alone = λ x c. let e = came-once text.now x.0 here.0.0 x.1 here.0.1 c here.1 in λ i. (e.0 i, e.1 i);
+        alone = λ x c. let e = came_once text.now x.0 here.0.0 x.1 here.0.1 c here.1 in λ i. (e.0 i, e.1 i);
       }
 
 module _ {M : Type 1} {𝓤 : Ura M} (𝓛 : Logic 𝓤) (mem : Memory → SProp 𝓤) (run : Routine → Fun 𝓤) (κs : Lfts 1) (text : MutBor (List ℕ)) where
-  pub one-route-line : (route : ℕ) (e : AtExit route-line.ended κs) → Only 𝓤 (λ r. (route-line.clauses 𝓛 mem run κs (text, (route, tt))).ensures tt r e)
-  one-route-line route e = only-this 𝓤 _ coded_ℕ (get_or (rLinesFrom 1 (meanings text.now)) route 0) (λ r. refl)
+  pub one_route_line : (route : ℕ) (e : AtExit route-line.ended κs) → Only 𝓤 (λ r. (route-line.clauses 𝓛 mem run κs (text, (route, tt))).ensures tt r e)
+  one_route_line route e = only_this 𝓤 _ coded_ℕ (get_or (r_lines_from 1 (meanings text.now)) route 0) (λ r. refl)

@@ -1,13 +1,13 @@
 // The lines of a text, one after the other, into the lent words of a book: up to the first line that is refused. And the number of
 // the line that a route was read from. For the crate `book`; each line is read by the line reader, and what it adds is done by `tables`.
 ghost use Rattle.std.specs.Prelude.{◌≡◌, ◌≤◌, length, get_or};
-ghost use Rattle.record.specs.Limits.{textLimit};
+ghost use Rattle.record.specs.Limits.{text_limit};
 ghost use Rattle.books.specs.Book.{Book};
 ghost use Rattle.catalogue.specs.Places.{TableColumns};
 ghost use Rattle.reading.specs.Reading.{meanings};
-ghost use Rattle.reading.specs.Taken.{rLinesFrom};
-ghost use Rattle.tables.specs.Adding.{addedNumber, OfBookFilled, HoldsFilled};
-ghost use Rattle.taking.specs.Taking.{stepNumber, Carries, isRoute, Took, Empty, Came};
+ghost use Rattle.reading.specs.Taken.{r_lines_from};
+ghost use Rattle.tables.specs.Adding.{added_number, OfBookFilled, HoldsFilled};
+ghost use Rattle.taking.specs.Taking.{step_number, Carries, is_route_spec, Took, Empty, Came};
 
 use answers::Refusal;
 use line::Line;
@@ -31,7 +31,7 @@ pub enum LinesAnswer {
 }
 
 fn step_of(added: Added, filled: Filled) -> Step
-    ensures { (stepNumber result ≡ addedNumber added) × Carries filled result }
+    ensures { (step_number result ≡ added_number added) × Carries filled result }
 {
     match added {
         Added::Taken => Step::Taken(filled),
@@ -71,7 +71,7 @@ fn take_line(
 
 // The lines of a text into an empty book; it is empty again where a line is refused.
 pub fn take_lines(text: &[u8], book: &mut [u32; BOOK_WORDS]) -> LinesAnswer
-    requires { (length text.now ≤ textLimit) × Empty book.old }
+    requires { (length text.now ≤ text_limit) × Empty book.old }
     ensures { Came text.now result book.new }
 {
     let above = catalogue::surpluses();
@@ -98,7 +98,7 @@ pub fn take_lines(text: &[u8], book: &mut [u32; BOOK_WORDS]) -> LinesAnswer
 }
 
 fn is_route(line: Line) -> bool
-    ensures { result ≡ isRoute line }
+    ensures { result ≡ is_route_spec line }
 {
     match line {
         Line::Message(_) => false,
@@ -110,8 +110,8 @@ fn is_route(line: Line) -> bool
 
 // The number of the line that a route of the text stands on, routes counted from 0; 0 where there are not so many.
 pub fn route_line(text: &[u8], route: usize) -> u32
-    requires { length text.now ≤ textLimit }
-    ensures { result ≡ get_or (rLinesFrom 1 (meanings text.now)) route 0 }
+    requires { length text.now ≤ text_limit }
+    ensures { result ≡ get_or (r_lines_from 1 (meanings text.now)) route 0 }
 {
     let mut at: usize = 0;
     let mut n: u32 = 1;

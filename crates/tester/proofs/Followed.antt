@@ -11,57 +11,57 @@ use Rattle.charging.specs.declared.ChargeState.{ChargeState}
 use Rattle.charging.specs.declared.ChargeState.TheVariants.{ReadyToCharge}
 use Rattle.charging.specs.declared.ChargeStateOrNone.{ChargeStateOrNone}
 use Rattle.charging.specs.declared.ChargeStateOrNone.TheVariants.{Is, NoChargeState}
-use Rattle.charging.specs.States.{stepWith, chargeNumber, chargeNumbered}
-use Rattle.charging.specs.Rules.{nextCharge}
-use Rattle.charging.specs.Refusals.{chargeRefusal, countsFit, chargeStepOf}
+use Rattle.charging.specs.States.{step_with_spec, charge_number, charge_numbered}
+use Rattle.charging.specs.Rules.{next_charge_spec}
+use Rattle.charging.specs.Refusals.{charge_refusal, counts_fit, charge_step_of}
 use Rattle.charging.specs.Met.{EveryCondition}
-use Rattle.charging.proofs.Numbers.{number-tells, step-number}
-use Rattle.charging.proofs.Answers.{refused, kept-or-next}
-use Rattle.charging.proofs.Ready.{ready-only}
-use Rattle.tester.specs.Following.{notAChargeState, chargeSeenIn, chargeInNumbers, chargeFrom, chargeFollowed}
+use Rattle.charging.proofs.Numbers.{number_tells, step_number_law}
+use Rattle.charging.proofs.Answers.{refused, kept_or_next}
+use Rattle.charging.proofs.Ready.{ready_only}
+use Rattle.tester.specs.Following.{not_acharge_state, charge_seen_in, charge_in_numbers, charge_from, charge_followed}
 
 module _ (state : ℕ) (seen : List ℕ) where
   -- PCT_DONE and PCT_CHARGE_READY
-  pub ready-in-numbers : (chargeFollowed state seen).0 ≡ 0 → (chargeFollowed state seen).1 ≡ chargeNumber ReadyToCharge → EveryCondition (chargeSeenIn seen)
-  ready-in-numbers = go (chargeNumbered state)
+  pub ready_in_numbers : (charge_followed state seen).0 ≡ 0 → (charge_followed state seen).1 ≡ charge_number ReadyToCharge → EveryCondition (charge_seen_in seen)
+  ready_in_numbers = go (charge_numbered state)
     where
-      go : (from : ChargeStateOrNone) → (chargeFrom from state seen).0 ≡ 0 → (chargeFrom from state seen).1 ≡ chargeNumber ReadyToCharge → EveryCondition (chargeSeenIn seen)
-      go (Is from) done ready = ready-only (chargeSeenIn seen) from done (number-tells _ ReadyToCharge ready)
+      go : (from : ChargeStateOrNone) → (charge_from from state seen).0 ≡ 0 → (charge_from from state seen).1 ≡ charge_number ReadyToCharge → EveryCondition (charge_seen_in seen)
+      go (Is from) done ready = ready_only (charge_seen_in seen) from done (number_tells _ ReadyToCharge ready)
       go NoChargeState done ready = absurd (omega (arith, done))
 
   -- PCT_NOT_A_CHARGE_STATE: of a number over fault's, and of no other
-  pub no-state : 7 < state → chargeFollowed state seen ≡ (notAChargeState, state)
-  unfolding chargeNumbered
-  no-state h = ap (λ (b : Bool). chargeFrom (cond b (Is (stepWith state)) NoChargeState) state seen) (lt-leb state 7 h)
+  pub no_state : 7 < state → charge_followed state seen ≡ (not_acharge_state, state)
+  unfolding charge_numbered
+  no_state h = ap (λ (b : Bool). charge_from (cond b (Is (step_with_spec state)) NoChargeState) state seen) (lt-leb state 7 h)
 
-  pub of-a-state : state ≤ 7 → chargeFollowed state seen ≡ chargeInNumbers (chargeStepOf (stepWith state) (chargeSeenIn seen))
-  unfolding chargeNumbered
-  of-a-state h = ap (λ (b : Bool). chargeFrom (cond b (Is (stepWith state)) NoChargeState) state seen) (le-leb state 7 h)
+  pub of_a_state : state ≤ 7 → charge_followed state seen ≡ charge_in_numbers (charge_step_of (step_with_spec state) (charge_seen_in seen))
+  unfolding charge_numbered
+  of_a_state h = ap (λ (b : Bool). charge_from (cond b (Is (step_with_spec state)) NoChargeState) state seen) (le-leb state 7 h)
 
-  pub only-no-state : (chargeFollowed state seen).0 ≡ notAChargeState → 7 < state
-  only-no-state e = go (leb state 7) refl
+  pub only_no_state : (charge_followed state seen).0 ≡ not_acharge_state → 7 < state
+  only_no_state e = go (leb state 7) refl
     where
-      other : (fits : Bool) → chargeRefusal (chargeStepOf (stepWith state) (chargeSeenIn seen)).answer ≡ cond fits 0 81 → chargeRefusal (chargeStepOf (stepWith state) (chargeSeenIn seen)).answer ≡ notAChargeState → ⊥
+      other : (fits : Bool) → charge_refusal (charge_step_of (step_with_spec state) (charge_seen_in seen)).answer ≡ cond fits 0 81 → charge_refusal (charge_step_of (step_with_spec state) (charge_seen_in seen)).answer ≡ not_acharge_state → ⊥
       other true f g = omega (arith, f, g)
       other false f g = omega (arith, f, g)
 
       go : (in-range : Bool) → leb state 7 ≡ in-range → 7 < state
-      go true f = absurd (other (countsFit (chargeSeenIn seen)) (refused (stepWith state) (chargeSeenIn seen)) (ap (λ (x : ℕ × ℕ). x.0) (sym (of-a-state (leb-true state 7 f))) ∙ e))
+      go true f = absurd (other (counts_fit (charge_seen_in seen)) (refused (step_with_spec state) (charge_seen_in seen)) (ap (λ (x : ℕ × ℕ). x.0) (sym (of_a_state (leb-true state 7 f))) ∙ e))
       go false f = leb-false state 7 f
 
   -- a state that the monitor refuses to leave
-  stays : (s : ChargeState) → (chargeRefusal (chargeStepOf s (chargeSeenIn seen)).answer ≡ 0 → ⊥) → (chargeStepOf s (chargeSeenIn seen)).state ≡ s
-  stays s h = go (countsFit (chargeSeenIn seen)) (refused s (chargeSeenIn seen)) (kept-or-next s (chargeSeenIn seen))
+  stays : (s : ChargeState) → (charge_refusal (charge_step_of s (charge_seen_in seen)).answer ≡ 0 → ⊥) → (charge_step_of s (charge_seen_in seen)).state ≡ s
+  stays s h = go (counts_fit (charge_seen_in seen)) (refused s (charge_seen_in seen)) (kept_or_next s (charge_seen_in seen))
     where
-      go : (fits : Bool) → chargeRefusal (chargeStepOf s (chargeSeenIn seen)).answer ≡ cond fits 0 81
-          → (chargeStepOf s (chargeSeenIn seen)).state ≡ cond fits (nextCharge s (chargeSeenIn seen)) s → (chargeStepOf s (chargeSeenIn seen)).state ≡ s
+      go : (fits : Bool) → charge_refusal (charge_step_of s (charge_seen_in seen)).answer ≡ cond fits 0 81
+          → (charge_step_of s (charge_seen_in seen)).state ≡ cond fits (next_charge_spec s (charge_seen_in seen)) s → (charge_step_of s (charge_seen_in seen)).state ≡ s
       go true e k = absurd (h e)
       go false e k = k
 
-  pub kept-in-numbers : ((chargeFollowed state seen).0 ≡ 0 → ⊥) → (chargeFollowed state seen).1 ≡ state
-  unfolding chargeNumbered
-  kept-in-numbers = go (leb state 7) refl
+  pub kept_in_numbers : ((charge_followed state seen).0 ≡ 0 → ⊥) → (charge_followed state seen).1 ≡ state
+  unfolding charge_numbered
+  kept_in_numbers = go (leb state 7) refl
     where
-      go : (in-range : Bool) → leb state 7 ≡ in-range → ((chargeFrom (cond in-range (Is (stepWith state)) NoChargeState) state seen).0 ≡ 0 → ⊥) → (chargeFrom (cond in-range (Is (stepWith state)) NoChargeState) state seen).1 ≡ state
-      go true e h = ap chargeNumber (stays (stepWith state) h) ∙ step-number state (leb-true state 7 e)
+      go : (in-range : Bool) → leb state 7 ≡ in-range → ((charge_from (cond in-range (Is (step_with_spec state)) NoChargeState) state seen).0 ≡ 0 → ⊥) → (charge_from (cond in-range (Is (step_with_spec state)) NoChargeState) state seen).1 ≡ state
+      go true e h = ap charge_number (stays (step_with_spec state) h) ∙ step_number_law state (leb-true state 7 e)
       go false e h = refl

@@ -1,7 +1,7 @@
 // The charging monitor, its state as one number.
 ghost use Rattle.std.specs.Prelude.{◌≡◌};
-ghost use Rattle.charging.specs.Refusals.{chargeRefusal};
-ghost use Rattle.tester.specs.Following.{chargeSeenIn, chargeFollowed};
+ghost use Rattle.charging.specs.Refusals.{charge_refusal};
+ghost use Rattle.tester.specs.Following.{charge_seen_in, charge_followed};
 
 use catalogue::Raw;
 
@@ -33,7 +33,7 @@ const CHARGE_POSITIVE: usize = 9;
 const CHARGE_NEGATIVE: usize = 10;
 
 fn observation_of(seen: &[u32; CHARGE_WORDS]) -> charging::ChargeObservation
-    ensures { result ≡ chargeSeenIn seen.now }
+    ensures { result ≡ charge_seen_in seen.now }
 {
     charging::ChargeObservation {
         plug: Raw(seen[PLUG]),
@@ -52,7 +52,7 @@ fn observation_of(seen: &[u32; CHARGE_WORDS]) -> charging::ChargeObservation
 
 // Document 02's number of the monitor's answer.
 fn number_of(answer: charging::ChargeAnswer) -> u32
-    ensures { result ≡ chargeRefusal answer }
+    ensures { result ≡ charge_refusal answer }
 {
     match answer {
         charging::ChargeAnswer::Taken => 0,
@@ -63,7 +63,7 @@ fn number_of(answer: charging::ChargeAnswer) -> u32
 // One observation.
 #[unsafe(no_mangle)]
 pub extern "C" fn pct_charge_step(state: &mut u32, seen: &[u32; CHARGE_WORDS]) -> u32
-    ensures { (result, state.new) ≡ chargeFollowed state.old seen.now }
+    ensures { (result, state.new) ≡ charge_followed state.old seen.now }
 {
     let held = charging::ChargeState::numbered(*state);
     match held {

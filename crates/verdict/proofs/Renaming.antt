@@ -26,21 +26,21 @@ module _ (fs ts gs us : List ℕ) (f : ℕ → ℕ) (r : Renames fs ts gs us f) 
   closed_on : (i : ℕ) → OnClosed fs ts i → OnClosed gs us i
   closed_on i (p, c, w, m) = (f p, c, chain p c p w, m)
 
-  doubling-on : (p q : ℕ) (c d : List ℕ) → JoinedTwice fs ts p q c d → JoinedTwice gs us (f p) (f q) c d
-  doubling-on p q c d two = record { one = chain p c q two.one; other = chain p d q two.other; different = two.different }
+  doubling_on : (p q : ℕ) (c d : List ℕ) → JoinedTwice fs ts p q c d → JoinedTwice gs us (f p) (f q) c d
+  doubling_on p q c d two = record { one = chain p c q two.one; other = chain p d q two.other; different = two.different }
 
-  begins-on : (i : ℕ) → BeginsDoubling fs ts i → BeginsDoubling gs us i
-  begins-on i (p, q, c, d, two) = (f p, f q, c, d, doubling-on p q (i ∷ c) d two)
+  begins_on : (i : ℕ) → BeginsDoubling fs ts i → BeginsDoubling gs us i
+  begins_on i (p, q, c, d, two) = (f p, f q, c, d, doubling_on p q (i ∷ c) d two)
 
   free_back : LoopFree gs us → LoopFree fs ts
   free_back free p c w = free (f p) c (chain p c p w)
 
-  single-back : Single gs us → Single fs ts
-  single-back single p q c d two = single (f p) (f q) c d (doubling-on p q c d two)
+  single_back : Single gs us → Single fs ts
+  single_back single p q c d two = single (f p) (f q) c d (doubling_on p q c d two)
 
 -- tables that give each other their places
-pub judged-renamed : (fs ts gs us : List ℕ) (f g : ℕ → ℕ) → Renames fs ts gs us f → Renames gs us fs ts g → (v : Verdict) → Judged gs us v → Judged fs ts v
-judged-renamed fs ts gs us f g r s (verdict.Loop i) (a, low) = (closed_on gs us fs ts g s i a, λ k l b. low k l (closed_on fs ts gs us f r k b))
-judged-renamed fs ts gs us f g r s (verdict.Doubling i) (free, (a, low)) =
-    (free_back fs ts gs us f r free, (begins-on gs us fs ts g s i a, λ k l b. low k l (begins-on fs ts gs us f r k b)))
-judged-renamed fs ts gs us f g r s verdict.Sound a = record { loop-free = free_back fs ts gs us f r a.loop-free; single = single-back fs ts gs us f r a.single }
+pub judged_renamed : (fs ts gs us : List ℕ) (f g : ℕ → ℕ) → Renames fs ts gs us f → Renames gs us fs ts g → (v : Verdict) → Judged gs us v → Judged fs ts v
+judged_renamed fs ts gs us f g r s (verdict.Loop i) (a, low) = (closed_on gs us fs ts g s i a, λ k l b. low k l (closed_on fs ts gs us f r k b))
+judged_renamed fs ts gs us f g r s (verdict.Doubling i) (free, (a, low)) =
+    (free_back fs ts gs us f r free, (begins_on gs us fs ts g s i a, λ k l b. low k l (begins_on fs ts gs us f r k b)))
+judged_renamed fs ts gs us f g r s verdict.Sound a = record { loop_free = free_back fs ts gs us f r a.loop_free; single = single_back fs ts gs us f r a.single }

@@ -9,7 +9,7 @@ pub data Kind : Type 0 where
   error : Kind
   reserved : Kind
   outside : Kind
-  not-in-catalogue : Kind
+  not_in_catalogue : Kind
   too_wide : Kind
 
 abbrev pub kind_of : Class → Kind
@@ -19,5 +19,5 @@ kind_of (class.Absent r) = absent
 kind_of (class.Error r) = error
 kind_of (class.Reserved r) = reserved
 kind_of (class.Outside r) = outside
-kind_of class.NotInCatalogue = not-in-catalogue
+kind_of class.NotInCatalogue = not_in_catalogue
 kind_of class.TooWide = too_wide

@@ -2,10 +2,10 @@
 use Rattle.std.specs.Prelude.{Bool, true, false, List, [], ◌∷◌, ℕ, ℤ, pos, neg_ℤ}
 use Rattle.catalogue.specs.declared.Class.{Class}
 use Rattle.catalogue.specs.declared.Class.TheVariants as class
-use Rattle.catalogue.specs.Class.{classOf}
-use Rattle.bits.specs.Checksum.{checksumOf}
+use Rattle.catalogue.specs.Class.{class_of_spec}
+use Rattle.bits.specs.Checksum.{checksum_of}
 use Rattle.power.specs.declared.Share.TheVariants.{Named}
-use Rattle.power.specs.Observed.{prechargeComplete}
+use Rattle.power.specs.Observed.{precharge_complete_spec}
 
 pub data Question : Type 0 where
   -- the class of a raw count of a signal
@@ -40,9 +40,9 @@ abbrev pub frame : ℕ → ℕ → List ℕ
 frame byte last = byte ∷ byte ∷ byte ∷ byte ∷ byte ∷ byte ∷ byte ∷ last ∷ []
 
 abbrev pub answer : Question → WorkedAnswer
-answer (count number raw) = named (classOf number (record { 0 = raw }))
-answer (checksum identifier byte last) = check (checksumOf identifier (frame byte last))
-answer (precharge share volts beyond) = complete (prechargeComplete (record { 0 = volts }) (record { 0 = beyond }) (Named share))
+answer (count number raw) = named (class_of_spec number (record { 0 = raw }))
+answer (checksum identifier byte last) = check (checksum_of identifier (frame byte last))
+answer (precharge share volts beyond) = complete (precharge_complete_spec (record { 0 = volts }) (record { 0 = beyond }) (Named share))
 
 pub record Worked : Type 0 where
   pub asked : Question
@@ -52,8 +52,8 @@ abbrev pub asks : Question → WorkedAnswer → Worked
 asks q a = record { asked = q; given = a }
 
 -- the identifier 18FFFAF3
-abbrev pub workedIdentifier : ℕ
-workedIdentifier = 419429107
+abbrev pub worked_identifier : ℕ
+worked_identifier = 419429107
 
 -- the 15 of them; the two precharges, "inside 6000: 5700 complete, 5699 not", name the 95 that they relied on (document 02, P6)
 unfoldable pub worked : List Worked
@@ -69,8 +69,8 @@ worked =
     ∷ asks (count 1306 48) (value (pos 12000))
     ∷ asks (count 1306 49) outside
     ∷ asks (count 1705 2) invalid
-    ∷ asks (checksum workedIdentifier 0 0) (check 4)
-    ∷ asks (checksum workedIdentifier 255 15) (check 5)
+    ∷ asks (checksum worked_identifier 0 0) (check 4)
+    ∷ asks (checksum worked_identifier 255 15) (check 5)
     ∷ asks (precharge 95 6000 5700) (complete true)
     ∷ asks (precharge 95 6000 5699) (complete false)
     ∷ []

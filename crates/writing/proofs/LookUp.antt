@@ -4,28 +4,28 @@ use mathlib.Core.List.{List, [], ◌∷◌}
 use Prim.Native.Nat.{ℕ, zero, suc, ◌<◌}
 use native.Mathlib.Omega.{arith}
 use lib.ListN.{get_or}
-use Rattle.numerals.specs.Written.{digitByte}
+use Rattle.numerals.specs.Written.{digit_byte_spec}
 
-abbrev digitBytes : List ℕ
-digitBytes = 48 ∷ 49 ∷ 50 ∷ 51 ∷ 52 ∷ 53 ∷ 54 ∷ 55 ∷ 56 ∷ 57 ∷ 65 ∷ 66 ∷ 67 ∷ 68 ∷ 69 ∷ 70 ∷ []  -- 0123456789ABCDEF
+abbrev digit_bytes : List ℕ
+digit_bytes = 48 ∷ 49 ∷ 50 ∷ 51 ∷ 52 ∷ 53 ∷ 54 ∷ 55 ∷ 56 ∷ 57 ∷ 65 ∷ 66 ∷ 67 ∷ 68 ∷ 69 ∷ 70 ∷ []  -- 0123456789ABCDEF
 
 -- a digit below 16 has its byte there
-pub looked-up : (d : ℕ) → d < 16 → get_or digitBytes d 0 ≡ digitByte d
-unfolding digitByte
-looked-up zero h = refl
-looked-up (suc zero) h = refl
-looked-up (suc (suc zero)) h = refl
-looked-up (suc (suc (suc zero))) h = refl
-looked-up (suc (suc (suc (suc zero)))) h = refl
-looked-up (suc (suc (suc (suc (suc zero))))) h = refl
-looked-up (suc (suc (suc (suc (suc (suc zero)))))) h = refl
-looked-up (suc (suc (suc (suc (suc (suc (suc zero))))))) h = refl
-looked-up (suc (suc (suc (suc (suc (suc (suc (suc zero)))))))) h = refl
-looked-up (suc (suc (suc (suc (suc (suc (suc (suc (suc zero))))))))) h = refl
-looked-up (suc (suc (suc (suc (suc (suc (suc (suc (suc (suc zero)))))))))) h = refl
-looked-up (suc (suc (suc (suc (suc (suc (suc (suc (suc (suc (suc zero))))))))))) h = refl
-looked-up (suc (suc (suc (suc (suc (suc (suc (suc (suc (suc (suc (suc zero)))))))))))) h = refl
-looked-up (suc (suc (suc (suc (suc (suc (suc (suc (suc (suc (suc (suc (suc zero))))))))))))) h = refl
-looked-up (suc (suc (suc (suc (suc (suc (suc (suc (suc (suc (suc (suc (suc (suc zero)))))))))))))) h = refl
-looked-up (suc (suc (suc (suc (suc (suc (suc (suc (suc (suc (suc (suc (suc (suc (suc zero))))))))))))))) h = refl
-looked-up (suc (suc (suc (suc (suc (suc (suc (suc (suc (suc (suc (suc (suc (suc (suc (suc d)))))))))))))))) h = absurd (omega (arith, h))
+pub looked_up : (d : ℕ) → d < 16 → get_or digit_bytes d 0 ≡ digit_byte_spec d
+unfolding digit_byte_spec
+looked_up zero h = refl
+looked_up (suc zero) h = refl
+looked_up (suc (suc zero)) h = refl
+looked_up (suc (suc (suc zero))) h = refl
+looked_up (suc (suc (suc (suc zero)))) h = refl
+looked_up (suc (suc (suc (suc (suc zero))))) h = refl
+looked_up (suc (suc (suc (suc (suc (suc zero)))))) h = refl
+looked_up (suc (suc (suc (suc (suc (suc (suc zero))))))) h = refl
+looked_up (suc (suc (suc (suc (suc (suc (suc (suc zero)))))))) h = refl
+looked_up (suc (suc (suc (suc (suc (suc (suc (suc (suc zero))))))))) h = refl
+looked_up (suc (suc (suc (suc (suc (suc (suc (suc (suc (suc zero)))))))))) h = refl
+looked_up (suc (suc (suc (suc (suc (suc (suc (suc (suc (suc (suc zero))))))))))) h = refl
+looked_up (suc (suc (suc (suc (suc (suc (suc (suc (suc (suc (suc (suc zero)))))))))))) h = refl
+looked_up (suc (suc (suc (suc (suc (suc (suc (suc (suc (suc (suc (suc (suc zero))))))))))))) h = refl
+looked_up (suc (suc (suc (suc (suc (suc (suc (suc (suc (suc (suc (suc (suc (suc zero)))))))))))))) h = refl
+looked_up (suc (suc (suc (suc (suc (suc (suc (suc (suc (suc (suc (suc (suc (suc (suc zero))))))))))))))) h = refl
+looked_up (suc (suc (suc (suc (suc (suc (suc (suc (suc (suc (suc (suc (suc (suc (suc (suc d)))))))))))))))) h = absurd (omega (arith, h))

@@ -3,15 +3,15 @@
 // those of the book's numbers say where the next byte goes.
 ghost use Rattle.std.specs.Prelude.{◌≡◌, ◌+◌, ◌≤◌, ◌<◌, length};
 ghost use Rattle.std.proofs.lemmas.List.Edits.{sets};
-ghost use Rattle.numerals.specs.Numeral.{identifierDigits};
-ghost use Rattle.numerals.specs.Written.{digitByte, digitsOf, identifierText, decimalWidth, decimalLimit, decimalText};
+ghost use Rattle.numerals.specs.Numeral.{identifier_digits};
+ghost use Rattle.numerals.specs.Written.{digit_byte_spec, digits_of_spec, identifier_text, decimal_width_spec, decimal_limit, decimal_text};
 ghost use Rattle.writing.specs.DigitRoom.{DigitRoom};
 
 use numerals::IDENTIFIER_DIGITS;
 
 fn digit_byte(d: u64) -> u8
     requires { d < 16 }
-    ensures { result ≡ digitByte d }
+    ensures { result ≡ digit_byte_spec d }
 {
     if d < 10 {
         return 48 + (d as u8);
@@ -22,7 +22,7 @@ fn digit_byte(d: u64) -> u8
 // k digits of n in a base, at a place of out; the lowest is written first.
 pub fn put_digits(out: &mut [u8], at: usize, k: usize, n: u64, base: u64)
     requires { DigitRoom out.old at k n base }
-    ensures { out.new ≡ sets out.old at (digitsOf base k n) }
+    ensures { out.new ≡ sets out.old at (digits_of_spec base k n) }
 {
     let mut j: usize = k;
     let mut m: u64 = n;
@@ -36,7 +36,7 @@ pub fn put_digits(out: &mut [u8], at: usize, k: usize, n: u64, base: u64)
 // k digits 0-9 A-F of n, by a look-up: it costs less than put_digits where there are many digits, and more where there are few.
 pub fn put_hexadecimals(out: &mut [u8], at: usize, k: usize, n: u64)
     requires { DigitRoom out.old at k n 16 }
-    ensures { out.new ≡ sets out.old at (digitsOf 16 k n) }
+    ensures { out.new ≡ sets out.old at (digits_of_spec 16 k n) }
 {
     let bytes = *b"0123456789ABCDEF";
     let mut j: usize = k;
@@ -49,8 +49,8 @@ pub fn put_hexadecimals(out: &mut [u8], at: usize, k: usize, n: u64)
 }
 
 pub fn put_identifier(out: &mut [u8], at: usize, n: u32) -> usize
-    requires { at + identifierDigits ≤ length out.old }
-    ensures { (result ≡ at + identifierDigits) × (out.new ≡ sets out.old at (identifierText n)) }
+    requires { at + identifier_digits ≤ length out.old }
+    ensures { (result ≡ at + identifier_digits) × (out.new ≡ sets out.old at (identifier_text n)) }
 {
     put_digits(&mut *out, at, IDENTIFIER_DIGITS, n as u64, 16);
     at + IDENTIFIER_DIGITS
@@ -58,7 +58,7 @@ pub fn put_identifier(out: &mut [u8], at: usize, n: u32) -> usize
 
 // How many decimal digits a number has that a book can write; 5 for every larger one.
 pub fn decimal_width(n: u32) -> usize
-    ensures { result ≡ decimalWidth n }
+    ensures { result ≡ decimal_width_spec n }
 {
     if n < 10 {
         return 1;
@@ -76,8 +76,8 @@ pub fn decimal_width(n: u32) -> usize
 }
 
 pub fn put_decimal(out: &mut [u8], at: usize, n: u32) -> usize
-    requires { (n < decimalLimit) × (at + decimalWidth n ≤ length out.old) }
-    ensures { (result ≡ at + decimalWidth n) × (out.new ≡ sets out.old at (decimalText n)) }
+    requires { (n < decimal_limit) × (at + decimal_width_spec n ≤ length out.old) }
+    ensures { (result ≡ at + decimal_width_spec n) × (out.new ≡ sets out.old at (decimal_text n)) }
 {
     let width = decimal_width(n);
     put_digits(&mut *out, at, width, n as u64, 10);

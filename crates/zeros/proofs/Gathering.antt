@@ -12,45 +12,45 @@ use lib.Seq.{drop-cons, drop-drop, take_all}
 use borrow.Author.Tests.{ne_eqb}
 use Rattle.zeros.specs.Zeros.{zeros}
 
-or-zero : (a b : ℕ) → eqb (bit_or a b) 0 ≡ eqb a 0 && eqb b 0
-or-zero zero b = rw or_zero_l
-or-zero (suc a) b =
+or_zero_law : (a b : ℕ) → eqb (bit_or a b) 0 ≡ eqb a 0 && eqb b 0
+or_zero_law zero b = rw or_zero_l
+or_zero_law (suc a) b =
     ne_eqb (bit_or (suc a) b) 0 (λ e. omega (arith, or_add_and (suc a) b, and_le_r (suc a) b))
     ∙ ap (λ (t : Bool). t && eqb b 0) (sym (ne_eqb (suc a) 0 (λ e. omega arith)))
 
 -- entries that are all 0 are 0, as often as there are entries
-pub zeros-are : (l : List ℕ) → zeros l ≡ true → l ≡ replicate (length l) 0
+pub zeros_are : (l : List ℕ) → zeros l ≡ true → l ≡ replicate (length l) 0
 unfolding zeros
-zeros-are [] e = refl
-zeros-are (zero ∷ l) e = ap (λ (t : List ℕ). 0 ∷ t) (zeros-are l e)
-zeros-are (suc x ∷ l) e = absurd (false≢true (ap (λ (t : Bool). t && zeros l) (sym (ne_eqb (suc x) 0 (λ z. omega arith))) ∙ e))
+zeros_are [] e = refl
+zeros_are (zero ∷ l) e = ap (λ (t : List ℕ). 0 ∷ t) (zeros_are l e)
+zeros_are (suc x ∷ l) e = absurd (false≢true (ap (λ (t : Bool). t && zeros l) (sym (ne_eqb (suc x) 0 (λ z. omega arith))) ∙ e))
 
-pub are-zeros : (n : ℕ) → zeros (replicate n 0) ≡ true
+pub are_zeros : (n : ℕ) → zeros (replicate n 0) ≡ true
 unfolding zeros
-are-zeros zero = refl
-are-zeros (suc n) = are-zeros n
+are_zeros zero = refl
+are_zeros (suc n) = are_zeros n
 
 -- each of them is 0, and so is what stands past them
-pub zero-at : (n i : ℕ) → get_or {A = ℕ} (replicate n 0) i 0 ≡ 0
-zero-at zero i = refl
-zero-at (suc n) zero = refl
-zero-at (suc n) (suc i) = zero-at n i
+pub zero_at : (n i : ℕ) → get_or {A = ℕ} (replicate n 0) i 0 ≡ 0
+zero_at zero i = refl
+zero_at (suc n) zero = refl
+zero_at (suc n) (suc i) = zero_at n i
 
 -- the same over two lists in step
-and-swap : (a b c d : Bool) → (a && b) && (c && d) ≡ (a && c) && (b && d)
-and-swap true true c d = refl
-and-swap true false true d = refl
-and-swap true false false d = refl
-and-swap false b c d = refl
+and_swap : (a b c d : Bool) → (a && b) && (c && d) ≡ (a && c) && (b && d)
+and_swap true true c d = refl
+and_swap true false true d = refl
+and_swap true false false d = refl
+and_swap false b c d = refl
 
-both-step : (l m : List ℕ) (i a : ℕ) → length m ≡ length l → i < length l
+both_step : (l m : List ℕ) (i a : ℕ) → length m ≡ length l → i < length l
     → eqb (bit_or (bit_or a (get_or l i 0)) (get_or m i 0)) 0 && (zeros (drop (i + 1) l) && zeros (drop (i + 1) m)) ≡ eqb a 0 && (zeros (drop i l) && zeros (drop i m))
 unfolding zeros
-both-step l m i a e h =
+both_step l m i a e h =
     let g : i < length m = omega (arith, e, h) in
-    rw (drop-cons l i 0 h, drop-cons m i 0 g, or-zero, add-one i)
-    (ap (λ (t : Bool). (t && eqb (get_or m i 0) 0) && (zeros (drop (suc i) l) && zeros (drop (suc i) m))) (or-zero a (get_or l i 0))
-    ∙ and-swap (eqb a 0 && eqb (get_or l i 0) 0) (eqb (get_or m i 0) 0) (zeros (drop (suc i) l)) (zeros (drop (suc i) m))
+    rw (drop-cons l i 0 h, drop-cons m i 0 g, or_zero_law, add-one i)
+    (ap (λ (t : Bool). (t && eqb (get_or m i 0) 0) && (zeros (drop (suc i) l) && zeros (drop (suc i) m))) (or_zero_law a (get_or l i 0))
+    ∙ and_swap (eqb a 0 && eqb (get_or l i 0) 0) (eqb (get_or m i 0) 0) (zeros (drop (suc i) l)) (zeros (drop (suc i) m))
     ∙ spread (eqb a 0) (eqb (get_or l i 0) 0) (zeros (drop (suc i) l)) (eqb (get_or m i 0) 0 && zeros (drop (suc i) m)))
   where
     spread : (p q r s : Bool) → ((p && q) && r) && s ≡ p && ((q && r) && s)
@@ -58,32 +58,32 @@ both-step l m i a e h =
     spread false q r s = refl
 
 -- and over four
-and-turn : (p q r : Bool) → p && (q && r) ≡ (p && r) && q
-and-turn true true true = refl
-and-turn true true false = refl
-and-turn true false true = refl
-and-turn true false false = refl
-and-turn false q r = refl
+and_turn : (p q r : Bool) → p && (q && r) ≡ (p && r) && q
+and_turn true true true = refl
+and_turn true true false = refl
+and_turn true false true = refl
+and_turn true false false = refl
+and_turn false q r = refl
 
 module _ (a b c d : List ℕ) (same : (length b ≡ length a) × (length c ≡ length a) × (length d ≡ length a)) where
-  pub four-step : (i x : ℕ) → i < length a
+  pub four_step : (i x : ℕ) → i < length a
       → eqb (bit_or (bit_or (bit_or (bit_or x (get_or a i 0)) (get_or b i 0)) (get_or c i 0)) (get_or d i 0)) 0 && ((zeros (drop (i + 1) a) && zeros (drop (i + 1) b)) && (zeros (drop (i + 1) c) && zeros (drop (i + 1) d)))
       ≡ eqb x 0 && ((zeros (drop i a) && zeros (drop i b)) && (zeros (drop i c) && zeros (drop i d)))
-  four-step i x h =
+  four_step i x h =
       let y = bit_or (bit_or x (get_or a i 0)) (get_or b i 0) in
       let first = zeros (drop (i + 1) a) && zeros (drop (i + 1) b) in
       let second = zeros (drop i c) && zeros (drop i d) in
       let g : i < length c = omega (arith, same.1, h) in
-      and-turn (eqb (bit_or (bit_or y (get_or c i 0)) (get_or d i 0)) 0) first (zeros (drop (i + 1) c) && zeros (drop (i + 1) d))
-      ∙ ap (λ (t : Bool). t && first) (both-step c d i y (omega (arith, same.1, same.2)) g)
-      ∙ sym (and-turn (eqb y 0) first second)
+      and_turn (eqb (bit_or (bit_or y (get_or c i 0)) (get_or d i 0)) 0) first (zeros (drop (i + 1) c) && zeros (drop (i + 1) d))
+      ∙ ap (λ (t : Bool). t && first) (both_step c d i y (omega (arith, same.1, same.2)) g)
+      ∙ sym (and_turn (eqb y 0) first second)
       ∙ sym (and_assoc (eqb y 0) first second)
-      ∙ ap (λ (t : Bool). t && second) (both-step a b i x same.0 h)
+      ∙ ap (λ (t : Bool). t && second) (both_step a b i x same.0 h)
       ∙ and_assoc (eqb x 0) (zeros (drop i a) && zeros (drop i b)) second
 
-  pub four-end : (i x : ℕ) → length a ≤ i → eqb x 0 && ((zeros (drop i a) && zeros (drop i b)) && (zeros (drop i c) && zeros (drop i d))) ≡ eqb x 0
+  pub four_end : (i x : ℕ) → length a ≤ i → eqb x 0 && ((zeros (drop i a) && zeros (drop i b)) && (zeros (drop i c) && zeros (drop i d))) ≡ eqb x 0
   unfolding zeros
-  four-end i x h =
+  four_end i x h =
       let hb : length b ≤ i = omega (arith, same.0, h) in
       let hc : length c ≤ i = omega (arith, same.1, h) in
       let hd : length d ≤ i = omega (arith, same.2, h) in
@@ -100,12 +100,12 @@ again (suc g) (x ∷ l) = go (eqb x 0) (again g l)
     go true later = later
     go false later = refl
 
-two-parts : (g k : ℕ) (l : List ℕ) → k ≤ g → zeros (take g l) && zeros (drop k l) ≡ zeros l
+two_parts : (g k : ℕ) (l : List ℕ) → k ≤ g → zeros (take g l) && zeros (drop k l) ≡ zeros l
 unfolding zeros
-two-parts g zero l h = again g l
-two-parts zero (suc k) l h = absurd (omega arith)
-two-parts (suc g) (suc k) [] h = refl
-two-parts (suc g) (suc k) (x ∷ l) h = go (eqb x 0) (two-parts g k l (omega (arith, h)))
+two_parts g zero l h = again g l
+two_parts zero (suc k) l h = absurd (omega arith)
+two_parts (suc g) (suc k) [] h = refl
+two_parts (suc g) (suc k) (x ∷ l) h = go (eqb x 0) (two_parts g k l (omega (arith, h)))
   where
     go : (t : Bool) → zeros (take g l) && zeros (drop k l) ≡ zeros l → (t && zeros (take g l)) && zeros (drop k l) ≡ t && zeros l
     go true later = later
@@ -122,7 +122,7 @@ halves l n half end last h eh ee el =
     let later : drop last l ≡ drop (last - n) (drop n l) = sym (drop-drop (last - n) n l ∙ ap (λ (j : ℕ). drop j l) b) in
     ap (λ (j : ℕ). zeros (take j (drop n l)) && zeros (take (length l - last) (drop last l))) a
     ∙ ap (λ (m : List ℕ). zeros (take half (drop n l)) && zeros m) (whole ∙ later)
-    ∙ two-parts half (last - n) (drop n l) k
+    ∙ two_parts half (last - n) (drop n l) k
 
 abbrev pub half : List ℕ → ℕ → ℕ
 half l n = (length l - n + 1) / 2

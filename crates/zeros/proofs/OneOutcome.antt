@@ -13,10 +13,10 @@ use contract.Lifetimes.{Lfts}
 use contract.Monad.{Fun}
 use denote.Ref.{Bor}
 use denote.Triple.Clauses.{AtExit}
-use Rattle.only.specs.Only.{Only, only-this}
+use Rattle.only.specs.Only.{Only, only_this}
 use Rattle.zeros.specs.Zeros.{zeros}
 use Rattle.zeros.specs.contracts.four_zero as four-zero
 
 module _ {M : Type 1} {𝓤 : Ura M} (𝓛 : Logic 𝓤) (mem : Memory → SProp 𝓤) (run : Routine → Fun 𝓤) where
-  pub one-four-zero : (κs : Lfts 4) (one two three four : Bor (List ℕ)) (e : AtExit four-zero.ended κs) → Only 𝓤 (λ r. (four-zero.clauses 𝓛 mem run κs (one, (two, (three, (four, tt))))).ensures tt r e)
-  one-four-zero κs one two three four e = only-this 𝓤 _ coded_bool ((zeros one.now && zeros two.now) && (zeros three.now && zeros four.now)) (λ r. refl)
+  pub one_four_zero : (κs : Lfts 4) (one two three four : Bor (List ℕ)) (e : AtExit four-zero.ended κs) → Only 𝓤 (λ r. (four-zero.clauses 𝓛 mem run κs (one, (two, (three, (four, tt))))).ensures tt r e)
+  one_four_zero κs one two three four e = only_this 𝓤 _ coded_bool ((zeros one.now && zeros two.now) && (zeros three.now && zeros four.now)) (λ r. refl)

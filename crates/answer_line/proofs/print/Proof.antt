@@ -1,4 +1,4 @@
-use Rattle.answer_line.proofs.Pieces.{no_room, taken-printed, refused-printed}
+use Rattle.answer_line.proofs.Pieces.{no_room, taken_printed, refused_printed}
 -- `answer_line::print` meets its contract: the answer says which line it is. Assumes nothing.
 use borrow.Author.Rules.{rules}
 use Rattle.answer_line.proofs.print.Statement.{statement}
@@ -31,13 +31,13 @@ same_length : tie.Need-same-length
 same_length c = search rules
 
 returns-2 : tie.Need-returns-2
-returns-2 c = taken-printed c.before.before.before.before.before.before.before.if1.false _ _ _ c.before.before.before.before.before.answer.given.1 c.before.before.put-taken.ensures
+returns-2 c = taken_printed c.before.before.before.before.before.before.before.if1.false _ _ _ c.before.before.before.before.before.answer.given.1 c.before.before.put-taken.ensures
 
 same-length-2 : tie.Need-same-length-2
 same-length-2 c = search rules
 
 returns-3 : tie.Need-returns-3
-returns-3 c = refused-printed c.before.before.before.before.before.before.before.before.if1.false _ _ c.before.before.before.before.before.before.answer2.given.1 c.before.before.before.number.ensures c.before.before.Put-refused.ensures
+returns-3 c = refused_printed c.before.before.before.before.before.before.before.before.if1.false _ _ c.before.before.before.before.before.before.answer2.given.1 c.before.before.before.number.ensures c.before.before.Put-refused.ensures
 
 pub print-spec : {M : Type 1} → statement M
 print-spec =

@@ -1,7 +1,7 @@
 -- `bits::bytes_added` meets its contract: each byte is that of the frame.
 -- Assumes nothing.
 use native.Mathlib.Omega.{arith}
-use Rattle.bits.specs.Word.{bytesFrom}
+use Rattle.bits.specs.Word.{bytes_from}
 use borrow.Author.Rules.{rules}
 use Rattle.bits.proofs.bytes_added.Statement.{statement}
 use Rattle.bits.proofs.bytes_added.Tie as tie
@@ -76,7 +76,7 @@ add-result-7 : tie.Need-overflow-add-result-7
 add-result-7 c = search rules
 
 returns : tie.Need-returns
-unfolding bytesFrom
+unfolding bytes_from
 returns c = (cc, omega arith)
 
 pub bytes-added-spec : {M : Type 1} → statement M

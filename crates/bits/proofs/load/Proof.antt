@@ -1,7 +1,7 @@
 -- `bits::load` meets its contract: no sum wraps, and the nested sum is the number that word_of spells out.
 -- Assumes nothing.
 use native.Mathlib.Omega.{arith}
-use Rattle.bits.specs.Word.{word_of, wordFrom}
+use Rattle.bits.specs.Word.{word_of, word_from}
 use borrow.Author.Rules.{rules}
 use Rattle.bits.proofs.load.Statement.{statement}
 use Rattle.bits.proofs.load.Tie as tie
@@ -97,7 +97,7 @@ add-result-7 : tie.Need-overflow-add-result-7
 add-result-7 c = search rules
 
 returns : tie.Need-returns
-unfolding word_of wordFrom
+unfolding word_of word_from
 returns c = omega arith
 
 pub load_spec : {M : Type 1} → statement M

@@ -4,7 +4,7 @@ use Prim.Native.Nat.{ℕ, ◌<◌, ◌≤◌, ◌+◌, ◌-◌, ◌%◌, ◌^◌
 use native.Mathlib.Omega.{arith}
 use lib.Pow.{shl_exact}
 use Rattle.bits.specs.Word.{field_of, placed, Fits}
-use Rattle.bits.proofs.Placing.{field_lt, field-le, placed-lt}
+use Rattle.bits.proofs.Placing.{field_lt, field_le, placed_lt}
 use borrow.Author.Rules.{rules}
 use Rattle.bits.proofs.place.Statement.{statement}
 use Rattle.bits.proofs.place.Tie as tie
@@ -34,7 +34,7 @@ shl-result : tie.Need-overflow-shl-result
 shl-result c = search rules
 
 sub-result : tie.Need-overflow-sub-result
-sub-result c = let a = c.before.before.args in subst⁻¹ (λ (m : ℕ). m ≤ a.word) (old-shifted a.word c.before.before.requires.0 (c.wide-count.ensures ∙ c.before.take.ensures)) (field-le a.word a.start a.bits)
+sub-result c = let a = c.before.before.args in subst⁻¹ (λ (m : ℕ). m ≤ a.word) (old-shifted a.word c.before.before.requires.0 (c.wide-count.ensures ∙ c.before.take.ensures)) (field_le a.word a.start a.bits)
 
 wide-count-requires-2 : tie.Need-wide-count-requires-2
 wide-count-requires-2 c κs = search rules
@@ -46,7 +46,7 @@ add-result : tie.Need-overflow-add-result
 add-result c =
     let a = c.before.before.before.args in
     let p = c.before.before.before.requires in
-    let h : placed a.word a.start a.bits a.count < 2 ^ 64 = placed-lt a.word a.start a.bits a.count p.1 64 (omega arith) (omega arith) in
+    let h : placed a.word a.start a.bits a.count < 2 ^ 64 = placed_lt a.word a.start a.bits a.count p.1 64 (omega arith) (omega arith) in
     record { fits = subst⁻¹ (λ (m : ℕ). m < 2 ^ 64) (put a.word p.0 p.1 (c.before.wide-count.ensures ∙ c.before.before.take.ensures) c.wide-count2.ensures) h }
 
 returns : tie.Need-returns

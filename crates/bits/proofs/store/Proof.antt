@@ -4,8 +4,8 @@ use mathlib.Core.Path.{◌∙◌}
 use mathlib.Core.List.{[], ◌∷◌}
 use native.Mathlib.Omega.{arith}
 use lib.ListN.{length-set}
-use Rattle.bits.specs.Word.{bytesFrom}
-use Rattle.bits.proofs.Weights.{sets-all}
+use Rattle.bits.specs.Word.{bytes_from}
+use Rattle.bits.proofs.Weights.{sets_all}
 use borrow.Author.Rules.{rules}
 use Rattle.bits.proofs.store.Statement.{statement}
 use Rattle.bits.proofs.store.Tie as tie
@@ -62,8 +62,8 @@ same_length : tie.Need-same-length
 same_length c = search rules
 
 returns : tie.Need-returns
-unfolding bytesFrom
-returns c = sets-all (c.before.before.before.before.before.before.before.low.result ∷ c.before.before.before.before.before.before.low2.result ∷ c.before.before.before.before.before.low3.result ∷ c.before.before.before.before.low4.result ∷ c.before.before.before.low5.result ∷ c.before.before.low6.result ∷ c.before.low7.result ∷ c.low8.result ∷ []) c.before.before.before.before.before.before.before.before.before.args.frame.now (omega arith) ∙ cc
+unfolding bytes_from
+returns c = sets_all (c.before.before.before.before.before.before.before.low.result ∷ c.before.before.before.before.before.before.low2.result ∷ c.before.before.before.before.before.low3.result ∷ c.before.before.before.before.low4.result ∷ c.before.before.before.low5.result ∷ c.before.before.low6.result ∷ c.before.low7.result ∷ c.low8.result ∷ []) c.before.before.before.before.before.before.before.before.before.args.frame.now (omega arith) ∙ cc
 
 pub store_spec : {M : Type 1} → statement M
 store_spec =

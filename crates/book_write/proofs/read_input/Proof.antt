@@ -3,12 +3,12 @@ use borrow.Author.Rules.{rules}
 use mathlib.Core.Path.{◌≡◌}
 use Prim.Native.Nat.{suc, ◌-◌, ◌≤◌}
 use lib.ListN.{length}
-use Rattle.record.specs.Limits.{textLimit}
+use Rattle.record.specs.Limits.{text_limit}
 use Rattle.book_write.proofs.read_input.Statement.{statement}
 use Rattle.book_write.proofs.read_input.Tie as tie
 
 abbrev invariant-loop : tie.invariant-loop
-invariant-loop text₀ size₀ text size = ((size ≤ length text) × (length text ≡ length text₀)) × (length text ≡ suc textLimit)
+invariant-loop text₀ size₀ text size = ((size ≤ length text) × (length text ≡ length text₀)) × (length text ≡ suc text_limit)
 
 abbrev decreases-loop : tie.decreases-loop
 decreases-loop text₀ size₀ text size = length text - size

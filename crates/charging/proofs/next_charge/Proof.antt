@@ -6,7 +6,7 @@ use native.Mathlib.Numerals.{unary_clauses}
 use native.Mathlib.Omega.{arith}
 use borrow.Author.Tests.{not-true, not-false}
 use Rattle.charging.specs.declared.ChargeState.TheVariants.{Start, Fault}
-use Rattle.charging.proofs.Next.{welded, is-fault, as_step, as-fault}
+use Rattle.charging.proofs.Next.{welded, is_fault, as_step, as_fault}
 use borrow.Author.Rules.{rules}
 use Rattle.charging.proofs.next_charge.Statement.{statement}
 use Rattle.charging.proofs.next_charge.Tie as tie
@@ -43,14 +43,14 @@ is-unplugged-requires c κs = search rules
 -- the state kept comes before the start: where ready is taken for fault, this is the return that is wrong
 returns-4 : tie.Need-returns-4
 returns-4 c =
-    is-fault c.before.before.before.before.before.before.args.state c.before.before.before.number.ensures c.before.before.if2.false
+    is_fault c.before.before.before.before.before.before.args.state c.before.before.before.number.ensures c.before.before.if2.false
     ∙ ap (λ (out : Bool). cond out Start Fault) (sym c.if3.false ∙ c.before.is-unplugged.ensures)
-    ∙ sym (as-fault _ (sym c.before.before.before.before.before.none-welded.ensures ∙ not-false _ c.before.before.before.before.if1.false) c.before.before.before.before.before.before.args.state c.before.before.before.number.ensures c.before.before.if2.false)
+    ∙ sym (as_fault _ (sym c.before.before.before.before.before.none-welded.ensures ∙ not-false _ c.before.before.before.before.if1.false) c.before.before.before.before.before.before.args.state c.before.before.before.number.ensures c.before.before.if2.false)
 
 returns-3 : tie.Need-returns-3
 returns-3 c =
     ap (λ (out : Bool). cond out Start Fault) (sym c.if3.true ∙ c.before.is-unplugged.ensures)
-    ∙ sym (as-fault _ (sym c.before.before.before.before.before.none-welded.ensures ∙ not-false _ c.before.before.before.before.if1.false) c.before.before.before.before.before.before.args.state c.before.before.before.number.ensures c.before.before.if2.false)
+    ∙ sym (as_fault _ (sym c.before.before.before.before.before.none-welded.ensures ∙ not-false _ c.before.before.before.before.if1.false) c.before.before.before.before.before.before.args.state c.before.before.before.number.ensures c.before.before.if2.false)
 
 pub next-charge-spec : {M : Type 1} → statement M
 next-charge-spec =

@@ -5,7 +5,7 @@ use native.Mathlib.Omega.{arith}
 use lib.Arith.{lt_of_le-ne}
 use lib.ListN.{get_or-eq_default}
 use Rattle.charging.specs.declared.ChargeState.TheVariants.{Fault}
-use Rattle.charging.specs.States.{chargeSteps}
+use Rattle.charging.specs.States.{charge_steps}
 use Rattle.charging.proofs.step_with.Statement.{statement}
 use Rattle.charging.proofs.step_with.Tie as tie
 
@@ -19,7 +19,7 @@ beyond zero x r = omega arith
 beyond (suc n) x r = lt_of_le-ne (beyond n x r.0) (λ e. r.1 (sym e))
 
 none_left : tie.Need-returns-8
-none_left c = sym (get_or-eq_default chargeSteps Fault (beyond 7 c.before.args.n c.match.rest))
+none_left c = sym (get_or-eq_default charge_steps Fault (beyond 7 c.before.args.n c.match.rest))
 
 pub step-with-spec : {M : Type 1} → statement M
 step-with-spec =

@@ -1,6 +1,6 @@
 -- `columns::begin` meets its contract: the signals of a message begin where those before it end. Assumes nothing.
 use mathlib.Core.Path.{◌∙◌}
-use Rattle.columns.proofs.Searching.{one-before}
+use Rattle.columns.proofs.Searching.{one_before}
 use borrow.Author.Rules.{rules}
 use Rattle.columns.proofs.begin.Statement.{statement}
 use Rattle.columns.proofs.begin.Tie as tie
@@ -21,7 +21,7 @@ wide-requires : tie.Need-wide-requires
 wide-requires c κs = search rules
 
 returns-2 : tie.Need-returns-2
-returns-2 c = c.wide.ensures ∙ one-before c.before.before.before.before.args.ends.now c.before.before.before.before.args.at c.before.before.if1.false
+returns-2 c = c.wide.ensures ∙ one_before c.before.before.before.before.args.ends.now c.before.before.before.before.args.at c.before.before.if1.false
 
 pub begin-spec : {M : Type 1} → statement M
 begin-spec =

@@ -7,8 +7,8 @@ use mir.Syntax.{w64}
 use mir.Val.{to_z, of_z}
 use mir.ValLaws.{to_z-of_z}
 use borrow.Author.Rules.{rules}
-use Rattle.doubles.specs.Doubles.{doubleOf, inUnits}
-use Rattle.doubles.proofs.Doubles.{cast_fits, as-coded}
+use Rattle.doubles.specs.Doubles.{double_of, in_units_spec}
+use Rattle.doubles.proofs.Doubles.{cast_fits, as_coded}
 use Rattle.doubles.proofs.in_units.Statement.{statement}
 use Rattle.doubles.proofs.in_units.Tie as tie
 
@@ -20,10 +20,10 @@ int-to-float-result : tie.Need-int-to-float-result
 int-to-float-result c = subst⁻¹ (λ (z : ℤ). T (in_float binary64 z)) (back c) (cast_fits c.before.before.args.reading.0 c.before.before.requires)
 
 returns : tie.Need-returns
-unfolding inUnits
+unfolding in_units_spec
 returns c =
     ap (λ (z : ℤ). div binary64 (of_int binary64 z) (of_bits binary64 0x408f_4000_0000_0000)) (back c)
-    ∙ ap (div binary64 (doubleOf c.before.before.args.reading.0)) as-coded
+    ∙ ap (div binary64 (double_of c.before.before.args.reading.0)) as_coded
 
 pub in-units-spec : {M : Type 1} → statement M
 in-units-spec = tie.close (tie.spec int-to-float-result returns)

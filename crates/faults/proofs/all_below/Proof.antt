@@ -3,15 +3,15 @@ use Prim.Native.Nat.{◌+◌, ◌-◌, ◌≤◌}
 use mathlib.Core.Path.{◌≡◌, refl}
 use mathlib.Core.Bool.{◌&&◌}
 use borrow.Author.Rules.{rules}
-use Rattle.faults.specs.Rows.{rowsBetween}
-use Rattle.faults.specs.Counts.{rawBelow, all_of}
-use Rattle.faults.proofs.Loops.{all-next, all_end}
+use Rattle.faults.specs.Rows.{rows_between}
+use Rattle.faults.specs.Counts.{raw_below, all_of}
+use Rattle.faults.proofs.Loops.{all_next, all_end}
 use Rattle.faults.proofs.all_below.Statement.{statement}
 use Rattle.faults.proofs.all_below.Tie as tie
 
 abbrev invariant-loop : tie.invariant-loop
 invariant-loop counts from to limit all₀ row₀ all row =
-    (from ≤ row) × (all && all_of (rawBelow counts limit) (rowsBetween row to) ≡ all_of (rawBelow counts limit) (rowsBetween from to))
+    (from ≤ row) × (all && all_of (raw_below counts limit) (rows_between row to) ≡ all_of (raw_below counts limit) (rows_between from to))
 
 abbrev decreases-loop : tie.decreases-loop
 decreases-loop counts from to limit all₀ row₀ all row = to + 1 - row
@@ -31,12 +31,12 @@ loop-less c = search rules
 loop-again : tie.Need-loop-preserved invariant-loop decreases-loop
 loop-again c = (
   search rules,
-  all-next _ _ (search rules) (rawBelow c.before.before.before.before.args.counts.now c.before.before.before.before.args.limit) c.before.before.loop.all _ _
+  all_next _ _ (search rules) (raw_below c.before.before.before.before.args.counts.now c.before.before.before.before.args.limit) c.before.before.loop.all _ _
       c.before.before.loop.invariant.1 c.is_below.ensures,
 )
 
 returns : tie.Need-returns invariant-loop decreases-loop
-returns c = all_end _ _ (search rules) (rawBelow c.before.before.before.args.counts.now c.before.before.before.args.limit) _ _ c.before.loop.invariant.1
+returns c = all_end _ _ (search rules) (raw_below c.before.before.before.args.counts.now c.before.before.before.args.limit) _ _ c.before.loop.invariant.1
 
 pub all-below-spec : {M : Type 1} → statement M
 all-below-spec =

@@ -6,7 +6,7 @@ use Rattle.faults.proofs.all_fit.Tie as tie
 
 returns : tie.Need-returns
 returns c =
-    simp (Widths.all-fit, c.all-below6.ensures, c.before.all-below5.ensures, c.before.before.all-below4.ensures, c.before.before.before.all-below3.ensures, c.before.before.before.before.all-below2.ensures, c.before.before.before.before.before.all-below.ensures)
+    simp (Widths.all_fit, c.all-below6.ensures, c.before.all-below5.ensures, c.before.before.all-below4.ensures, c.before.before.before.all-below3.ensures, c.before.before.before.before.all-below2.ensures, c.before.before.before.before.before.all_below.ensures)
 
 pub all-fit-spec : {M : Type 1} → statement M
 all-fit-spec =

@@ -2,15 +2,15 @@
 use Prim.Native.Nat.{◌+◌, ◌-◌, ◌≤◌}
 use mathlib.Core.Path.{◌≡◌, ◌∙◌}
 use borrow.Author.Rules.{rules}
-use Rattle.faults.specs.Rows.{rowCount, rowsBetween}
-use Rattle.faults.specs.Counts.{standsAt, howMany}
-use Rattle.faults.proofs.Loops.{many-next, many-end}
+use Rattle.faults.specs.Rows.{row_count, rows_between}
+use Rattle.faults.specs.Counts.{stands_at_spec, how_many_spec}
+use Rattle.faults.proofs.Loops.{many_next, many_end}
 use Rattle.faults.proofs.how_many.Statement.{statement}
 use Rattle.faults.proofs.how_many.Tie as tie
 
 abbrev invariant-loop : tie.invariant-loop
 invariant-loop counts from to wanted n₀ row₀ n row =
-    ((from ≤ row) × ((n ≤ row - from) × (n ≤ rowCount))) × (n + howMany (standsAt counts wanted) (rowsBetween row to) ≡ howMany (standsAt counts wanted) (rowsBetween from to))
+    ((from ≤ row) × ((n ≤ row - from) × (n ≤ row_count))) × (n + how_many_spec (stands_at_spec counts wanted) (rows_between row to) ≡ how_many_spec (stands_at_spec counts wanted) (rows_between from to))
 
 abbrev decreases-loop : tie.decreases-loop
 decreases-loop counts from to wanted n₀ row₀ n row = to + 1 - row
@@ -36,13 +36,13 @@ loop-less c = search rules
 loop-again : tie.Need-loop-preserved invariant-loop decreases-loop
 loop-again c = (
   search rules,
-  many-next _ _ (search rules) (standsAt c.before.before.before.before.before.args.counts.now c.before.before.before.before.before.args.wanted) _ _ _
+  many_next _ _ (search rules) (stands_at_spec c.before.before.before.before.before.args.counts.now c.before.before.before.before.before.args.wanted) _ _ _
       c.before.before.before.loop.invariant.1 (c.one-if.ensures.0 ∙ simp c.before.stands_at.ensures),
 )
 
 returns : tie.Need-returns invariant-loop decreases-loop
 returns c =
-    (many-end _ _ (search rules) (standsAt c.before.before.before.args.counts.now c.before.before.before.args.wanted) _ _ c.before.loop.invariant.1, search rules)
+    (many_end _ _ (search rules) (stands_at_spec c.before.before.before.args.counts.now c.before.before.before.args.wanted) _ _ c.before.loop.invariant.1, search rules)
 
 pub how-many-spec : {M : Type 1} → statement M
 how-many-spec =

@@ -3,7 +3,7 @@ use borrow.Author.Rules.{rules}
 use Prim.Native.Nat.{◌-◌}
 use native.Mathlib.Omega.{arith}
 use lib.ListN.{length}
-use Rattle.fields.proofs.Run.{Passed, none_passed, small, no_stop, empty-field, one-digit, zero-first, all_digits, six-digits, no_digit, one-passed}
+use Rattle.fields.proofs.Run.{Passed, none_passed, small, no_stop, empty_field, one_digit, zero_first, all_digits, six_digits, no_digit, one_passed}
 use Rattle.fields.proofs.decimal_before.Statement.{statement}
 use Rattle.fields.proofs.decimal_before.Tie as tie
 use Rattle.fields.proofs.decimal_before.Reads as reads
@@ -23,19 +23,19 @@ shared-slice-read-b : tie.Need-shared-slice-read-b invariant-loop decreases-loop
 shared-slice-read-b c = search rules
 
 returns : tie.Need-returns invariant-loop decreases-loop
-returns c = empty-field c.before.before.before.before.loop.invariant c.before.before.before.loop-test.true c.before.if1.true c.if2.true
+returns c = empty_field c.before.before.before.before.loop.invariant c.before.before.before.loop-test.true c.before.if1.true c.if2.true
 
 cast-t12 : tie.Need-overflow-cast-t12 invariant-loop decreases-loop
 cast-t12 c = omega (arith, small c.before.before.before.before.before.loop.invariant)
 
 returns-2 : tie.Need-returns-2 invariant-loop decreases-loop
-returns-2 c = one-digit c.before.before.before.before.before.loop.invariant c.before.before.before.before.loop-test.true c.before.before.if1.true c.if3.true
+returns-2 c = one_digit c.before.before.before.before.before.loop.invariant c.before.before.before.before.loop-test.true c.before.before.if1.true c.if3.true
 
 shared-slice-read-if4 : tie.Need-shared-slice-read-if4 invariant-loop decreases-loop
 shared-slice-read-if4 c = search rules
 
 returns-3 : tie.Need-returns-3 invariant-loop decreases-loop
-returns-3 c = zero-first c.before.before.before.before.before.before.before.loop.invariant c.before.before.before.before.before.before.loop-test.true c.before.before.before.before.if1.true c.before.before.before.if2.false c.before.before.if3.false c.if4.true
+returns-3 c = zero_first c.before.before.before.before.before.before.before.loop.invariant c.before.before.before.before.before.before.loop-test.true c.before.before.before.before.if1.true c.before.before.before.if2.false c.before.before.if3.false c.if4.true
 
 cast-t15 : tie.Need-overflow-cast-t15 invariant-loop decreases-loop
 cast-t15 c = omega (arith, small c.before.before.before.before.before.before.before.loop.invariant)
@@ -44,7 +44,7 @@ returns-4 : tie.Need-returns-4 invariant-loop decreases-loop
 returns-4 c = all_digits c.before.before.before.before.before.before.before.loop.invariant c.before.before.before.before.before.before.loop-test.true c.before.before.before.before.if1.true c.before.before.before.if2.false c.before.before.if3.false c.if4.false
 
 returns-5 : tie.Need-returns-5 invariant-loop decreases-loop
-returns-5 c = six-digits c.before.before.before.before.loop.invariant c.before.before.before.loop-test.true c.before.if1.false c.if5.true
+returns-5 c = six_digits c.before.before.before.before.loop.invariant c.before.before.before.loop-test.true c.before.if1.false c.if5.true
 
 digit-requires : tie.Need-digit-requires invariant-loop decreases-loop
 digit-requires c κs = search rules
@@ -53,10 +53,10 @@ returns-6 : tie.Need-returns-6 invariant-loop decreases-loop
 returns-6 c = no_digit c.before.before.before.before.before.before.loop.invariant c.before.before.before.before.before.loop-test.true c.before.before.before.if1.false _ c.before.digit.ensures c.if6.true
 
 mul-v : tie.Need-overflow-mul-v invariant-loop decreases-loop
-mul-v c = omega (arith, small (one-passed c.before.before.before.before.before.before.loop.invariant c.before.before.before.before.before.loop-test.true c.before.before.before.if1.false _ c.before.digit.ensures c.before.before.if5.false c.if6.false))
+mul-v c = omega (arith, small (one_passed c.before.before.before.before.before.before.loop.invariant c.before.before.before.before.before.loop-test.true c.before.before.before.if1.false _ c.before.digit.ensures c.before.before.if5.false c.if6.false))
 
 add-v : tie.Need-overflow-add-v invariant-loop decreases-loop
-add-v c = omega (arith, small (one-passed c.before.before.before.before.before.before.loop.invariant c.before.before.before.before.before.loop-test.true c.before.before.before.if1.false _ c.before.digit.ensures c.before.before.if5.false c.if6.false))
+add-v c = omega (arith, small (one_passed c.before.before.before.before.before.before.loop.invariant c.before.before.before.before.before.loop-test.true c.before.before.before.if1.false _ c.before.digit.ensures c.before.before.if5.false c.if6.false))
 
 add-i : tie.Need-overflow-add-i invariant-loop decreases-loop
 add-i c = omega arith
@@ -65,7 +65,7 @@ loop-less : tie.Need-loop-smaller invariant-loop decreases-loop
 loop-less c = omega arith
 
 loop-again : tie.Need-loop-preserved invariant-loop decreases-loop
-loop-again c = one-passed c.before.before.before.before.before.before.loop.invariant c.before.before.before.before.before.loop-test.true c.before.before.before.if1.false _ c.before.digit.ensures c.before.before.if5.false c.if6.false
+loop-again c = one_passed c.before.before.before.before.before.before.loop.invariant c.before.before.before.before.before.loop-test.true c.before.before.before.if1.false _ c.before.digit.ensures c.before.before.if5.false c.if6.false
 
 returns-7 : tie.Need-returns-7 invariant-loop decreases-loop
 returns-7 c = no_stop c.before.loop.invariant c.loop-test.false

@@ -3,8 +3,8 @@ use Prim.Native.Nat.{◌+◌, ◌-◌, ◌*◌, ◌/◌}
 use native.Mathlib.Omega.{arith}
 use lib.ListN.{length}
 use Rattle.frame_lines.proofs.Digits.{no_digit}
-use Rattle.frame_lines.proofs.Gathered.{Gathered, none-gathered, one-gathered, all_digits, gathered}
-use Rattle.frame_lines.proofs.Bytes.{too_long, odd, no-digits, fewer, eight}
+use Rattle.frame_lines.proofs.Gathered.{Gathered, none_gathered, one_gathered, all_digits, gathered}
+use Rattle.frame_lines.proofs.Bytes.{too_long, odd, no_digits, fewer, eight}
 use borrow.Author.Rules.{rules}
 use Rattle.frame_lines.proofs.frame_of.Statement.{statement}
 use Rattle.frame_lines.proofs.frame_of.Tie as tie
@@ -25,7 +25,7 @@ returns-2 : tie.Need-returns-2 invariant-loop decreases-loop
 returns-2 c = odd _ _ c.before.if1.false c.if2.true
 
 loop-holds : tie.Need-loop-init invariant-loop decreases-loop
-loop-holds c = none-gathered _
+loop-holds c = none_gathered _
 
 mul-digit : tie.Need-overflow-mul-digit invariant-loop decreases-loop
 mul-digit c = omega arith
@@ -37,7 +37,7 @@ digit-requires : tie.Need-digit-requires invariant-loop decreases-loop
 digit-requires c κs = search rules
 
 returns-3 : tie.Need-returns-3 invariant-loop decreases-loop
-returns-3 c = no-digits _ _ c.before.before.before.before.before.before.if1.false c.before.before.before.before.before.if2.false (no_digit _ (2 * c.before.before.before.before.loop.i) (omega arith) c.before.digit.ensures c.if3.true)
+returns-3 c = no_digits _ _ c.before.before.before.before.before.before.if1.false c.before.before.before.before.before.if2.false (no_digit _ (2 * c.before.before.before.before.loop.i) (omega arith) c.before.digit.ensures c.if3.true)
 
 mul-digit-2 : tie.Need-overflow-mul-digit-2 invariant-loop decreases-loop
 mul-digit-2 c = omega arith
@@ -52,7 +52,7 @@ digit-requires-2 : tie.Need-digit-requires-2 invariant-loop decreases-loop
 digit-requires-2 c κs = search rules
 
 returns-4 : tie.Need-returns-4 invariant-loop decreases-loop
-returns-4 c = no-digits _ _ c.before.before.before.before.before.before.before.before.before.if1.false c.before.before.before.before.before.before.before.before.if2.false (no_digit _ (2 * c.before.before.before.before.before.before.before.loop.i + 1) (omega arith) c.before.digit2.ensures c.if4.true)
+returns-4 c = no_digits _ _ c.before.before.before.before.before.before.before.before.before.if1.false c.before.before.before.before.before.before.before.before.if2.false (no_digit _ (2 * c.before.before.before.before.before.before.before.loop.i + 1) (omega arith) c.before.digit2.ensures c.if4.true)
 
 mul-word : tie.Need-overflow-mul-word invariant-loop decreases-loop
 mul-word c = omega (arith, c.before.before.before.if3.false, c.if4.false)
@@ -73,7 +73,7 @@ loop-less : tie.Need-loop-smaller invariant-loop decreases-loop
 loop-less c = omega arith
 
 loop-again : tie.Need-loop-preserved invariant-loop decreases-loop
-loop-again c = one-gathered _ _ _ c.before.before.before.before.before.before.before.loop.invariant c.before.before.before.before.before.before.loop-test.true c.before.before.before.before.digit.ensures c.before.digit2.ensures c.before.before.before.if3.false c.if4.false
+loop-again c = one_gathered _ _ _ c.before.before.before.before.before.before.before.loop.invariant c.before.before.before.before.before.before.loop-test.true c.before.before.before.before.digit.ensures c.before.digit2.ensures c.before.before.before.if3.false c.if4.false
 
 returns-5 : tie.Need-returns-5 invariant-loop decreases-loop
 returns-5 c = fewer _ _ c.before.before.before.before.if1.false c.before.before.before.if2.false (all_digits _ c.before.before.loop.invariant c.before.loop-test.false c.before.before.before.if2.false) c.if5.true

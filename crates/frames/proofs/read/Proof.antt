@@ -2,7 +2,7 @@
 -- Assumes nothing.
 use mathlib.Core.Path.{sym, ◌∙◌}
 use borrow.Author.Tests.{not-true, not-false}
-use Rattle.frames.proofs.Entries.{read-no-book, read-book}
+use Rattle.frames.proofs.Entries.{read_no_book, read_book}
 use borrow.Author.Rules.{rules}
 use Rattle.frames.proofs.read.Statement.{statement}
 use Rattle.frames.proofs.read.Tie as tie
@@ -12,7 +12,7 @@ messages-taken-requires c κs = search rules
 
 returns : tie.Need-returns
 returns c = let a = c.before.before.before.before.before.args in
-    read-no-book a.book.now a.identifier a.frame.now (record { raws = a.raws.now; classes = a.classes.now; thousandths = a.thousandths.now }) (sym c.before.messages-taken.ensures ∙ not-true _ c.if1.true)
+    read_no_book a.book.now a.identifier a.frame.now (record { raws = a.raws.now; classes = a.classes.now; thousandths = a.thousandths.now }) (sym c.before.messages-taken.ensures ∙ not-true _ c.if1.true)
 
 read-tested-requires : tie.Need-read-tested-requires
 read-tested-requires c κs = sym c.before.before.before.before.messages-taken.ensures ∙ not-false _ c.before.before.before.if1.false
@@ -28,7 +28,7 @@ same-length-3 c = search rules
 
 returns-2 : tie.Need-returns-2
 returns-2 c = let a = c.before.before.before.before.before.before.before.before.before.before.before.before.before.before.args in
-    read-book a.book.now a.identifier a.frame.now (record { raws = a.raws.now; classes = a.classes.now; thousandths = a.thousandths.now }) _ (sym c.before.before.before.before.before.before.before.before.before.before.messages-taken.ensures ∙ not-false _ c.before.before.before.before.before.before.before.before.before.if1.false) c.before.before.before.before.before.read-tested.ensures
+    read_book a.book.now a.identifier a.frame.now (record { raws = a.raws.now; classes = a.classes.now; thousandths = a.thousandths.now }) _ (sym c.before.before.before.before.before.before.before.before.before.before.messages-taken.ensures ∙ not-false _ c.before.before.before.before.before.before.before.before.before.if1.false) c.before.before.before.before.before.read-tested.ensures
 
 pub read_spec : {M : Type 1} → statement M
 read_spec =

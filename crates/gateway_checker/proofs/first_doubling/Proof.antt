@@ -2,14 +2,14 @@
 use Prim.Native.Nat.{◌-◌}
 use mathlib.Core.Path.{sym, ap₂, ◌∙◌}
 use mathlib.Core.Bool.{Bool, ◌||◌}
-use Rattle.gateway_checker.specs.Searches.{beginsBy}
-use Rattle.gateway_checker.proofs.Found.{Passed, passed_start, passed-more, first-here, first-none}
+use Rattle.gateway_checker.specs.Searches.{begins_by}
+use Rattle.gateway_checker.proofs.Found.{Passed, passed_start, passed_more, first_here, first_none}
 use borrow.Author.Rules.{rules}
 use Rattle.gateway_checker.proofs.first_doubling.Statement.{statement}
 use Rattle.gateway_checker.proofs.first_doubling.Tie as tie
 
 abbrev invariant-loop : tie.invariant-loop
-invariant-loop onward forks places n i₀ i = Passed (beginsBy onward forks places) n i
+invariant-loop onward forks places n i₀ i = Passed (begins_by onward forks places) n i
 
 abbrev decreases-loop : tie.decreases-loop
 decreases-loop onward forks places n i₀ i = n - i
@@ -39,7 +39,7 @@ returns c =
     let at-loop = c.before.before.before.before.before.loop in
     let at-args = c.before.before.before.before.before.before.before.args in
     let is = ap₂ (λ (a b : Bool). a || b) at_has.ensures at_meet.ensures in
-    first-here (beginsBy at-args.onward.now at-args.forks at-args.places) _ _ at-loop.invariant (sym is ∙ c.if1.true)
+    first_here (begins_by at-args.onward.now at-args.forks at-args.places) _ _ at-loop.invariant (sym is ∙ c.if1.true)
 
 add-i : tie.Need-overflow-add-i invariant-loop decreases-loop
 add-i c = search rules
@@ -55,10 +55,10 @@ loop-again c =
     let at-loop = c.before.before.before.before.before.loop in
     let at-args = c.before.before.before.before.before.before.before.args in
     let is = ap₂ (λ (a b : Bool). a || b) at_has.ensures at_meet.ensures in
-    passed-more (beginsBy at-args.onward.now at-args.forks at-args.places) _ _ at-loop.invariant at-loop-test.true (sym is ∙ c.if1.false)
+    passed_more (begins_by at-args.onward.now at-args.forks at-args.places) _ _ at-loop.invariant at-loop-test.true (sym is ∙ c.if1.false)
 
 returns-2 : tie.Need-returns-2 invariant-loop decreases-loop
-returns-2 c = first-none _ _ _ c.before.loop.invariant c.loop-test.false
+returns-2 c = first_none _ _ _ c.before.loop.invariant c.loop-test.false
 
 pub first-doubling-spec : {M : Type 1} → statement M
 first-doubling-spec =

@@ -3,14 +3,14 @@ use Prim.Native.Nat.{ℕ, ◌-◌}
 use mathlib.Core.Path.{sym, ap, ◌∙◌}
 use lib.ListN.{length, get_or}
 use Rattle.masks.specs.Bit.{bit}
-use Rattle.gateway_checker.specs.Searches.{leadsBack}
-use Rattle.gateway_checker.proofs.Found.{Passed, passed_start, passed-more, first-here, first-none}
+use Rattle.gateway_checker.specs.Searches.{leads_back}
+use Rattle.gateway_checker.proofs.Found.{Passed, passed_start, passed_more, first_here, first_none}
 use borrow.Author.Rules.{rules}
 use Rattle.gateway_checker.proofs.first_loop.Statement.{statement}
 use Rattle.gateway_checker.proofs.first_loop.Tie as tie
 
 abbrev invariant-loop : tie.invariant-loop
-invariant-loop starts onward i₀ i = Passed (leadsBack starts onward) (length starts) i
+invariant-loop starts onward i₀ i = Passed (leads_back starts onward) (length starts) i
 
 abbrev decreases-loop : tie.decreases-loop
 decreases-loop starts onward i₀ i = length starts - i
@@ -38,7 +38,7 @@ returns c =
     let at-args = c.before.before.before.before.before.before.before.before.args in
     let onward = at-args.onward.now in
     let is = at-among.ensures ∙ ap (λ (s : ℕ). bit (get_or onward at-loop.i 0) s) at-start-of.ensures.0 in
-    first-here (leadsBack at-args.starts.now onward) _ _ at-loop.invariant (sym is ∙ c.if1.true)
+    first_here (leads_back at-args.starts.now onward) _ _ at-loop.invariant (sym is ∙ c.if1.true)
 
 add-i : tie.Need-overflow-add-i invariant-loop decreases-loop
 add-i c = search rules
@@ -55,10 +55,10 @@ loop-again c =
     let at-args = c.before.before.before.before.before.before.before.before.args in
     let onward = at-args.onward.now in
     let is = at-among.ensures ∙ ap (λ (s : ℕ). bit (get_or onward at-loop.i 0) s) at-start-of.ensures.0 in
-    passed-more (leadsBack at-args.starts.now onward) _ _ at-loop.invariant at-loop-test.true (sym is ∙ c.if1.false)
+    passed_more (leads_back at-args.starts.now onward) _ _ at-loop.invariant at-loop-test.true (sym is ∙ c.if1.false)
 
 returns-2 : tie.Need-returns-2 invariant-loop decreases-loop
-returns-2 c = first-none _ _ _ c.before.loop.invariant c.loop-test.false
+returns-2 c = first_none _ _ _ c.before.loop.invariant c.loop-test.false
 
 pub first-loop-spec : {M : Type 1} → statement M
 first-loop-spec =

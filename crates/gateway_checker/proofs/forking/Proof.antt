@@ -3,7 +3,7 @@ use mathlib.Core.Path.{sym, ◌∙◌, subst}
 use mathlib.Core.Logic.{⊎_elim}
 use Prim.Native.Nat.{◌-◌, ◌+◌}
 use lib.ListN.{set}
-use Rattle.gateway_checker.proofs.Gathering.{Gathering, gathering-start, gathering-fork, gathering-keep, gathering-end}
+use Rattle.gateway_checker.proofs.Gathering.{Gathering, gathering_start, gathering_fork, gathering_keep, gathering_end}
 use borrow.Author.Rules.{rules}
 use Rattle.gateway_checker.proofs.forking.Statement.{statement}
 use Rattle.gateway_checker.proofs.forking.Tie as tie
@@ -15,7 +15,7 @@ abbrev decreases-loop : tie.decreases-loop
 decreases-loop starts onward down n seen₀ forks₀ t₀ seen forks t = n - t
 
 loop-holds : tie.Need-loop-init invariant-loop decreases-loop
-loop-holds c = gathering-start _ _ _
+loop-holds c = gathering_start _ _ _
 
 nth-requires : tie.Need-nth-requires invariant-loop decreases-loop
 nth-requires c κs = search rules
@@ -82,15 +82,15 @@ loop-again c =
     let s = at-start-of.result in
     let v = c.either.result in
     let Then = Gathering starts onward at-args.down (t + 1) (set seen s v) in
-    let fork = gathering-fork starts onward at-args.down t seen at-loop.forks at-loop.invariant at-loop-test.true a s at-nth.ensures.0 at-start-of.ensures.0 at-start-of.ensures.1 v c.either.ensures in
-    let keep = gathering-keep starts onward at-args.down t seen at-loop.forks at-loop.invariant at-loop-test.true a s at-nth.ensures.0 at-start-of.ensures.0 at-start-of.ensures.1 v c.either.ensures in
+    let fork = gathering_fork starts onward at-args.down t seen at-loop.forks at-loop.invariant at-loop-test.true a s at-nth.ensures.0 at-start-of.ensures.0 at-start-of.ensures.1 v c.either.ensures in
+    let keep = gathering_keep starts onward at-args.down t seen at-loop.forks at-loop.invariant at-loop-test.true a s at-nth.ensures.0 at-start-of.ensures.0 at-start-of.ensures.1 v c.either.ensures in
     ⊎_elim
     (λ w. subst Then (sym w.2) (fork w.1.result (sym at_meet.ensures ∙ w.0.taken) w.1.ensures))
     (λ w. subst Then (sym w.1) (keep (sym at_meet.ensures ∙ w.0.left)))
     at-if1.branch
 
 returns : tie.Need-returns invariant-loop decreases-loop
-returns c = gathering-end _ _ _ _ _ _ c.before.loop.invariant c.loop-test.false
+returns c = gathering_end _ _ _ _ _ _ c.before.loop.invariant c.loop-test.false
 
 pub forking-spec : {M : Type 1} → statement M
 forking-spec =

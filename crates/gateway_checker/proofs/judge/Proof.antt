@@ -1,5 +1,5 @@
 -- `gateway_checker::judge` meets its contract: the verdict on the numbers is that on the places. Assumes nothing.
-use Rattle.gateway_checker.proofs.Numbering.{low-numbers, judged-places}
+use Rattle.gateway_checker.proofs.Numbering.{low_numbers, judged_places}
 use borrow.Author.Rules.{rules}
 use borrow.Author.Rules.{rules}
 use Rattle.gateway_checker.proofs.judge.Statement.{statement}
@@ -34,7 +34,7 @@ judge-numbered-requires c κs =
     let at-args = c.before.before.before.before.before.before.before.before.before.args in
     let starts = at_part.ensures in
     let ends = c.part2.ensures in
-    low-numbers at-args.froms.now at-args.tos.now _ _ _ at_pre.1 at-number-all.ensures.numbered starts.0 ends.0 starts.1 ends.1 at_pre.0
+    low_numbers at-args.froms.now at-args.tos.now _ _ _ at_pre.1 at-number-all.ensures.numbered starts.0 ends.0 starts.1 ends.1 at_pre.0
 
 returns : tie.Need-returns
 returns c =
@@ -45,7 +45,7 @@ returns c =
     let at-args = c.before.before.before.before.before.before.before.before.before.before.args in
     let starts = at_part.ensures in
     let ends = at-part2.ensures in
-    let judged = judged-places at-args.froms.now at-args.tos.now _ _ _ at_pre.1 at-number-all.ensures.numbered starts.0 ends.0 starts.1 ends.1 in
+    let judged = judged_places at-args.froms.now at-args.tos.now _ _ _ at_pre.1 at-number-all.ensures.numbered starts.0 ends.0 starts.1 ends.1 in
     judged c.judge-numbered.result c.judge-numbered.ensures
 
 pub judge-spec : {M : Type 1} → statement M

@@ -1,5 +1,5 @@
 -- `gateway_checker::judge_numbered` meets its contract: what the searches found over the masks is what there is to find over chains. Assumes nothing.
-use Rattle.gateway_checker.proofs.Judging.{loop-by, sound-by, doubling-by}
+use Rattle.gateway_checker.proofs.Judging.{loop_by, sound_by, doubling_by}
 use borrow.Author.Rules.{rules}
 use borrow.Author.Rules.{rules}
 use Rattle.gateway_checker.proofs.judge_numbered.Statement.{statement}
@@ -18,7 +18,7 @@ first-loop-requires : tie.Need-first-loop-requires
 first-loop-requires c κs = search rules
 
 returns : tie.Need-returns
-returns c = loop-by _ _ _ c.before.before.before.before.fill.ensures.led _ c.before.first-loop.ensures c.if1.true
+returns c = loop_by _ _ _ c.before.before.before.before.fill.ensures.led _ c.before.first-loop.ensures c.if1.true
 
 slice-aggregate-forking : tie.Need-slice-aggregate-forking
 slice-aggregate-forking c = search rules
@@ -32,7 +32,7 @@ returns-2 c =
     let at-if1 = c.before.before.before.if1 in
     let at-first-loop = c.before.before.before.before.first-loop in
     let at_fill_lem = c.before.before.before.before.before.before.before.fill in
-    sound-by _ _ _ at_fill_lem.ensures.led _ at-first-loop.ensures at-if1.false _ at-forking.ensures c.if2.true
+    sound_by _ _ _ at_fill_lem.ensures.led _ at-first-loop.ensures at-if1.false _ at-forking.ensures c.if2.true
 
 slice-aggregate-forking-2 : tie.Need-slice-aggregate-forking-2
 slice-aggregate-forking-2 c = search rules
@@ -63,7 +63,7 @@ returns-3 c =
     let at-first-loop = c.before.before.before.before.before.before.before.before.before.before.first-loop in
     let at_fill_lem = c.before.before.before.before.before.before.before.before.before.before.before.before.before.fill in
     let at_pre = c.before.before.before.before.before.before.before.before.before.before.before.before.before.before.before.before.before.requires in
-    let by = doubling-by _ _ _ at_fill_lem.ensures.led _ at-first-loop.ensures at-if1.false _ at-forking.ensures at-if2.false at_pre in
+    let by = doubling_by _ _ _ at_fill_lem.ensures.led _ at-first-loop.ensures at-if1.false _ at-forking.ensures at-if2.false at_pre in
     by _ _ _ _ at-forking2.ensures at-either.ensures at-starts-of.ensures c.first-doubling.ensures
 
 pub judge-numbered-spec : {M : Type 1} → statement M

@@ -8,7 +8,7 @@ use lib.ListN.{length}
 use lib.Dec.{ltb}
 use borrow.Author.Tests.{ltb-true, lt-ltb}
 use Rattle.masks.specs.Bit.{width}
-use Rattle.gateway_checker.proofs.Starting.{Starting, starting-start, starting-set, starting-keep, starting-end}
+use Rattle.gateway_checker.proofs.Starting.{Starting, starting_start, starting_set, starting_keep, starting_end}
 use borrow.Author.Rules.{rules}
 use Rattle.gateway_checker.proofs.starts_of.Statement.{statement}
 use Rattle.gateway_checker.proofs.starts_of.Tie as tie
@@ -20,7 +20,7 @@ abbrev decreases-loop : tie.decreases-loop
 decreases-loop starts routes at₀ a₀ at a = length starts - a
 
 loop-holds : tie.Need-loop-init invariant-loop decreases-loop
-loop-holds c = starting-start _ _
+loop-holds c = starting_start _ _
 
 start-of-requires : tie.Need-start-of-requires invariant-loop decreases-loop
 start-of-requires c κs = search rules
@@ -54,8 +54,8 @@ loop-again c =
     let s = at-start-of.result in
     let has = at_has.result in
     let Then = Starting at-args.starts.now at-args.routes (a + 1) in
-    let sets = starting-set at-args.starts.now at-args.routes a at-loop.at at-loop.invariant at-loop-test.true s in
-    let keep = starting-keep at-args.starts.now at-args.routes a at-loop.at at-loop.invariant at-loop-test.true s at-start-of.ensures.0 in
+    let sets = starting_set at-args.starts.now at-args.routes a at-loop.at at-loop.invariant at-loop-test.true s in
+    let keep = starting_keep at-args.starts.now at-args.routes a at-loop.at at-loop.invariant at-loop-test.true s at-start-of.ensures.0 in
     ⊎_elim
     (λ w. let both = (and-eq-true_iff has (ltb s width)).0 w.0.taken in
     subst Then (sym w.2) (sets w.1.result at-start-of.ensures.0 (sym at_has.ensures ∙ both.0) (ltb-true _ _ both.1) w.1.ensures))
@@ -63,7 +63,7 @@ loop-again c =
     c.if1.branch
 
 returns : tie.Need-returns invariant-loop decreases-loop
-returns c = starting-end _ _ _ _ c.before.loop.invariant c.loop-test.false
+returns c = starting_end _ _ _ _ c.before.loop.invariant c.loop-test.false
 
 pub starts-of-spec : {M : Type 1} → statement M
 starts-of-spec =

@@ -1,6 +1,6 @@
 -- `line::line_at` meets its contract: it reads the first line of what is left from the place on. Assumes nothing.
 use native.Mathlib.Omega.{arith}
-use Rattle.line.proofs.Firsts.{no_line, first-left, fits}
+use Rattle.line.proofs.Firsts.{no_line, first_left, fits}
 use borrow.Author.Rules.{rules}
 use Rattle.line.proofs.line_at.Statement.{statement}
 use Rattle.line.proofs.line_at.Tie as tie
@@ -22,7 +22,7 @@ add-t6 : tie.Need-overflow-add-t6
 add-t6 c = omega (arith, fits _ _ c.before.part-from.ensures _ c.read_first.ensures c.before.before.if1.false)
 
 returns-2 : tie.Need-returns-2
-returns-2 c = first-left _ _ c.before.part-from.ensures _ c.read_first.ensures
+returns-2 c = first_left _ _ c.before.part-from.ensures _ c.read_first.ensures
 
 pub line-at-spec : {M : Type 1} → statement M
 line-at-spec = tie.close (tie.spec returns part-from-requires read-first-requires add-t6 returns-2)

@@ -1,7 +1,7 @@
 -- `line::message` meets its contract: what stands after the kind is an identifier and a newline, or the line is ill formed. Assumes nothing.
 use mathlib.Core.Path.{◌∙◌}
 use native.Mathlib.Omega.{arith}
-use Rattle.line.proofs.Rooms.{message-ill, message-well}
+use Rattle.line.proofs.Rooms.{message_ill, message_well}
 use borrow.Author.Rules.{rules}
 use Rattle.line.proofs.message.Statement.{statement}
 use Rattle.line.proofs.message.Tie as tie
@@ -27,10 +27,10 @@ ill-formed-requires : tie.Need-ill-formed-requires
 ill-formed-requires c κs = search rules
 
 returns : tie.Need-returns
-returns c = c.ill-formed.ensures ∙ message-ill _ c.before.before.before.before.part-from.ensures c.before.before.before.before.before.before.requires c.before.before.before.identifier-before.ensures c.before.enum_told.given.1
+returns c = c.ill_formed.ensures ∙ message_ill _ c.before.before.before.before.part-from.ensures c.before.before.before.before.before.before.requires c.before.before.before.identifier-before.ensures c.before.enum_told.given.1
 
 returns-2 : tie.Need-returns-2
-returns-2 c = message-well _ c.before.before.before.before.part-from.ensures c.before.before.before.before.before.before.requires c.before.before.before.identifier-before.ensures c.before.id.given.1
+returns-2 c = message_well _ c.before.before.before.before.part-from.ensures c.before.before.before.before.before.before.requires c.before.before.before.identifier-before.ensures c.before.id.given.1
 
 pub message-spec : {M : Type 1} → statement M
 message-spec =

@@ -1,6 +1,6 @@
 -- `line::read_first` meets its contract: the tests that lead to each `return` say which kind of line it is. Assumes nothing.
 use mathlib.Core.Path.{◌∙◌}
-use Rattle.line.proofs.ByKind.{short, no-tab, no_kind}
+use Rattle.line.proofs.ByKind.{short, no_tab, no_kind}
 use borrow.Author.Rules.{rules}
 use Rattle.line.proofs.read_first.Statement.{statement}
 use Rattle.line.proofs.read_first.Tie as tie
@@ -15,7 +15,7 @@ ill-formed-requires : tie.Need-ill-formed-requires
 ill-formed-requires c κs = search rules
 
 returns : tie.Need-returns
-returns c = c.ill-formed.ensures ∙ short _ c.before.if1.true
+returns c = c.ill_formed.ensures ∙ short _ c.before.if1.true
 
 shared-slice-read-if2 : tie.Need-shared-slice-read-if2
 shared-slice-read-if2 c = search rules
@@ -24,7 +24,7 @@ ill-formed-requires-2 : tie.Need-ill-formed-requires-2
 ill-formed-requires-2 c κs = search rules
 
 returns-2 : tie.Need-returns-2
-returns-2 c = c.ill-formed2.ensures ∙ no-tab _ c.before.if2.true
+returns-2 c = c.ill-formed2.ensures ∙ no_tab _ c.before.if2.true
 
 shared-slice-read-kind : tie.Need-shared-slice-read-kind
 shared-slice-read-kind c = search rules

@@ -1,8 +1,8 @@
 -- `line::route` meets its contract: the to place that is found is written there, and where it is not the line is ill formed. Assumes nothing.
 use mathlib.Core.Path.{◌∙◌}
 use native.Mathlib.Omega.{arith}
-use Rattle.line.proofs.Rooms.{number-inside}
-use Rattle.line.proofs.Routes.{origin-ill, origin-inside, to-bus-ill, to-id-ill, route-inside, route-well}
+use Rattle.line.proofs.Rooms.{number_inside}
+use Rattle.line.proofs.Routes.{origin_ill, origin_inside, to_bus_ill, to_id_ill, route_inside, route_well}
 use borrow.Author.Rules.{rules}
 use Rattle.line.proofs.route.Statement.{statement}
 use Rattle.line.proofs.route.Tie as tie
@@ -31,10 +31,10 @@ ill-formed-requires : tie.Need-ill-formed-requires
 ill-formed-requires c κs = search rules
 
 returns : tie.Need-returns
-returns c = c.ill-formed.ensures ∙ origin-ill _ c.before.before.before.before.part-from.ensures c.before.before.before.before.before.before.requires c.before.before.before.origin-of.ensures c.before.enum_told.given.1
+returns c = c.ill_formed.ensures ∙ origin_ill _ c.before.before.before.before.part-from.ensures c.before.before.before.before.before.before.requires c.before.before.before.origin-of.ensures c.before.enum_told.given.1
 
 part-from-requires-2 : tie.Need-part-from-requires-2
-part-from-requires-2 c κs = origin-inside _ c.before.before.before.before.part-from.ensures c.before.before.before.before.before.before.requires c.before.before.before.origin-of.ensures c.before.gateway.given.1
+part-from-requires-2 c κs = origin_inside _ c.before.before.before.before.part-from.ensures c.before.before.before.before.before.before.requires c.before.before.before.origin-of.ensures c.before.gateway.given.1
 
 decimal-before-requires : tie.Need-decimal-before-requires
 decimal-before-requires c κs = search rules
@@ -49,10 +49,10 @@ ill-formed-requires-2 : tie.Need-ill-formed-requires-2
 ill-formed-requires-2 c κs = search rules
 
 returns-2 : tie.Need-returns-2
-returns-2 c = c.ill-formed2.ensures ∙ to-bus-ill _ c.before.before.before.before.before.before.before.before.before.part-from.ensures c.before.before.before.before.before.before.before.before.before.before.before.requires c.before.before.before.before.before.before.before.before.origin-of.ensures c.before.before.before.before.before.before.gateway.given.1 c.before.before.before.before.part-from2.ensures c.before.before.before.decimal-before.ensures c.before.enum-told2.given.1
+returns-2 c = c.ill-formed2.ensures ∙ to_bus_ill _ c.before.before.before.before.before.before.before.before.before.part-from.ensures c.before.before.before.before.before.before.before.before.before.before.before.requires c.before.before.before.before.before.before.before.before.origin-of.ensures c.before.before.before.before.before.before.gateway.given.1 c.before.before.before.before.part-from2.ensures c.before.before.before.decimal-before.ensures c.before.enum-told2.given.1
 
 part-after-requires : tie.Need-part-after-requires
-part-after-requires c κs = number-inside _ c.before.before.before.decimal-before.ensures c.before.to-bus.given.1
+part-after-requires c κs = number_inside _ c.before.before.before.decimal-before.ensures c.before.to_bus.given.1
 
 identifier-before-requires : tie.Need-identifier-before-requires
 identifier-before-requires c κs = search rules
@@ -67,19 +67,19 @@ ill-formed-requires-3 : tie.Need-ill-formed-requires-3
 ill-formed-requires-3 c κs = search rules
 
 returns-3 : tie.Need-returns-3
-returns-3 c = c.ill-formed3.ensures ∙ to-id-ill _ c.before.before.before.before.before.before.before.before.before.before.before.before.before.before.part-from.ensures c.before.before.before.before.before.before.before.before.before.before.before.before.before.before.before.before.requires c.before.before.before.before.before.before.before.before.before.before.before.before.before.origin-of.ensures c.before.before.before.before.before.before.before.before.before.before.before.gateway.given.1 c.before.before.before.before.before.before.before.before.before.part-from2.ensures c.before.before.before.before.before.before.before.before.decimal-before.ensures c.before.before.before.before.before.before.to-bus.given.1 c.before.before.before.before.part-after.ensures c.before.before.before.identifier-before.ensures c.before.enum-told3.given.1
+returns-3 c = c.ill-formed3.ensures ∙ to_id_ill _ c.before.before.before.before.before.before.before.before.before.before.before.before.before.before.part-from.ensures c.before.before.before.before.before.before.before.before.before.before.before.before.before.before.before.before.requires c.before.before.before.before.before.before.before.before.before.before.before.before.before.origin-of.ensures c.before.before.before.before.before.before.before.before.before.before.before.gateway.given.1 c.before.before.before.before.before.before.before.before.before.part-from2.ensures c.before.before.before.before.before.before.before.before.decimal-before.ensures c.before.before.before.before.before.before.to_bus.given.1 c.before.before.before.before.part-after.ensures c.before.before.before.identifier-before.ensures c.before.enum-told3.given.1
 
 add-t17 : tie.Need-overflow-add-t17
-add-t17 c = omega (arith, route-inside _ c.before.before.before.before.before.before.before.before.before.before.before.before.before.before.part-from.ensures c.before.before.before.before.before.before.before.before.before.before.before.before.before.before.before.before.requires c.before.before.before.before.before.before.before.before.before.before.before.before.before.origin-of.ensures c.before.before.before.before.before.before.before.before.before.before.before.gateway.given.1 c.before.before.before.before.before.before.before.before.before.part-from2.ensures c.before.before.before.before.before.before.before.before.decimal-before.ensures c.before.before.before.before.before.before.to-bus.given.1 c.before.before.before.before.part-after.ensures c.before.before.before.identifier-before.ensures c.before.to-id.given.1)
+add-t17 c = omega (arith, route_inside _ c.before.before.before.before.before.before.before.before.before.before.before.before.before.before.part-from.ensures c.before.before.before.before.before.before.before.before.before.before.before.before.before.before.before.before.requires c.before.before.before.before.before.before.before.before.before.before.before.before.before.origin-of.ensures c.before.before.before.before.before.before.before.before.before.before.before.gateway.given.1 c.before.before.before.before.before.before.before.before.before.part-from2.ensures c.before.before.before.before.before.before.before.before.decimal-before.ensures c.before.before.before.before.before.before.to_bus.given.1 c.before.before.before.before.part-after.ensures c.before.before.before.identifier-before.ensures c.before.to_id.given.1)
 
 add-t18 : tie.Need-overflow-add-t18
-add-t18 c = omega (arith, route-inside _ c.before.before.before.before.before.before.before.before.before.before.before.before.before.before.part-from.ensures c.before.before.before.before.before.before.before.before.before.before.before.before.before.before.before.before.requires c.before.before.before.before.before.before.before.before.before.before.before.before.before.origin-of.ensures c.before.before.before.before.before.before.before.before.before.before.before.gateway.given.1 c.before.before.before.before.before.before.before.before.before.part-from2.ensures c.before.before.before.before.before.before.before.before.decimal-before.ensures c.before.before.before.before.before.before.to-bus.given.1 c.before.before.before.before.part-after.ensures c.before.before.before.identifier-before.ensures c.before.to-id.given.1)
+add-t18 c = omega (arith, route_inside _ c.before.before.before.before.before.before.before.before.before.before.before.before.before.before.part-from.ensures c.before.before.before.before.before.before.before.before.before.before.before.before.before.before.before.before.requires c.before.before.before.before.before.before.before.before.before.before.before.before.before.origin-of.ensures c.before.before.before.before.before.before.before.before.before.before.before.gateway.given.1 c.before.before.before.before.before.before.before.before.before.part-from2.ensures c.before.before.before.before.before.before.before.before.decimal-before.ensures c.before.before.before.before.before.before.to_bus.given.1 c.before.before.before.before.part-after.ensures c.before.before.before.identifier-before.ensures c.before.to_id.given.1)
 
 add-t19 : tie.Need-overflow-add-t19
-add-t19 c = omega (arith, route-inside _ c.before.before.before.before.before.before.before.before.before.before.before.before.before.before.part-from.ensures c.before.before.before.before.before.before.before.before.before.before.before.before.before.before.before.before.requires c.before.before.before.before.before.before.before.before.before.before.before.before.before.origin-of.ensures c.before.before.before.before.before.before.before.before.before.before.before.gateway.given.1 c.before.before.before.before.before.before.before.before.before.part-from2.ensures c.before.before.before.before.before.before.before.before.decimal-before.ensures c.before.before.before.before.before.before.to-bus.given.1 c.before.before.before.before.part-after.ensures c.before.before.before.identifier-before.ensures c.before.to-id.given.1)
+add-t19 c = omega (arith, route_inside _ c.before.before.before.before.before.before.before.before.before.before.before.before.before.before.part-from.ensures c.before.before.before.before.before.before.before.before.before.before.before.before.before.before.before.before.requires c.before.before.before.before.before.before.before.before.before.before.before.before.before.origin-of.ensures c.before.before.before.before.before.before.before.before.before.before.before.gateway.given.1 c.before.before.before.before.before.before.before.before.before.part-from2.ensures c.before.before.before.before.before.before.before.before.decimal-before.ensures c.before.before.before.before.before.before.to_bus.given.1 c.before.before.before.before.part-after.ensures c.before.before.before.identifier-before.ensures c.before.to_id.given.1)
 
 returns-4 : tie.Need-returns-4
-returns-4 c = route-well _ c.before.before.before.before.before.before.before.before.before.before.before.before.before.before.part-from.ensures c.before.before.before.before.before.before.before.before.before.before.before.before.before.before.before.before.requires c.before.before.before.before.before.before.before.before.before.before.before.before.before.origin-of.ensures c.before.before.before.before.before.before.before.before.before.before.before.gateway.given.1 c.before.before.before.before.before.before.before.before.before.part-from2.ensures c.before.before.before.before.before.before.before.before.decimal-before.ensures c.before.before.before.before.before.before.to-bus.given.1 c.before.before.before.before.part-after.ensures c.before.before.before.identifier-before.ensures c.before.to-id.given.1
+returns-4 c = route_well _ c.before.before.before.before.before.before.before.before.before.before.before.before.before.before.part-from.ensures c.before.before.before.before.before.before.before.before.before.before.before.before.before.before.before.before.requires c.before.before.before.before.before.before.before.before.before.before.before.before.before.origin-of.ensures c.before.before.before.before.before.before.before.before.before.before.before.gateway.given.1 c.before.before.before.before.before.before.before.before.before.part-from2.ensures c.before.before.before.before.before.before.before.before.decimal-before.ensures c.before.before.before.before.before.before.to_bus.given.1 c.before.before.before.before.part-after.ensures c.before.before.before.identifier-before.ensures c.before.to_id.given.1
 
 pub route-spec : {M : Type 1} → statement M
 route-spec =

@@ -1,7 +1,7 @@
 -- `line::signal` meets its contract: each number that is found is written there, and where one is not the line is ill formed. Assumes nothing.
 use mathlib.Core.Path.{◌∙◌}
 use native.Mathlib.Omega.{arith}
-use Rattle.line.proofs.Rooms.{number-inside, signal-ill, start-ill, signal-few, signal-well}
+use Rattle.line.proofs.Rooms.{number_inside, signal_ill, start_ill, signal_few, signal_well}
 use borrow.Author.Rules.{rules}
 use Rattle.line.proofs.signal.Statement.{statement}
 use Rattle.line.proofs.signal.Tie as tie
@@ -28,10 +28,10 @@ ill-formed-requires : tie.Need-ill-formed-requires
 ill-formed-requires c κs = search rules
 
 returns : tie.Need-returns
-returns c = c.ill-formed.ensures ∙ signal-ill _ c.before.before.before.before.part-from.ensures c.before.before.before.before.before.before.requires c.before.before.before.decimal-before.ensures c.before.enum_told.given.1
+returns c = c.ill_formed.ensures ∙ signal_ill _ c.before.before.before.before.part-from.ensures c.before.before.before.before.before.before.requires c.before.before.before.decimal-before.ensures c.before.enum_told.given.1
 
 part-after-requires : tie.Need-part-after-requires
-part-after-requires c κs = number-inside _ c.before.before.before.decimal-before.ensures c.before.number.given.1
+part-after-requires c κs = number_inside _ c.before.before.before.decimal-before.ensures c.before.number.given.1
 
 decimal-before-requires-2 : tie.Need-decimal-before-requires-2
 decimal-before-requires-2 c κs = search rules
@@ -46,16 +46,16 @@ ill-formed-requires-2 : tie.Need-ill-formed-requires-2
 ill-formed-requires-2 c κs = search rules
 
 returns-2 : tie.Need-returns-2
-returns-2 c = c.ill-formed2.ensures ∙ start-ill _ c.before.before.before.before.before.before.before.before.before.part-from.ensures c.before.before.before.before.before.before.before.before.before.before.before.requires c.before.before.before.before.before.before.before.before.decimal-before.ensures c.before.before.before.before.before.before.number.given.1 c.before.before.before.before.part-after.ensures c.before.before.before.decimal-before2.ensures c.before.enum-told2.given.1
+returns-2 c = c.ill-formed2.ensures ∙ start_ill _ c.before.before.before.before.before.before.before.before.before.part-from.ensures c.before.before.before.before.before.before.before.before.before.before.before.requires c.before.before.before.before.before.before.before.before.decimal-before.ensures c.before.before.before.before.before.before.number.given.1 c.before.before.before.before.part-after.ensures c.before.before.before.decimal-before2.ensures c.before.enum-told2.given.1
 
 add-t11 : tie.Need-overflow-add-t11
-add-t11 c = omega (arith, signal-few _ c.before.before.before.before.before.before.before.before.before.part-from.ensures c.before.before.before.before.before.before.before.before.before.before.before.requires c.before.before.before.before.before.before.before.before.decimal-before.ensures c.before.before.before.before.before.before.number.given.1 c.before.before.before.before.part-after.ensures c.before.before.before.decimal-before2.ensures c.before.start.given.1)
+add-t11 c = omega (arith, signal_few _ c.before.before.before.before.before.before.before.before.before.part-from.ensures c.before.before.before.before.before.before.before.before.before.before.before.requires c.before.before.before.before.before.before.before.before.decimal-before.ensures c.before.before.before.before.before.before.number.given.1 c.before.before.before.before.part-after.ensures c.before.before.before.decimal-before2.ensures c.before.start.given.1)
 
 add-t12 : tie.Need-overflow-add-t12
-add-t12 c = omega (arith, signal-few _ c.before.before.before.before.before.before.before.before.before.part-from.ensures c.before.before.before.before.before.before.before.before.before.before.before.requires c.before.before.before.before.before.before.before.before.decimal-before.ensures c.before.before.before.before.before.before.number.given.1 c.before.before.before.before.part-after.ensures c.before.before.before.decimal-before2.ensures c.before.start.given.1)
+add-t12 c = omega (arith, signal_few _ c.before.before.before.before.before.before.before.before.before.part-from.ensures c.before.before.before.before.before.before.before.before.before.before.before.requires c.before.before.before.before.before.before.before.before.decimal-before.ensures c.before.before.before.before.before.before.number.given.1 c.before.before.before.before.part-after.ensures c.before.before.before.decimal-before2.ensures c.before.start.given.1)
 
 returns-3 : tie.Need-returns-3
-returns-3 c = signal-well _ c.before.before.before.before.before.before.before.before.before.part-from.ensures c.before.before.before.before.before.before.before.before.before.before.before.requires c.before.before.before.before.before.before.before.before.decimal-before.ensures c.before.before.before.before.before.before.number.given.1 c.before.before.before.before.part-after.ensures c.before.before.before.decimal-before2.ensures c.before.start.given.1
+returns-3 c = signal_well _ c.before.before.before.before.before.before.before.before.before.part-from.ensures c.before.before.before.before.before.before.before.before.before.before.before.requires c.before.before.before.before.before.before.before.before.decimal-before.ensures c.before.before.before.before.before.before.number.given.1 c.before.before.before.before.part-after.ensures c.before.before.before.decimal-before2.ensures c.before.start.given.1
 
 pub signal_spec : {M : Type 1} → statement M
 signal_spec =

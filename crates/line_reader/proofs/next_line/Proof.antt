@@ -22,11 +22,11 @@ use Rattle.line.proofs.line_at.Symbol as line-at-def
 use Rattle.line.proofs.line_at.Symbol.{name as #line-at}
 use Rattle.line.proofs.line_at.Met as line-at-thm
 use Rattle.line_reader.specs.declared.LineReader.{LineReader}
-use Rattle.line_reader.specs.Reader.{readerAt}
+use Rattle.line_reader.specs.Reader.{reader_at_spec}
 use Rattle.line_reader.specs.contracts.LineReader as T
 use Rattle.line_reader.proofs.LineReader.TheLaws as T'
-use Rattle.line_reader.specs.contracts.next_line.Key.{name as #next-line}
-use Rattle.line_reader.specs.contracts.next_line as next-line
+use Rattle.line_reader.specs.contracts.next_line.Key.{name as #next_line_law}
+use Rattle.line_reader.specs.contracts.next_line as next_line_law
 use Rattle.line_reader.proofs.next_line.Statement as stated
 use Rattle.line_reader.proofs.next_line.Code as code
 
@@ -41,7 +41,7 @@ B κ' = T.the_row (α κ')
 abbrev behind : Slot 2
 behind = plain (λ κs. T.the_row (named_lft 2 1 tt κs))
 
-abbrev stayed : Stays (next-line.ended).signature.params (next-line.ended).kept
+abbrev stayed : Stays (next_line_law.ended).signature.params (next_line_law.ended).kept
 stayed = (stay_ref (0 ∷ []) tt behind, tt)
 
 -- the machine value of what `line_at` gives
@@ -52,7 +52,7 @@ read-val r = LL.val D.the_type D'.the_laws r
 abbrev LineAt : {M : Type 1} {𝓤 : Ura M} (𝓛 : Logic 𝓤) (mem : Memory → SProp 𝓤) (run : Routine → Fun 𝓤) → Contract 𝓤
 LineAt 𝓛 mem run = triple_of 𝓛 line_at_lem.signature (line_at_lem.spec 𝓛 mem run)
 
-module _ {M : Type 1} {𝓤 : Ura M} (𝓛 : Logic 𝓤) (at_mem : Memory → SProp 𝓤) (run : Routine → Fun 𝓤) (κ κ' : Lft) (q q' : Share) (bounds : AllOutlive 2 (next-line.signature).outlives (κ, (κ', tt))) (b o : ℕ) (γ : GName) (h : LineReader) where
+module _ {M : Type 1} {𝓤 : Ura M} (𝓛 : Logic 𝓤) (at_mem : Memory → SProp 𝓤) (run : Routine → Fun 𝓤) (κ κ' : Lft) (q q' : Share) (bounds : AllOutlive 2 (next_line_law.signature).outlives (κ, (κ', tt))) (b o : ℕ) (γ : GName) (h : LineReader) where
   open 𝓛 use {H, A}
 
   abbrev x : MutBor LineReader × Unit {0}
@@ -63,7 +63,7 @@ module _ {M : Type 1} {𝓤 : Ura M} (𝓛 : Logic 𝓤) (at_mem : Memory → SP
 
   -- the same text at the place n
   abbrev h' : ℕ → LineReader
-  h' n = readerAt h.text n
+  h' n = reader_at_spec h.text n
 
   abbrev found : ReadLine
   found = line_at (now h.text) h.at
@@ -72,7 +72,7 @@ module _ {M : Type 1} {𝓤 : Ura M} (𝓛 : Logic 𝓤) (at_mem : Memory → SP
   Own = (B κ').own_val h (T'.lowered h ∷ [])
 
   abbrev Post : Val → SProp 𝓤
-  Post = (walk_of 𝓛 next-line.ended stayed (next-line.clauses 𝓛 at_mem run)).post (((κ, (κ', tt)), (q, (q', tt)), bounds, x, at), tt)
+  Post = (walk_of 𝓛 next_line_law.ended stayed (next_line_law.clauses 𝓛 at_mem run)).post (((κ, (κ', tt)), (q, (q', tt)), bounds, x, at), tt)
 
   -- what `line_at`'s triple binds outside, and what it asks: the text that the reader holds, and the number
   abbrev to : (LineAt 𝓛 at_mem run).Ghost
@@ -102,8 +102,8 @@ module _ {M : Type 1} {𝓤 : Ura M} (𝓛 : Logic 𝓤) (at_mem : Memory → SP
 
   -- what whoever holds `line_at`'s result knows of its two fields
   module _ (r : ReadLine) (is : Is D.the_row r (read-val r ∷ [])) where
-    line-is : Is S.the_row r.line (EL.vals S.the_type S'.the_laws r.line)
-    line-is = (LL.owed D.the_type D'.the_laws r _ is).0
+    line_is : Is S.the_row r.line (EL.vals S.the_type S'.the_laws r.line)
+    line_is = (LL.owed D.the_type D'.the_laws r _ is).0
 
     next_fits : r.next < 2 ^ 64
     next_fits = (LL.owed D.the_type D'.the_laws r _ is).1.0.1
@@ -111,12 +111,12 @@ module _ {M : Type 1} {𝓤 : Ura M} (𝓛 : Logic 𝓤) (at_mem : Memory → SP
     exits : r ≡ found → ent 𝓤 (sep 𝓤 (A.obs γ ((B κ').coded.code (h' r.next))) (sep 𝓤 (A.bor κ (Body (mem (B κ')) b o γ)) (sep 𝓤 (A.lft κ q) (sep 𝓤 (A.lft κ' q') (emp 𝓤))))) (Post (EL.val S.the_type S'.the_laws r.line))
     exits e =
         qed 𝓛 (‵ (fobs γ ((B κ').coded.code (h' r.next))) ∷ ‵ (fbor κ (Body (mem (B κ')) b o γ)) ∷ ‵ (flft κ q) ∷ (‵ (flft κ' q') ⊛ ‵ ftrue) ∷ []) ∵
-        suffices ! _ (ends_at 𝓛 next-line.ended stayed (next-line.clauses 𝓛 at_mem run) (((κ, (κ', tt)), (q, (q', tt)), bounds, x, at), tt) (EL.val S.the_type S'.the_laws r.line) r.line (h' r.next, tt) (tt, tt)) $ says ! (λ i. ((e i).line, h' (e i).next)) $
+        suffices ! _ (ends_at 𝓛 next_line_law.ended stayed (next_line_law.clauses 𝓛 at_mem run) (((κ, (κ', tt)), (q, (q', tt)), bounds, x, at), tt) (EL.val S.the_type S'.the_laws r.line) r.line (h' r.next, tt) (tt, tt)) $ says ! (λ i. ((e i).line, h' (e i).next)) $
         move ! (2 ∷ 3 ∷ []) $ join ! $ frame ! $ feq_i ! (List Val) (vptr b o ∷ []) (vptr b o ∷ []) refl $ fjoin3 ! $ nothing ! $ move ! (1 ∷ 0 ∷ []) $ fjoin ! $
-        owned ! S.the_row (Is S.the_row) (EL.makes S.the_type S'.the_plain 𝓛) r.line _ line-is $ move ! (1 ∷ 0 ∷ []) $ done !
+        owned ! S.the_row (Is S.the_row) (EL.makes S.the_type S'.the_plain 𝓛) r.line _ line_is $ move ! (1 ∷ 0 ∷ []) $ done !
 
   module _ (C : Calls 𝓤 H) (Λ : Loops 𝓤 H) (fm : FmC 𝓤 H 𝓛.laws C) (known : Triple 𝓤 (C #line-at) (LineAt 𝓛 at_mem run)) where
-    walk : ent 𝓤 (on_entry 𝓛 next-line.signature (κ, (κ', tt)) (q, (q', tt)) x at) (WpFn 𝓤 H C Λ code.function (vptr b o ∷ []) Post)
+    walk : ent 𝓤 (on_entry 𝓛 next_line_law.signature (κ, (κ', tt)) (q, (q', tt)) x at) (WpFn 𝓤 H C Λ code.function (vptr b o ∷ []) Post)
     walk =
         qed 𝓛 ((‵ (flft κ q) ⊛ ‵ (flft κ' q') ⊛ ‵ ftrue) ∷ ‵ (owns (MutRef (named 0) κ (B κ') ∷ []) x at) ∷ []) ∵ enter ! C Λ code.function (vptr b o ∷ []) _ $
         alloc1 ! (λ l₀. alloc1 ! (λ l₁. alloc1 ! (λ l₂. alloc1 ! (λ l₃. alloc1 ! (λ l₄. alloc0 ! $ params1 ! $ pass1 ! (init ! 6 refl (tt, tt)) $ pass0 ! $
@@ -138,7 +138,7 @@ module _ {M : Type 1} {𝓤 : Ura M} (𝓛 : Logic 𝓤) (at_mem : Memory → SP
         land ! (from ! (stop !)) (init ! 11 refl ((LL.lawful D.the_type D'.the_laws 𝓛).typed r _ is).0) $
         rewrite ! 11 (λ (v' : Val). ‵ (fat full_share D'.mir l₂ 0 v')) (ap only (LL.tells D.the_type D'.the_laws r _ is)) refl $
         assigns ! (of_opd ! (load ! (from ! (fld ! refl (stop !))) (look_in ! 11 (sub ! 1 refl (whole !))))) (from ! (hop ! (look ! 13 refl) (fld ! refl (stop !)))) (store_in ! 2 (sub ! 1 refl (whole !)) (tt, record { fits = next_fits r (now-is r u is) })) $
-        assigns ! (of_opd ! (load ! (from ! (fld ! refl (stop !))) (look_in ! 11 (sub ! 0 refl (whole !))))) (from ! (stop !)) (init ! 15 refl ((EL.lawful S.the_type S'.the_laws 𝓛 tt).typed r.line _ (line-is r (now-is r u is))).0) $
+        assigns ! (of_opd ! (load ! (from ! (fld ! refl (stop !))) (look_in ! 11 (sub ! 0 refl (whole !))))) (from ! (stop !)) (init ! 15 refl ((EL.lawful S.the_type S'.the_laws 𝓛 tt).typed r.line _ (line_is r (now-is r u is))).0) $
         -- the borrow is closed at the reader at the next place
         move ! (1 ∷ []) $ use1 𝓛 (‵ ((B κ').own_val (h' r.next) (T'.lowered (h' r.next) ∷ []))) (again r.next (next_fits r (now-is r u is))) $
         move ! (2 ∷ []) $ use1 𝓛 (‵ (cell_at full_share (B κ').mir (T'.lowered (h' r.next) ∷ []) b o)) (𝓛.laws.at_raw full_share (T'.mir erased) b o (T'.lowered (h' r.next))) $
@@ -150,18 +150,18 @@ module _ {M : Type 1} {𝓤 : Ura M} (𝓛 : Logic 𝓤) (at_mem : Memory → SP
 module _ {M : Type 1} {𝓤 : Ura M} (𝓛 : Logic 𝓤) (mem : Memory → SProp 𝓤) (run : Routine → Fun 𝓤) where
   open 𝓛 use {H}
 
-  next-line-walks : (C : Calls 𝓤 H) (Λ : Loops 𝓤 H) → FmC 𝓤 H 𝓛.laws C → Triple 𝓤 (C #line-at) (LineAt 𝓛 mem run) → Walks 𝓛 next-line.ended stayed (WpFn 𝓤 H C Λ code.function) (next-line.clauses 𝓛 mem run)
-  next-line-walks C Λ fm known = walked 𝓛 next-line.ended stayed (next-line.clauses 𝓛 mem run) (WpFn 𝓤 H C Λ code.function) (λ κs. (mut_vals, tt)) (λ κs. (mut_Tells (named 0) κs.0 (B κs.1.0), tt))
+  next-line-walks : (C : Calls 𝓤 H) (Λ : Loops 𝓤 H) → FmC 𝓤 H 𝓛.laws C → Triple 𝓤 (C #line-at) (LineAt 𝓛 mem run) → Walks 𝓛 next_line_law.ended stayed (WpFn 𝓤 H C Λ code.function) (next_line_law.clauses 𝓛 mem run)
+  next-line-walks C Λ fm known = walked 𝓛 next_line_law.ended stayed (next_line_law.clauses 𝓛 mem run) (WpFn 𝓤 H C Λ code.function) (λ κs. (mut_vals, tt)) (λ κs. (mut_Tells (named 0) κs.0 (B κs.1.0), tt))
       (λ κs qs bounds a _ are. via 𝓤 _ (fst∗ 𝓤 _ (emp 𝓤)) (walk 𝓛 mem run κs.0 κs.1.0 qs.0 qs.1.0 bounds a.0.ref_ptr.0 a.0.ref_ptr.1 a.0.ghost_name a.0.now C Λ fm known))
 
 next-line-meets : {M : Type 1} {𝓤 : Ura M} (𝓛 : Logic 𝓤) (mem : Memory → SProp 𝓤) (run : Routine → Fun 𝓤) (𝓣 : Tables 𝓤 𝓛.H) → Triple 𝓤 (𝓣.C #line-at) (LineAt 𝓛 mem run)
-    → Meets 𝓛 next-line.signature (WpFn 𝓤 𝓛.H 𝓣.C 𝓣.Λ code.function) (next-line.spec 𝓛 mem run)
-next-line-meets {𝓤 = 𝓤} 𝓛 mem run 𝓣 known = walk_Meets 𝓛 next-line.ended stayed (Goes-ref 𝓛 2 0 tt behind, tt) (next-line.clauses 𝓛 mem run) (WpFn 𝓤 𝓛.H 𝓣.C 𝓣.Λ code.function) (WpFn-mono 𝓤 𝓛.H 𝓛.laws 𝓣 code.function) (next-line-walks 𝓛 mem run 𝓣.C 𝓣.Λ (fm_of 𝓤 𝓛.H 𝓛.laws 𝓣) known)
+    → Meets 𝓛 next_line_law.signature (WpFn 𝓤 𝓛.H 𝓣.C 𝓣.Λ code.function) (next_line_law.spec 𝓛 mem run)
+next-line-meets {𝓤 = 𝓤} 𝓛 mem run 𝓣 known = walk_Meets 𝓛 next_line_law.ended stayed (Goes-ref 𝓛 2 0 tt behind, tt) (next_line_law.clauses 𝓛 mem run) (WpFn 𝓤 𝓛.H 𝓣.C 𝓣.Λ code.function) (WpFn-mono 𝓤 𝓛.H 𝓛.laws 𝓣 code.function) (next-line-walks 𝓛 mem run 𝓣.C 𝓣.Λ (fm_of 𝓤 𝓛.H 𝓛.laws 𝓣) known)
 
 pub next-line-spec : {M : Type 1} → stated.statement M
 unfolding code.routine tables_of
 next-line-spec 𝓤 𝓛 𝓜 𝓡 =
-    entered 𝓤 𝓛.H (triple_of 𝓛 next-line.signature (next-line.spec 𝓛 𝓜.mem 𝓡.run))
-    (tables 𝓤 𝓛.H 𝓜 𝓡 code.env).C (tables 𝓤 𝓛.H 𝓜 𝓡 code.env).Λ #next-line code.function (code.unfolded 𝓤 𝓛.H 𝓜 𝓡)
+    entered 𝓤 𝓛.H (triple_of 𝓛 next_line_law.signature (next_line_law.spec 𝓛 𝓜.mem 𝓡.run))
+    (tables 𝓤 𝓛.H 𝓜 𝓡 code.env).C (tables 𝓤 𝓛.H 𝓜 𝓡 code.env).Λ #next_line_law code.function (code.unfolded 𝓤 𝓛.H 𝓜 𝓡)
     (next-line-meets 𝓛 𝓜.mem 𝓡.run (tables_of 𝓤 𝓛.H 𝓜 (tables 𝓤 𝓛.H 𝓜 𝓡 code.env))
     (cited 𝓤 𝓛.H (LineAt 𝓛 𝓜.mem 𝓡.run) 𝓜 𝓡 code.env #line-at line-at-def.routine code.calls-line::line-at (line-at-thm.met 𝓤 𝓛 𝓜 𝓡)))

@@ -17,7 +17,7 @@ use denote.Memory.{cell_at, part_of}
 use denote.Lend.{lends_ref, ref_back}
 use denote.Struct.Laws as LL
 use denote.Enum.Laws as EL
-use Rattle.line.specs.LineAt.{readLine, line_at}
+use Rattle.line.specs.LineAt.{read_line, line_at}
 use Rattle.line.specs.declared.Line.{Line}
 use Rattle.line.specs.declared.ReadLine.{ReadLine}
 use Rattle.line.specs.contracts.ReadLine as D
@@ -25,16 +25,16 @@ use Rattle.line.proofs.ReadLine.TheLaws as D'
 use Rattle.line.specs.contracts.Line as S
 use Rattle.line.proofs.Line.TheLaws as S'
 use Rattle.line_reader.specs.declared.LineReader.{LineReader}
-use Rattle.line_reader.specs.Reader.{readerAt, nextLine}
+use Rattle.line_reader.specs.Reader.{reader_at_spec, next_line_spec}
 use Rattle.line_reader.specs.contracts.LineReader as T
 use Rattle.line_reader.proofs.LineReader.TheLaws as T'
 use Rattle.line_reader.specs.contracts.reader_at as reader_at
 use Rattle.line_reader.proofs.reader_at.Symbol as reader-at-def
 use Rattle.line_reader.proofs.reader_at.Symbol.{name as #reader-at}
 use Rattle.line_reader.proofs.reader_at.Met as reader-at-thm
-use Rattle.line_reader.specs.contracts.next_line as next-line
+use Rattle.line_reader.specs.contracts.next_line as next_line_law
 use Rattle.line_reader.proofs.next_line.Symbol as next-line-def
-use Rattle.line_reader.proofs.next_line.Symbol.{name as #next-line}
+use Rattle.line_reader.proofs.next_line.Symbol.{name as #next_line_law}
 use Rattle.line_reader.proofs.next_line.Met as next-line-thm
 use Rattle.line_reader.specs.contracts.read_at.Key.{name as #read-at}
 use Rattle.line_reader.specs.contracts.read_at as read_at
@@ -67,7 +67,7 @@ module _ {M : Type 1} {𝓤 : Ura M} (𝓛 : Logic 𝓤) (mem : Memory → SProp
   ReaderAt = triple_of 𝓛 reader_at.signature (reader_at.spec 𝓛 mem run)
 
   abbrev NextLine : Contract 𝓤
-  NextLine = triple_of 𝓛 next-line.signature (next-line.spec 𝓛 mem run)
+  NextLine = triple_of 𝓛 next_line_law.signature (next_line_law.spec 𝓛 mem run)
 
 module _ {M : Type 1} {𝓤 : Ura M} (𝓛 : Logic 𝓤) (at_mem : Memory → SProp 𝓤) (run : Routine → Fun 𝓤) (κ : Lft) (q : Share) (t : Bor (List ℕ)) (n : ℕ) (fits : n < 2 ^ 64) where
   -- the machine value of the text
@@ -101,8 +101,8 @@ module _ {M : Type 1} {𝓤 : Ura M} (𝓛 : Logic 𝓤) (at_mem : Memory → SP
       qed 𝓛 (‵ (flft κ q) ∷ ‵ Own ∷ []) ∵ nothing ! $ move ! (1 ∷ 0 ∷ []) $ join ! $
       nothing ! $ owned ! usize (Is usize) (uint_Makes 𝓛 w64) n _ (refl, fits) $ fjoin ! $ move ! (2 ∷ 0 ∷ []) $ fjoin ! $ move ! (1 ∷ 0 ∷ []) $ join ! $ frame ! $ done !
 
-  reader-said : (r : LineReader) → ent 𝓤 (ensured 𝓛 reader_at.ended (reader_at.clauses 𝓛 at_mem run) (κ, tt) (t, (n, tt)) tt r) (fact 𝓤 (r ≡ readerAt t n))
-  reader-said r = ex_e 𝓤 _ (λ ws. snd∗ 𝓤 (sem 𝓛 (lasts reader_at.ended (κ, tt) (t, (n, tt)) ws)) (fact 𝓤 (r ≡ readerAt t n)))
+  reader-said : (r : LineReader) → ent 𝓤 (ensured 𝓛 reader_at.ended (reader_at.clauses 𝓛 at_mem run) (κ, tt) (t, (n, tt)) tt r) (fact 𝓤 (r ≡ reader_at_spec t n))
+  reader-said r = ex_e 𝓤 _ (λ ws. snd∗ 𝓤 (sem 𝓛 (lasts reader_at.ended (κ, tt) (t, (n, tt)) ws)) (fact 𝓤 (r ≡ reader_at_spec t n)))
 
   -- the reader r in a local's cell, as it is lent
   laid : (r : LineReader) (u : Val) (b : ℕ) → ent 𝓤 (⋆ 𝓛 (‵ (fat full_share (T'.mir erased) b 0 u) ∷ ‵ (R.own_val r (u ∷ [])) ∷ [])) (sem 𝓛 ((mem R').own_at r b 0))
@@ -130,21 +130,21 @@ module _ {M : Type 1} {𝓤 : Ura M} (𝓛 : Logic 𝓤) (at_mem : Memory → SP
   wt r u is = ((LL.lawful (T.the_type (αᵉ κ)) (T'.the_laws (αᵉ κ)) 𝓛).typed r (u ∷ []) is).0
 
   module _ (l : Line) (m : ℕ) (l-is : Is S.the_row l (line-val l ∷ [])) (m-fits : m < 2 ^ 64) where
-    result-is : Is D.the_row (readLine l m) (LL.val D.the_type D'.the_laws (readLine l m) ∷ [])
-    result-is = LL.owes D.the_type D'.the_laws (readLine l m) (l-is, ((refl, m-fits), tt))
+    result_is : Is D.the_row (read_line l m) (LL.val D.the_type D'.the_laws (read_line l m) ∷ [])
+    result_is = LL.owes D.the_type D'.the_laws (read_line l m) (l-is, ((refl, m-fits), tt))
 
-    exits : readLine l m ≡ line_at (now t) n → ent 𝓤 (⋆ 𝓛 ((‵ (flft κ q) ⊛ ‵ ftrue) ∷ ‵ Own ∷ [])) (Post (LL.val D.the_type D'.the_laws (readLine l m)))
+    exits : read_line l m ≡ line_at (now t) n → ent 𝓤 (⋆ 𝓛 ((‵ (flft κ q) ⊛ ‵ ftrue) ∷ ‵ Own ∷ [])) (Post (LL.val D.the_type D'.the_laws (read_line l m)))
     exits e =
         qed 𝓛 ((‵ (flft κ q) ⊛ ‵ ftrue) ∷ ‵ Own ∷ []) ∵
-        suffices ! _ (ends_at 𝓛 read_at.ended stayed (read_at.clauses 𝓛 at_mem run) (((κ, tt), (q, tt), tt, (t, (n, tt)), vals), tt) (LL.val D.the_type D'.the_laws (readLine l m)) (readLine l m) (tt, (tt, tt)) (tt, (tt, tt))) $ says ! e $ frame ! $
-        owned ! D.the_row (Is D.the_row) (LL.makes D.the_type D'.the_plain 𝓛) (readLine l m) _ result-is $ move ! (1 ∷ 0 ∷ []) $
+        suffices ! _ (ends_at 𝓛 read_at.ended stayed (read_at.clauses 𝓛 at_mem run) (((κ, tt), (q, tt), tt, (t, (n, tt)), vals), tt) (LL.val D.the_type D'.the_laws (read_line l m)) (read_line l m) (tt, (tt, tt)) (tt, (tt, tt))) $ says ! e $ frame ! $
+        owned ! D.the_row (Is D.the_row) (LL.makes D.the_type D'.the_plain 𝓛) (read_line l m) _ result_is $ move ! (1 ∷ 0 ∷ []) $
         nothing ! $ owned ! usize (Is usize) (uint_Makes 𝓛 w64) n _ (refl, fits) $ fjoin ! $ move ! (1 ∷ 0 ∷ []) $ fjoin ! $ done !
 
   -- what `next_line` says, of the reader that `reader_at` gave
-  said : (r r' : LineReader) (l : Line) → r ≡ readerAt t n → (l, r') ≡ nextLine r → readLine l r'.at ≡ line_at (now t) n
-  said r r' l e f = (λ i. readLine (f i).0 (f i).1.at) ∙ ap (λ (r'' : LineReader). line_at (now r''.text) r''.at) e
+  said : (r r' : LineReader) (l : Line) → r ≡ reader_at_spec t n → (l, r') ≡ next_line_spec r → read_line l r'.at ≡ line_at (now t) n
+  said r r' l e f = (λ i. read_line (f i).0 (f i).1.at) ∙ ap (λ (r'' : LineReader). line_at (now r''.text) r''.at) e
 
-  module _ (C : Calls 𝓤 H) (Λ : Loops 𝓤 H) (fm : FmC 𝓤 H 𝓛.laws C) (known-reader : Triple 𝓤 (C #reader-at) (ReaderAt 𝓛 at_mem run)) (known_next : Triple 𝓤 (C #next-line) (NextLine 𝓛 at_mem run)) where
+  module _ (C : Calls 𝓤 H) (Λ : Loops 𝓤 H) (fm : FmC 𝓤 H 𝓛.laws C) (known-reader : Triple 𝓤 (C #reader-at) (ReaderAt 𝓛 at_mem run)) (known_next : Triple 𝓤 (C #next_line_law) (NextLine 𝓛 at_mem run)) where
     walk : Is (ShrSlice (named 0) κ u8) t (v ∷ []) → ent 𝓤 (on_entry 𝓛 read_at.signature (κ, tt) (q, tt) (t, (n, tt)) vals) (WpFn 𝓤 H C Λ code.function (v ∷ vint w64 n ∷ []) Post)
     unfolding part_of
     walk p =
@@ -158,7 +158,7 @@ module _ {M : Type 1} {𝓤 : Ura M} (𝓛 : Logic 𝓤) (at_mem : Memory → SP
         -- [the call's; true; what the text owns; _7; …; _6; …; _5; …; _4; …; _3; …; _2; …; _1; …; room for _0; …]
         calls_at ! fm (ReaderAt 𝓛 at_mem run) known-reader to-reader (and_then ! (load ! (from ! (stop !)) (look ! 15 refl)) (and_then ! (load ! (from ! (stop !)) (look ! 13 refl)) (no_more !))) (λ u.
         use1 𝓛 (later (some (λ (r : LineReader). ((‵ (flft κ q) ⊛ ‵ ftrue) ⊛ ‵ (R.own_val r (u ∷ []))) ⊛ raw (ensured 𝓛 reader_at.ended (reader_at.clauses 𝓛 at_mem run) (κ, tt) (t, (n, tt)) tt r)))) (id⊢ 𝓤 _) $ await ! tt $ pick ! (λ r.
-        split ! $ move ! (1 ∷ []) $ use1 𝓛 (raw (fact 𝓤 (r ≡ readerAt t n))) (reader-said r) $ heard ! (r ≡ readerAt t n) (λ e. split ! $ move ! (1 ∷ []) $
+        split ! $ move ! (1 ∷ []) $ use1 𝓛 (raw (fact 𝓤 (r ≡ reader_at_spec t n))) (reader-said r) $ heard ! (r ≡ reader_at_spec t n) (λ e. split ! $ move ! (1 ∷ []) $
         -- [what the reader owns; the token; true; what the text owns; _7; …; _6; …; room for _5; …; _4; …; _3; …; _2; …; _1; …; room for _0; …]
         peeks ! R (Is R) (shows 𝓛 R) r (u ∷ []) (λ is.
         land ! (from ! (stop !)) (init ! 8 refl (wt r u is)) $
@@ -173,10 +173,10 @@ module _ {M : Type 1} {𝓤 : Ura M} (𝓛 : Logic 𝓤) (at_mem : Memory → SP
         move ! (2 ∷ 4 ∷ 0 ∷ []) $ use3 𝓛 (raw ((NextLine 𝓛 at_mem run).pre (to-next ν l₃ δ r))) (goes-next ν l₃ δ r) $
         -- [the call's; the lender's part; ν's rest; true; true; what the text owns; _7; …; _6; …; _5; …; _4; …; (_3's); _2; …; _1; …; room for _0; …]
         calls_at ! fm (NextLine 𝓛 at_mem run) known_next (to-next ν l₃ δ r) (and_then ! (load ! (from ! (stop !)) (look ! 8 refl)) (no_more !)) (λ w.
-        use1 𝓛 (later (some (λ (l : Line). ((‵ (flft (ν ∷ κ) (PosShare.right q)) ⊛ ‵ (flft κ (PosShare.left q)) ⊛ ‵ ftrue) ⊛ ‵ ((S.the_row).own_val l (w ∷ []))) ⊛ raw (ensured 𝓛 next-line.ended (next-line.clauses 𝓛 at_mem run) (ν ∷ κ, (κ, tt)) (ref l₃ δ r, tt) tt l)))) (id⊢ 𝓤 _) $ await ! tt $ pick ! (λ l.
+        use1 𝓛 (later (some (λ (l : Line). ((‵ (flft (ν ∷ κ) (PosShare.right q)) ⊛ ‵ (flft κ (PosShare.left q)) ⊛ ‵ ftrue) ⊛ ‵ ((S.the_row).own_val l (w ∷ []))) ⊛ raw (ensured 𝓛 next_line_law.ended (next_line_law.clauses 𝓛 at_mem run) (ν ∷ κ, (κ, tt)) (ref l₃ δ r, tt) tt l)))) (id⊢ 𝓤 _) $ await ! tt $ pick ! (λ l.
         -- what `next_line` ensures, at some last reader
-        split ! $ move ! (1 ∷ []) $ use1 𝓛 (some (λ (rs : LineReader × Unit {0}). ‵ (lasts next-line.ended (ν ∷ κ, (κ, tt)) (ref l₃ δ r, tt) rs) ⊛ raw (fact 𝓤 ((l, rs.0) ≡ nextLine r)))) (id⊢ 𝓤 _) $ pick ! (λ rs.
-        split ! $ move ! (1 ∷ []) $ heard ! ((l, rs.0) ≡ nextLine r) (λ f. fsplit ! $
+        split ! $ move ! (1 ∷ []) $ use1 𝓛 (some (λ (rs : LineReader × Unit {0}). ‵ (lasts next_line_law.ended (ν ∷ κ, (κ, tt)) (ref l₃ δ r, tt) rs) ⊛ raw (fact 𝓤 ((l, rs.0) ≡ next_line_spec r)))) (id⊢ 𝓤 _) $ pick ! (λ rs.
+        split ! $ move ! (1 ∷ []) $ heard ! ((l, rs.0) ≡ next_line_spec r) (λ f. fsplit ! $
         move ! (2 ∷ []) $ split ! $ move ! (1 ∷ []) $ peeks ! S.the_row (Is S.the_row) (shows 𝓛 S.the_row) l (w ∷ []) (λ l-is. drop ! $
         -- [the tokens; the last reader; …; the lender's part; ν's rest; true; true; what the text owns; _7; …; _6; …; _5; …; room for _4; …; _3's end; _2; …; _1; …; room for _0; …]
         land ! (from ! (stop !)) (init ! 14 refl ((EL.lawful S.the_type S'.the_laws 𝓛 tt).typed l _ l-is).0) $
@@ -189,7 +189,7 @@ module _ {M : Type 1} {𝓤 : Ura M} (𝓛 : Logic 𝓤) (at_mem : Memory → SP
         use1 𝓛 (‵ (fat full_share (T'.mir erased) l₃ 0 (T'.lowered rs.0))) (𝓛.laws.raw_at full_share (T'.mir erased) l₃ 0 (T'.lowered rs.0)) $
         -- [_3; a half of the text's token; the other half; …; true; true; what the text owns; _7; …; _6; …; _5; …; _4; …; _3's end; _2; …; _1; …; room for _0; …]
         assigns ! (of_opd ! (load ! (from ! (fld ! refl (stop !))) (look_in ! 0 (sub ! 1 refl (whole !))))) (from ! (stop !)) (init ! 7 refl (tt, (wt rs.0 (T'.lowered rs.0) now-is).1.1.0)) $
-        assigns ! (agg ! (and_then ! (load ! (from ! (stop !)) (look ! 13 refl)) (and_then ! (load ! (from ! (stop !)) (look ! 7 refl)) (no_more !)))) (from ! (stop !)) (init ! 20 refl ((LL.lawful D.the_type D'.the_laws 𝓛).typed (readLine l rs.0.at) _ (result-is l rs.0.at (lined l w l-is) (wt rs.0 (T'.lowered rs.0) now-is).1.1.0.fits)).0) $
+        assigns ! (agg ! (and_then ! (load ! (from ! (stop !)) (look ! 13 refl)) (and_then ! (load ! (from ! (stop !)) (look ! 7 refl)) (no_more !)))) (from ! (stop !)) (init ! 20 refl ((LL.lawful D.the_type D'.the_laws 𝓛).typed (read_line l rs.0.at) _ (result_is l rs.0.at (lined l w l-is) (wt rs.0 (T'.lowered rs.0) now-is).1.1.0.fits)).0) $
         returns ! (look ! 20 refl) $ forget ! 0 refl $ forget ! 7 refl $ forget ! 9 refl $ forget ! 11 refl $ forget ! 13 refl $ forget ! 16 refl $ forget ! 18 refl $ forget ! 20 refl $
         move ! (20 ∷ 21 ∷ []) $ free1 ! $ move ! (18 ∷ 19 ∷ []) $ free1 ! $ move ! (16 ∷ 17 ∷ []) $ free1 ! $ move ! (0 ∷ 15 ∷ []) $ free1 ! $ move ! (12 ∷ 13 ∷ []) $ free1 ! $ move ! (10 ∷ 11 ∷ []) $ free1 ! $ move ! (8 ∷ 9 ∷ []) $ free1 ! $ move ! (6 ∷ 7 ∷ []) $ free1 ! $ free0 ! $
         -- the halves of the token are one again
@@ -199,12 +199,12 @@ module _ {M : Type 1} {𝓤 : Ura M} (𝓛 : Logic 𝓤) (at_mem : Memory → SP
 module _ {M : Type 1} {𝓤 : Ura M} (𝓛 : Logic 𝓤) (mem : Memory → SProp 𝓤) (run : Routine → Fun 𝓤) where
   open 𝓛 use {H}
 
-  read-at-walks : (C : Calls 𝓤 H) (Λ : Loops 𝓤 H) → FmC 𝓤 H 𝓛.laws C → Triple 𝓤 (C #reader-at) (ReaderAt 𝓛 mem run) → Triple 𝓤 (C #next-line) (NextLine 𝓛 mem run) → Walks 𝓛 read_at.ended stayed (WpFn 𝓤 H C Λ code.function) (read_at.clauses 𝓛 mem run)
+  read-at-walks : (C : Calls 𝓤 H) (Λ : Loops 𝓤 H) → FmC 𝓤 H 𝓛.laws C → Triple 𝓤 (C #reader-at) (ReaderAt 𝓛 mem run) → Triple 𝓤 (C #next_line_law) (NextLine 𝓛 mem run) → Walks 𝓛 read_at.ended stayed (WpFn 𝓤 H C Λ code.function) (read_at.clauses 𝓛 mem run)
   read-at-walks C Λ fm known-reader known_next = walked 𝓛 read_at.ended stayed (read_at.clauses 𝓛 mem run) (WpFn 𝓤 H C Λ code.function) (λ κs. (shr_slice_vals, (uint_vals w64, tt))) (λ κs. (shr_slice_Tells (named 0) κs.0 u8, (uint_Tells w64, tt)))
       (λ κs qs bounds a g are. via 𝓤 _ (fst∗ 𝓤 _ (emp 𝓤)) (walk 𝓛 mem run κs.0 qs.0 a.0 a.1.0 are.1.0.1 C Λ fm known-reader known_next are.0))
 
 read-at-meets : {M : Type 1} {𝓤 : Ura M} (𝓛 : Logic 𝓤) (mem : Memory → SProp 𝓤) (run : Routine → Fun 𝓤) (𝓣 : Tables 𝓤 𝓛.H)
-    → Triple 𝓤 (𝓣.C #reader-at) (ReaderAt 𝓛 mem run) → Triple 𝓤 (𝓣.C #next-line) (NextLine 𝓛 mem run)
+    → Triple 𝓤 (𝓣.C #reader-at) (ReaderAt 𝓛 mem run) → Triple 𝓤 (𝓣.C #next_line_law) (NextLine 𝓛 mem run)
     → Meets 𝓛 read_at.signature (WpFn 𝓤 𝓛.H 𝓣.C 𝓣.Λ code.function) (read_at.spec 𝓛 mem run)
 read-at-meets {𝓤 = 𝓤} 𝓛 mem run 𝓣 known-reader known_next =
     walk_Meets 𝓛 read_at.ended stayed (Goes-none_slice 𝓛 1 (0 ∷ []) tt (plain (λ _. u8)) yes, (Goes-none 𝓛 1 (λ _. usize) yes (λ κs x f. refl), tt)) (read_at.clauses 𝓛 mem run)
@@ -217,4 +217,4 @@ read-at-spec 𝓤 𝓛 𝓜 𝓡 =
     (tables 𝓤 𝓛.H 𝓜 𝓡 code.env).C (tables 𝓤 𝓛.H 𝓜 𝓡 code.env).Λ #read-at code.function (code.unfolded 𝓤 𝓛.H 𝓜 𝓡)
     (read-at-meets 𝓛 𝓜.mem 𝓡.run (tables_of 𝓤 𝓛.H 𝓜 (tables 𝓤 𝓛.H 𝓜 𝓡 code.env))
     (cited 𝓤 𝓛.H (ReaderAt 𝓛 𝓜.mem 𝓡.run) 𝓜 𝓡 code.env #reader-at reader-at-def.routine code.calls-line-reader::reader-at (reader-at-thm.met 𝓤 𝓛 𝓜 𝓡))
-    (cited 𝓤 𝓛.H (NextLine 𝓛 𝓜.mem 𝓡.run) 𝓜 𝓡 code.env #next-line next-line-def.routine code.calls-line-reader::next-line (next-line-thm.met 𝓤 𝓛 𝓜 𝓡)))
+    (cited 𝓤 𝓛.H (NextLine 𝓛 𝓜.mem 𝓡.run) 𝓜 𝓡 code.env #next_line_law next-line-def.routine code.calls-line-reader::next_line_law (next-line-thm.met 𝓤 𝓛 𝓜 𝓡)))

@@ -7,7 +7,7 @@ use denote.Ref.{Bor}
 use Rattle.only.specs.Walk.{refl, ℕ, ◌<◌, ◌^◌, List, [], ◌∷◌, length, Ura, named, w64, Val, vint, SProp, ent, emp, via, fst∗, Lft, Share, Fml, ftrue, flft, Memory, Routine, Calls, Loops, WpFn, Tables, Fun, ‵, raw, ◌⊛◌, ◌$◌, ◌∵◌, !, qed, by, move, use1, split, fsplit, fjoin, suffices, frame, agg, look, init, forget, stop, from, load, and_then, no_more, assigns, returns, enter, alloc1, alloc0, params1, pass1, pass0, free1, free0, WpFn-mono, owns, Is, uint_vals, uint_Tells, uint_Makes, u8, usize, RefT, NamedLft, plain, named_lft, slice_val, ShrSlice, slice-vals, shr_slice_Tells, shr_slice_Lawful, shr_slice_copy, nothing, owned, own_shut, on_entry, Meets, triple_of, entered, says, Stays, stay_none, stay_none_slice, walk_of, Goes-none, Goes-none_slice, Walks, ends_at, walked, walk_Meets, yes}
 use contract.Running.{tables, tables_of}
 use Rattle.line_reader.specs.declared.LineReader.{LineReader}
-use Rattle.line_reader.specs.Reader.{readerAt}
+use Rattle.line_reader.specs.Reader.{reader_at_spec}
 use Rattle.line_reader.specs.contracts.LineReader as T
 use Rattle.line_reader.proofs.LineReader.TheLaws as T'
 use Rattle.line_reader.specs.contracts.reader_at.Key.{name as #reader-at}
@@ -29,7 +29,7 @@ module _ {M : Type 1} {𝓤 : Ura M} (𝓛 : Logic 𝓤) (mem : Memory → SProp
   v = slice_val s.ref_ptr (length s.now)
 
   abbrev made : LineReader
-  made = readerAt s n
+  made = reader_at_spec s n
 
   abbrev at : List Val × (List Val × Unit {0})
   at = (v ∷ [], (vint w64 n ∷ [], tt))

@@ -1,7 +1,7 @@
 -- `line_writer::put_places` meets its contract: a number of 32 bits is a place, whose values take ten bytes. Assumes nothing.
 use native.Mathlib.Omega.{arith}
-use Rattle.reading.proofs.LineLengths.{place-long}
-use Rattle.line_writer.proofs.Pieces.{places-put}
+use Rattle.reading.proofs.LineLengths.{place_long}
+use Rattle.line_writer.proofs.Pieces.{places_put}
 use borrow.Author.Rules.{rules}
 use Rattle.line_writer.proofs.put_places.Statement.{statement}
 use Rattle.line_writer.proofs.put_places.Tie as tie
@@ -14,16 +14,16 @@ put-place-requires : tie.Need-put-place-requires
 put-place-requires c κs = omega (arith, c.before.before.requires)
 
 put-byte-requires : tie.Need-put-byte-requires
-put-byte-requires c κs = omega (arith, c.before.before.before.before.before.before.requires, c.before.before.before.put-place.ensures.now-at, place-long c.before.before.before.before.before.before.args.from c.before.before.before.before.before.before.ranges.from.fits)
+put-byte-requires c κs = omega (arith, c.before.before.before.before.before.before.requires, c.before.before.before.put-place.ensures.now_at, place_long c.before.before.before.before.before.before.args.from c.before.before.before.before.before.before.ranges.from.fits)
 
 put-place-requires-2 : tie.Need-put-place-requires-2
-put-place-requires-2 c κs = omega (arith, c.before.before.before.before.before.before.before.before.before.before.requires, c.before.before.before.before.before.before.before.put-place.ensures.now-at, c.before.before.before.put_byte.ensures.now-at, place-long c.before.before.before.before.before.before.before.before.before.before.args.from c.before.before.before.before.before.before.before.before.before.before.ranges.from.fits)
+put-place-requires-2 c κs = omega (arith, c.before.before.before.before.before.before.before.before.before.before.requires, c.before.before.before.before.before.before.before.put-place.ensures.now_at, c.before.before.before.put_byte.ensures.now_at, place_long c.before.before.before.before.before.before.before.before.before.before.args.from c.before.before.before.before.before.before.before.before.before.before.ranges.from.fits)
 
 same_length : tie.Need-same-length
 same_length c = search rules
 
 returns : tie.Need-returns
-returns c = places-put _ _ c.before.before.before.before.before.before.before.before.before.before.put-place.ensures c.before.before.before.before.before.before.put_byte.ensures c.before.before.put-place2.ensures
+returns c = places_put _ _ c.before.before.before.before.before.before.before.before.before.before.put-place.ensures c.before.before.before.before.before.before.put_byte.ensures c.before.before.put-place2.ensures
 
 pub put-places-spec : {M : Type 1} → statement M
 put-places-spec =

@@ -1,7 +1,7 @@
 -- `line_writer::route_length` meets its contract: a number of 32 bits is a place, whose bus has one digit. Assumes nothing.
 use native.Mathlib.Omega.{arith}
 use Rattle.numerals.proofs.Decimals.{width_few}
-use Rattle.reading.proofs.LineLengths.{bus-digit, route-long}
+use Rattle.reading.proofs.LineLengths.{bus_digit, route_long}
 use borrow.Author.Rules.{rules}
 use Rattle.line_writer.proofs.route_length.Statement.{statement}
 use Rattle.line_writer.proofs.route_length.Tie as tie
@@ -16,7 +16,7 @@ decimal-width-requires-2 : tie.Need-decimal-width-requires-2
 decimal-width-requires-2 c κs = search rules
 
 add-buses : tie.Need-overflow-add-buses
-add-buses c = omega (arith, c.decimal-width2.ensures, c.before.decimal-width.ensures, bus-digit c.before.before.args.from c.before.before.ranges.from.fits, bus-digit c.before.before.args.to c.before.before.ranges.to.fits)
+add-buses c = omega (arith, c.decimal-width2.ensures, c.before.decimal-width.ensures, bus_digit c.before.before.args.from c.before.before.ranges.from.fits, bus_digit c.before.before.args.to c.before.before.ranges.to.fits)
 
 decimal-width-requires-3 : tie.Need-decimal-width-requires-3
 decimal-width-requires-3 c κs = search rules
@@ -25,13 +25,13 @@ add-result : tie.Need-overflow-add-result
 add-result c = omega (arith, c.decimal-width3.ensures, width_few c.before.before.before.args.gateway)
 
 add-result-2 : tie.Need-overflow-add-result-2
-add-result-2 c = omega (arith, width_few c.before.before.before.args.gateway, c.decimal-width3.ensures, c.before.decimal-width2.ensures, c.before.before.decimal-width.ensures, bus-digit c.before.before.before.args.from c.before.before.before.ranges.from.fits, bus-digit c.before.before.before.args.to c.before.before.before.ranges.to.fits)
+add-result-2 c = omega (arith, width_few c.before.before.before.args.gateway, c.decimal-width3.ensures, c.before.decimal-width2.ensures, c.before.before.decimal-width.ensures, bus_digit c.before.before.before.args.from c.before.before.before.ranges.from.fits, bus_digit c.before.before.before.args.to c.before.before.before.ranges.to.fits)
 
 cast-result : tie.Need-overflow-cast-result
-cast-result c = omega (arith, width_few c.before.before.before.args.gateway, c.decimal-width3.ensures, c.before.decimal-width2.ensures, c.before.before.decimal-width.ensures, bus-digit c.before.before.before.args.from c.before.before.before.ranges.from.fits, bus-digit c.before.before.before.args.to c.before.before.before.ranges.to.fits)
+cast-result c = omega (arith, width_few c.before.before.before.args.gateway, c.decimal-width3.ensures, c.before.decimal-width2.ensures, c.before.before.decimal-width.ensures, bus_digit c.before.before.before.args.from c.before.before.before.ranges.from.fits, bus_digit c.before.before.before.args.to c.before.before.before.ranges.to.fits)
 
 returns : tie.Need-returns
-returns c = omega (arith, c.decimal-width3.ensures, c.before.decimal-width2.ensures, c.before.before.decimal-width.ensures, bus-digit c.before.before.before.args.from c.before.before.before.ranges.from.fits, bus-digit c.before.before.before.args.to c.before.before.before.ranges.to.fits, route-long c.before.before.before.args.gateway c.before.before.before.args.from c.before.before.before.args.to c.before.before.before.ranges.from.fits c.before.before.before.ranges.to.fits)
+returns c = omega (arith, c.decimal-width3.ensures, c.before.decimal-width2.ensures, c.before.before.decimal-width.ensures, bus_digit c.before.before.before.args.from c.before.before.before.ranges.from.fits, bus_digit c.before.before.before.args.to c.before.before.before.ranges.to.fits, route_long c.before.before.before.args.gateway c.before.before.before.args.from c.before.before.before.args.to c.before.before.before.ranges.from.fits c.before.before.before.ranges.to.fits)
 
 pub route-length-spec : {M : Type 1} → statement M
 route-length-spec =

@@ -1,7 +1,7 @@
 -- `line_writer::signal_length` meets its contract: letter, two tabs, newline, and the digits of both numbers. Assumes nothing.
 use native.Mathlib.Omega.{arith}
 use Rattle.numerals.proofs.Decimals.{width_few}
-use Rattle.reading.proofs.LineLengths.{signal-long}
+use Rattle.reading.proofs.LineLengths.{signal_long}
 use borrow.Author.Rules.{rules}
 use Rattle.line_writer.proofs.signal_length.Statement.{statement}
 use Rattle.line_writer.proofs.signal_length.Tie as tie
@@ -25,7 +25,7 @@ cast-result : tie.Need-overflow-cast-result
 cast-result c = omega (arith, c.before.decimal-width.ensures, c.decimal-width2.ensures, width_few c.before.before.args.number, width_few c.before.before.args.start)
 
 returns : tie.Need-returns
-returns c = omega (arith, c.before.decimal-width.ensures, c.decimal-width2.ensures, signal-long c.before.before.args.number c.before.before.args.start)
+returns c = omega (arith, c.before.decimal-width.ensures, c.decimal-width2.ensures, signal_long c.before.before.args.number c.before.before.args.start)
 
 pub signal-length-spec : {M : Type 1} → statement M
 signal-length-spec =

@@ -4,9 +4,9 @@ use Prim.Native.Nat.{◌-◌}
 use native.Mathlib.Omega.{arith}
 use borrow.Author.Rules.{rules}
 use lib.ListN.{length, length-drop}
-use Rattle.books.specs.Words.{messagesOf}
+use Rattle.books.specs.Words.{messages_of}
 use Rattle.listing.specs.Printout.{printout}
-use Rattle.listing.proofs.Running.{Ran, none-ran, all-ran, no_end, no_room, line-ran, went, stayed, stayed-long}
+use Rattle.listing.proofs.Running.{Ran, none_ran, all_ran, no_end, no_room, line_ran, went, stayed, stayed_long}
 use Rattle.listing.proofs.list_lines.Statement.{statement}
 use Rattle.listing.proofs.list_lines.Tie as tie
 use Rattle.listing.proofs.list_lines.Reads as reads
@@ -17,13 +17,13 @@ use Rattle.parts.proofs.part_before.Reads as part-before-reads
 use Rattle.parts.proofs.part_from.Reads as part-from-reads
 
 abbrev invariant-loop : tie.invariant-loop
-invariant-loop book text out₀ figures used₀ written₀ out used written = Ran (printout figures (messagesOf book)) text out₀ out used written
+invariant-loop book text out₀ figures used₀ written₀ out used written = Ran (printout figures (messages_of book)) text out₀ out used written
 
 abbrev decreases-loop : tie.decreases-loop
 decreases-loop book text out₀ figures used₀ written₀ out used written = length text - used
 
 loop-holds : tie.Need-loop-init invariant-loop decreases-loop
-loop-holds c = none-ran _ _ _
+loop-holds c = none_ran _ _ _
 
 part-from-requires : tie.Need-part-from-requires invariant-loop decreases-loop
 part-from-requires c κs = omega (arith, c.before.loop.invariant.within)
@@ -56,13 +56,13 @@ loop-less : tie.Need-loop-smaller invariant-loop decreases-loop
 loop-less c = omega (arith, c.before.before.before.before.before.before.before.before.before.before.before.loop-test.true)
 
 loop-again : tie.Need-loop-preserved invariant-loop decreases-loop
-loop-again c = line-ran c.before.before.before.before.before.before.before.before.before.before.before.before.loop.invariant c.before.before.before.before.before.before.before.before.before.before.before.loop-test.true c.before.before.before.before.before.before.before.before.before.before.part-from.ensures c.before.before.before.before.before.before.before.before.before.find.ensures c.before.before.before.before.before.before.before.before.if1.false c.before.before.before.before.before.before.before.part-before.ensures (went _ _ _ c.before.before.before.before.before.list-line.ensures _ c.before.next.given.1)
+loop-again c = line_ran c.before.before.before.before.before.before.before.before.before.before.before.before.loop.invariant c.before.before.before.before.before.before.before.before.before.before.before.loop-test.true c.before.before.before.before.before.before.before.before.before.before.part-from.ensures c.before.before.before.before.before.before.before.before.before.find.ensures c.before.before.before.before.before.before.before.before.if1.false c.before.before.before.before.before.before.before.part-before.ensures (went _ _ _ c.before.before.before.before.before.list-line.ensures _ c.before.next.given.1)
 
 enum_told : tie.Need-enum-told invariant-loop decreases-loop
 enum_told c = search rules
 
 same-length-2 : tie.Need-same-length-2 invariant-loop decreases-loop
-same-length-2 c = stayed-long _ _ _ c.before.before.before.before.list-line.ensures c.enum_told.given.1 ∙ c.before.before.before.before.before.before.before.before.before.before.before.loop.invariant.size
+same-length-2 c = stayed_long _ _ _ c.before.before.before.before.list-line.ensures c.enum_told.given.1 ∙ c.before.before.before.before.before.before.before.before.before.before.before.loop.invariant.size
 
 returns-2 : tie.Need-returns-2 invariant-loop decreases-loop
 returns-2 c = no_room c.before.before.before.before.before.before.before.before.before.before.before.loop.invariant c.before.before.before.before.before.before.before.before.before.before.loop-test.true c.before.before.before.before.before.before.before.before.before.part-from.ensures c.before.before.before.before.before.before.before.before.find.ensures c.before.before.before.before.before.before.before.if1.false c.before.before.before.before.before.before.part-before.ensures (stayed _ _ _ c.before.before.before.before.list-line.ensures c.enum_told.given.1)
@@ -71,7 +71,7 @@ same-length-3 : tie.Need-same-length-3 invariant-loop decreases-loop
 same-length-3 c = c.before.loop.invariant.size
 
 returns-3 : tie.Need-returns-3 invariant-loop decreases-loop
-returns-3 c = all-ran c.before.loop.invariant c.loop-test.false
+returns-3 c = all_ran c.before.loop.invariant c.loop-test.false
 
 pub list-lines-spec : {M : Type 1} → statement M
 list-lines-spec =

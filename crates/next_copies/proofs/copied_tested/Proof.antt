@@ -1,7 +1,7 @@
 -- `next_copies::copied_tested` meets its contract: each test that led to a refusal is that refusal's own, in their order, and what is copied are the
 -- gateway's copies. Assumes nothing.
 use native.Mathlib.Omega.{arith}
-use Rattle.next_copies.specs.Answers.{no-gateway, no_start}
+use Rattle.next_copies.specs.Answers.{no_gateway, no_start}
 use Rattle.next_copies.proofs.Answered.{over, within, count_low, too_many, copied_all}
 use borrow.Author.Rules.{rules}
 use Rattle.next_copies.proofs.copied_tested.Statement.{statement}
@@ -13,13 +13,13 @@ use Rattle.next_copies.proofs.gather.Reads as gather-reads
 use Rattle.record.proofs.place.Reads as place-reads
 
 returns : tie.Need-returns
-returns c = no-gateway (omega (arith, c.if1.true))
+returns c = no_gateway (omega (arith, c.if1.true))
 
 returns-2 : tie.Need-returns-2
 returns-2 c = no_start (omega (arith, c.before.if1.false)) (over _ _ c.if2.true)
 
 place-requires : tie.Need-place-requires
-place-requires c κs = let at = within _ _ c.if2.false in (at.on-bus, at.identified)
+place-requires c κs = let at = within _ _ c.if2.false in (at.on_bus, at.identified)
 
 gather-requires : tie.Need-gather-requires
 gather-requires c κs = search rules

@@ -4,8 +4,8 @@ use Prim.Native.Nat.{◌-◌}
 use mathlib.Core.Path.{◌≡◌}
 use native.Mathlib.Omega.{arith}
 use lib.ListN.{length}
-use Rattle.record.specs.Limits.{routeLimit}
-use Rattle.routes.proofs.Front.{FrontWritten, front-none, front-more, front-end}
+use Rattle.record.specs.Limits.{route_limit}
+use Rattle.routes.proofs.Front.{FrontWritten, front_none, front_more, front_end}
 use Rattle.next_copies.proofs.copy.Statement.{statement}
 use Rattle.next_copies.proofs.copy.Tie as tie
 use Rattle.next_copies.proofs.copy.Reads as reads
@@ -18,7 +18,7 @@ abbrev decreases-loop : tie.decreases-loop
 decreases-loop from n room₀ entries i₀ room i = n - i
 
 loop-holds : tie.Need-loop-init invariant-loop decreases-loop
-loop-holds c = front-none _ _ _
+loop-holds c = front_none _ _ _
 
 mul-room : tie.Need-overflow-mul-room invariant-loop decreases-loop
 mul-room c = search rules
@@ -41,14 +41,14 @@ loop-less c = search rules
 loop-again : tie.Need-loop-preserved invariant-loop decreases-loop
 loop-again c =
     let z = c.before.before.before.before in
-    let long : length z.args.from.now ≡ routeLimit = search rules in
-    front-more _ _ _ _ _ c.before.before.loop.invariant c.before.loop-test.true (omega (arith, z.requires.0)) z.requires.1
+    let long : length z.args.from.now ≡ route_limit = search rules in
+    front_more _ _ _ _ _ c.before.before.loop.invariant c.before.loop-test.true (omega (arith, z.requires.0)) z.requires.1
 
 same_length : tie.Need-same-length invariant-loop decreases-loop
 same_length c = search rules
 
 returns : tie.Need-returns invariant-loop decreases-loop
-returns c = front-end _ _ _ _ _ c.before.loop.invariant c.loop-test.false
+returns c = front_end _ _ _ _ _ c.before.loop.invariant c.loop-test.false
 
 pub copy_spec : {M : Type 1} → statement M
 copy_spec =

@@ -1,7 +1,7 @@
 -- `next_copies::next_copies` meets its contract: the tables are tested first. Assumes nothing.
 use borrow.Author.Tests.{not-true, not-false}
-use Rattle.chains.proofs.Bools.{told-yes, told-no}
-use Rattle.next_copies.specs.Answers.{no-book, by-the-routes}
+use Rattle.chains.proofs.Bools.{told_yes, told_no}
+use Rattle.next_copies.specs.Answers.{no_book_law, by_the_routes}
 use borrow.Author.Rules.{rules}
 use Rattle.next_copies.proofs.next_copies.Statement.{statement}
 use Rattle.next_copies.proofs.next_copies.Tie as tie
@@ -14,16 +14,16 @@ routes-taken-requires : tie.Need-routes-taken-requires
 routes-taken-requires c κs = search rules
 
 returns : tie.Need-returns
-returns c = no-book (told-no c.before.routes-taken.result c.before.routes-taken.ensures (not-true c.before.routes-taken.result c.if1.true))
+returns c = no_book_law (told_no c.before.routes-taken.result c.before.routes-taken.ensures (not-true c.before.routes-taken.result c.if1.true))
 
 copied-tested-requires : tie.Need-copied-tested-requires
-copied-tested-requires c κs = told-yes c.before.before.routes-taken.result c.before.before.routes-taken.ensures (not-false c.before.before.routes-taken.result c.before.if1.false)
+copied-tested-requires c κs = told_yes c.before.before.routes-taken.result c.before.before.routes-taken.ensures (not-false c.before.before.routes-taken.result c.before.if1.false)
 
 same_length : tie.Need-same-length
 same_length c = search rules
 
 returns-2 : tie.Need-returns-2
-returns-2 c = by-the-routes (told-yes c.before.before.before.before.before.routes-taken.result c.before.before.before.before.before.routes-taken.ensures (not-false c.before.before.before.before.before.routes-taken.result c.before.before.before.before.if1.false)) c.before.before.copied-tested.ensures
+returns-2 c = by_the_routes (told_yes c.before.before.before.before.before.routes-taken.result c.before.before.before.before.before.routes-taken.ensures (not-false c.before.before.before.before.before.routes-taken.result c.before.before.before.before.if1.false)) c.before.before.copied-tested.ensures
 
 pub next-copies-spec : {M : Type 1} → statement M
 next-copies-spec =

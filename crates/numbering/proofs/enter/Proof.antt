@@ -1,5 +1,5 @@
 -- `numbering::enter` meets its contract: a place is new where its search stopped at an empty slot, and laid there. Assumes nothing.
-use Rattle.numbering.proofs.Laying.{laid-met, laid-new}
+use Rattle.numbering.proofs.Laying.{laid_met, laid_new}
 use borrow.Author.Rules.{rules}
 use borrow.Author.Rules.{rules}
 use Rattle.numbering.proofs.enter.Statement.{statement}
@@ -35,7 +35,7 @@ returns c =
     let at-seek = c.before.before.before.seek in
     let at-place-at = c.before.before.before.before.place_at in
     let at_pre = c.before.before.before.before.before.before.before.before.before.requires in
-    laid-new _ _ _ at_pre.0 _ _ _ at-place-at.ensures at-seek.ensures at_wide.ensures.0 c.if1.true
+    laid_new _ _ _ at_pre.0 _ _ _ at-place-at.ensures at-seek.ensures at_wide.ensures.0 c.if1.true
 
 sub-result : tie.Need-overflow-sub-result
 sub-result c = search rules
@@ -49,7 +49,7 @@ returns-2 c =
     let at-seek = c.before.before.before.seek in
     let at-place-at = c.before.before.before.before.place_at in
     let at_pre = c.before.before.before.before.before.before.before.before.before.requires in
-    laid-met _ _ _ at_pre.0 _ _ _ at-place-at.ensures at-seek.ensures at_wide.ensures.0 c.if1.false
+    laid_met _ _ _ at_pre.0 _ _ _ at-place-at.ensures at-seek.ensures at_wide.ensures.0 c.if1.false
 
 pub enter_spec : {M : Type 1} → statement M
 enter_spec =

@@ -3,7 +3,7 @@ use mathlib.Core.List.{◌++◌}
 use Prim.Native.Nat.{◌-◌}
 use native.Mathlib.Omega.{arith}
 use lib.ListN.{length-append}
-use Rattle.numbering.proofs.Laying.{Numbering, numbering_start, numbering-more, numbering-end}
+use Rattle.numbering.proofs.Laying.{Numbering, numbering_start, numbering_more, numbering_end}
 use borrow.Author.Rules.{rules}
 use Rattle.numbering.proofs.number_all.Statement.{statement}
 use Rattle.numbering.proofs.number_all.Tie as tie
@@ -44,7 +44,7 @@ loop-again c =
     let at-loop-test = c.before.before.before.loop-test in
     let at-loop = c.before.before.before.before.loop in
     let at_pre = c.before.before.before.before.before.before.before.before.requires in
-    numbering-more _ _ _ _ _ _ at-loop.invariant at-loop-test.true (omega (arith, at-loop.invariant.long, at_pre, at-loop-test.true)) _ _ at-enter.ensures.0 at-enter.ensures.1
+    numbering_more _ _ _ _ _ _ at-loop.invariant at-loop-test.true (omega (arith, at-loop.invariant.long, at_pre, at-loop-test.true)) _ _ at-enter.ensures.0 at-enter.ensures.1
 
 same_length : tie.Need-same-length invariant-loop decreases-loop
 same_length c = search rules
@@ -53,7 +53,7 @@ returns : tie.Need-returns invariant-loop decreases-loop
 returns c =
     let at-loop = c.before.loop in
     let at-args = c.before.before.before.before.before.args in
-    numbering-end _ _ _ _ _ _ at-loop.invariant (length-append at-args.tos.now at-args.froms.now) c.loop-test.false
+    numbering_end _ _ _ _ _ _ at-loop.invariant (length-append at-args.tos.now at-args.froms.now) c.loop-test.false
 
 pub number-all-spec : {M : Type 1} → statement M
 number-all-spec =

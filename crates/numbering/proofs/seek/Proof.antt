@@ -3,8 +3,8 @@ use mathlib.Core.Path.{sym, ◌∙◌}
 use mathlib.Core.List.{◌++◌}
 use Prim.Native.Nat.{◌-◌}
 use native.Mathlib.Omega.{arith}
-use Rattle.numbering.specs.Slots.{slotCount}
-use Rattle.numbering.proofs.Seeking.{Seeking, seeking-start, seeking-vain, seeking-empty, seeking-met, seeking-on}
+use Rattle.numbering.specs.Slots.{slot_count}
+use Rattle.numbering.proofs.Seeking.{Seeking, seeking_start, seeking_vain, seeking_empty, seeking_met, seeking_on}
 use borrow.Author.Rules.{rules}
 use Rattle.numbering.proofs.seek.Statement.{statement}
 use Rattle.numbering.proofs.seek.Tie as tie
@@ -13,13 +13,13 @@ abbrev invariant-loop : tie.invariant-loop
 invariant-loop tos froms slots i place at₀ tries₀ at tries = Seeking (tos ++ froms) slots place at tries
 
 abbrev decreases-loop : tie.decreases-loop
-decreases-loop tos froms slots i place at₀ tries₀ at tries = slotCount - tries
+decreases-loop tos froms slots i place at₀ tries₀ at tries = slot_count - tries
 
 slot-of-requires : tie.Need-slot-of-requires invariant-loop decreases-loop
 slot-of-requires c κs = search rules
 
 loop-holds : tie.Need-loop-init invariant-loop decreases-loop
-loop-holds c = seeking-start _ _ _ _ c.slot_of.ensures.0 c.slot_of.ensures.1
+loop-holds c = seeking_start _ _ _ _ c.slot_of.ensures.0 c.slot_of.ensures.1
 
 shared-slice-read-wide : tie.Need-shared-slice-read-wide invariant-loop decreases-loop
 shared-slice-read-wide c = search rules
@@ -32,7 +32,7 @@ returns c =
     let at_wide = c.before.wide in
     let at-loop-test = c.before.before.before.loop-test in
     let at-loop = c.before.before.before.before.loop in
-    seeking-empty _ _ _ _ _ at-loop.invariant at-loop-test.true _ at_wide.ensures.0 c.if1.true
+    seeking_empty _ _ _ _ _ at-loop.invariant at-loop-test.true _ at_wide.ensures.0 c.if1.true
 
 sub-place-at : tie.Need-overflow-sub-place-at invariant-loop decreases-loop
 sub-place-at c = search rules
@@ -50,7 +50,7 @@ returns-2 c =
     let at_wide = c.before.before.before.wide in
     let at-loop-test = c.before.before.before.before.before.loop-test in
     let at-loop = c.before.before.before.before.before.before.loop in
-    seeking-met _ _ _ _ _ at-loop.invariant at-loop-test.true _ at_wide.ensures.0 (sym at-place-at.ensures ∙ c.if2.true)
+    seeking_met _ _ _ _ _ at-loop.invariant at-loop-test.true _ at_wide.ensures.0 (sym at-place-at.ensures ∙ c.if2.true)
 
 add_at : tie.Need-overflow-add-at invariant-loop decreases-loop
 add_at c = search rules
@@ -68,13 +68,13 @@ loop-again c =
     let at_wide = c.before.before.before.wide in
     let at-loop-test = c.before.before.before.before.before.loop-test in
     let at-loop = c.before.before.before.before.before.before.loop in
-    seeking-on _ _ _ _ _ at-loop.invariant at-loop-test.true _ at_wide.ensures.0 at-if1.false (λ e. c.if2.false (at-place-at.ensures ∙ e))
+    seeking_on _ _ _ _ _ at-loop.invariant at-loop-test.true _ at_wide.ensures.0 at-if1.false (λ e. c.if2.false (at-place-at.ensures ∙ e))
 
 returns-3 : tie.Need-returns-3 invariant-loop decreases-loop
 returns-3 c =
     let at-loop = c.before.loop in
     let at_pre = c.before.before.before.before.before.before.requires in
-    absurd (seeking-vain _ _ _ _ _ at-loop.invariant _ at_pre.0 at_pre.2 c.loop-test.false)
+    absurd (seeking_vain _ _ _ _ _ at-loop.invariant _ at_pre.0 at_pre.2 c.loop-test.false)
 
 pub seek-spec : {M : Type 1} → statement M
 seek-spec =

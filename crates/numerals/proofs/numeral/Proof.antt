@@ -1,5 +1,5 @@
 -- `numerals::numeral` meets its contract: the answer for the rest, after the value of the digits passed, is the answer for the whole. Assumes nothing.
-use Rattle.numerals.proofs.Reading.{Passed, none_passed, all-passed, no_digit, one-passed, fits}
+use Rattle.numerals.proofs.Reading.{Passed, none_passed, all_passed, no_digit, one_passed, fits}
 use Prim.Native.Nat.{◌-◌}
 use native.Mathlib.Omega.{arith}
 use borrow.Author.Rules.{rules}
@@ -29,10 +29,10 @@ returns : tie.Need-returns invariant-loop decreases-loop
 returns c = no_digit c.before.before.before.before.loop.invariant c.before.before.before.loop-test.true _ c.before.digit.ensures c.if1.true
 
 mul-v : tie.Need-overflow-mul-v invariant-loop decreases-loop
-mul-v c = omega (arith, fits (one-passed c.before.before.before.before.loop.invariant c.before.before.before.loop-test.true _ c.before.digit.ensures c.if1.false) c.before.before.before.before.before.before.requires.1 c.before.before.before.before.before.before.requires.0)
+mul-v c = omega (arith, fits (one_passed c.before.before.before.before.loop.invariant c.before.before.before.loop-test.true _ c.before.digit.ensures c.if1.false) c.before.before.before.before.before.before.requires.1 c.before.before.before.before.before.before.requires.0)
 
 add-v : tie.Need-overflow-add-v invariant-loop decreases-loop
-add-v c = omega (arith, fits (one-passed c.before.before.before.before.loop.invariant c.before.before.before.loop-test.true _ c.before.digit.ensures c.if1.false) c.before.before.before.before.before.before.requires.1 c.before.before.before.before.before.before.requires.0)
+add-v c = omega (arith, fits (one_passed c.before.before.before.before.loop.invariant c.before.before.before.loop-test.true _ c.before.digit.ensures c.if1.false) c.before.before.before.before.before.before.requires.1 c.before.before.before.before.before.before.requires.0)
 
 add-i : tie.Need-overflow-add-i invariant-loop decreases-loop
 add-i c = omega arith
@@ -41,13 +41,13 @@ loop-less : tie.Need-loop-smaller invariant-loop decreases-loop
 loop-less c = omega arith
 
 loop-again : tie.Need-loop-preserved invariant-loop decreases-loop
-loop-again c = one-passed c.before.before.before.before.loop.invariant c.before.before.before.loop-test.true _ c.before.digit.ensures c.if1.false
+loop-again c = one_passed c.before.before.before.before.loop.invariant c.before.before.before.loop-test.true _ c.before.digit.ensures c.if1.false
 
 cast-t11 : tie.Need-overflow-cast-t11 invariant-loop decreases-loop
 cast-t11 c = omega (arith, fits c.before.loop.invariant c.before.before.before.requires.1 c.before.before.before.requires.0)
 
 returns-2 : tie.Need-returns-2 invariant-loop decreases-loop
-returns-2 c = all-passed c.before.loop.invariant c.loop-test.false
+returns-2 c = all_passed c.before.loop.invariant c.loop-test.false
 
 pub numeral-spec : {M : Type 1} → statement M
 numeral-spec =

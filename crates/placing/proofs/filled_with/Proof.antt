@@ -17,8 +17,8 @@ with-requires c κs = search rules
 
 returns : tie.Need-returns
 returns c = record {
-  bits-more = λ k. c.before.either.ensures k ∙ ap (λ (t : Bool). bit c.before.before.before.args.filled.bits k || t) (c.before.before.run.ensures k);
-  marks-more = c.with.ensures;
+  bits_more = λ k. c.before.either.ensures k ∙ ap (λ (t : Bool). bit c.before.before.before.args.filled.bits k || t) (c.before.before.run.ensures k);
+  marks_more = c.with.ensures;
 }
 
 pub filled-with-spec : {M : Type 1} → statement M

@@ -1,5 +1,5 @@
 -- `placing::run` meets its contract: the bits of its value. Assumes nothing.
-use Rattle.placing.proofs.Runs.{run-bits}
+use Rattle.placing.proofs.Runs.{run_bits}
 use borrow.Author.Rules.{rules}
 use Rattle.placing.proofs.run.Statement.{statement}
 use Rattle.placing.proofs.run.Tie as tie
@@ -19,7 +19,7 @@ shl-result : tie.Need-overflow-shl-result
 shl-result c = search rules
 
 returns : tie.Need-returns
-returns c = run-bits c.args.start c.args.bits c.requires.to
+returns c = run_bits c.args.start c.args.bits c.requires.to
 
 pub run_spec : {M : Type 1} → statement M
 run_spec = tie.close (tie.spec sub-result cast-result shr-result shl-result returns)

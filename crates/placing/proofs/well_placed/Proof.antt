@@ -6,10 +6,10 @@ use native.Mathlib.Omega.{arith}
 use borrow.Author.Tests.{not-true, not-false}
 use lib.ListN.{length}
 use Rattle.catalogue.proofs.Placed.{at_place, nowhere}
-use Rattle.catalogue.proofs.LastStarts.{in-lasts, its-last}
+use Rattle.catalogue.proofs.LastStarts.{in_lasts, its_last}
 use borrow.Author.Rules.{rules}
 use Rattle.columns.proofs.Counting.{within, past}
-use Rattle.placing.proofs.Signals.{Passed, begin, end, refuse-unknown, refuse-over, refuse-meeting, refuse-again, next-other, next-fixed}
+use Rattle.placing.proofs.Signals.{Passed, begin, end, refuse_unknown, refuse_over, refuse_meeting, refuse_again, next_other, next_fixed}
 use Rattle.placing.proofs.well_placed.Statement.{statement}
 use Rattle.placing.proofs.well_placed.Tie as tie
 use Rattle.placing.proofs.well_placed.Reads as reads
@@ -59,10 +59,10 @@ same_length : tie.Need-same-length invariant-loop decreases-loop
 same_length c = simp (c.before.before.before.before.before.before.loop.invariant.0.below.each, c.before.before.before.before.before.before.before.before.before.before.before.before.before.before.requires.3.each)
 
 returns : tie.Need-returns invariant-loop decreases-loop
-returns c = refuse-unknown _ _ _ _ _ _ _ c.before.before.before.before.before.before.before.before.before.before.before.before.before.before.requires.1 c.before.before.before.before.before.before.loop.invariant.0 (within c.before.before.before.before.before.before.loop.invariant.1 c.before.before.before.before.before.loop-test.true) (nowhere _ _ c.before.before.place_of.ensures c.enum_told.given.1)
+returns c = refuse_unknown _ _ _ _ _ _ _ c.before.before.before.before.before.before.before.before.before.before.before.before.before.before.requires.1 c.before.before.before.before.before.before.loop.invariant.0 (within c.before.before.before.before.before.before.loop.invariant.1 c.before.before.before.before.before.loop-test.true) (nowhere _ _ c.before.before.place_of.ensures c.enum_told.given.1)
 
 shared-slice-read-wide : tie.Need-shared-slice-read-wide invariant-loop decreases-loop
-shared-slice-read-wide c = in-lasts _ _ _ c.before.before.before.before.before.before.before.before.before.before.before.before.before.before.before.before.requires.2.lasts (at_place _ _ _ c.before.before.before.before.place_of.ensures c.before.before.place.given.1)
+shared-slice-read-wide c = in_lasts _ _ _ c.before.before.before.before.before.before.before.before.before.before.before.before.before.before.before.before.requires.2.lasts (at_place _ _ _ c.before.before.before.before.place_of.ensures c.before.before.place.given.1)
 
 wide-requires : tie.Need-wide-requires invariant-loop decreases-loop
 wide-requires c κs = search rules
@@ -72,12 +72,12 @@ same-length-2 c = simp (c.before.before.before.before.before.before.before.befor
 
 returns-2 : tie.Need-returns-2 invariant-loop decreases-loop
 returns-2 c =
-    let last = its-last _ _ _ c.before.before.before.before.before.before.before.before.before.before.before.before.before.before.before.before.before.before.requires.2.lasts (at_place _ _ _ c.before.before.before.before.before.before.place_of.ensures c.before.before.before.before.place.given.1) _ c.before.wide.ensures in
+    let last = its_last _ _ _ c.before.before.before.before.before.before.before.before.before.before.before.before.before.before.before.before.before.before.requires.2.lasts (at_place _ _ _ c.before.before.before.before.before.before.place_of.ensures c.before.before.before.before.place.given.1) _ c.before.wide.ensures in
     let below = last.0 in
-    refuse-over _ _ _ _ _ _ _ c.before.before.before.before.before.before.before.before.before.before.before.before.before.before.before.before.before.before.requires.1 c.before.before.before.before.before.before.before.before.before.before.loop.invariant.0 (within c.before.before.before.before.before.before.before.before.before.before.loop.invariant.1 c.before.before.before.before.before.before.before.before.before.loop-test.true) _ (at_place _ _ _ c.before.before.before.before.before.before.place_of.ensures c.before.before.before.before.place.given.1) _ last (omega (arith, c.if1.true, below))
+    refuse_over _ _ _ _ _ _ _ c.before.before.before.before.before.before.before.before.before.before.before.before.before.before.before.before.before.before.requires.1 c.before.before.before.before.before.before.before.before.before.before.loop.invariant.0 (within c.before.before.before.before.before.before.before.before.before.before.loop.invariant.1 c.before.before.before.before.before.before.before.before.before.loop-test.true) _ (at_place _ _ _ c.before.before.before.before.before.before.place_of.ensures c.before.before.before.before.place.given.1) _ last (omega (arith, c.if1.true, below))
 
 run-up-to-requires : tie.Need-run-up-to-requires invariant-loop decreases-loop
-run-up-to-requires c κs = (c.if1.false, (its-last _ _ _ c.before.before.before.before.before.before.before.before.before.before.before.before.before.before.before.before.before.before.requires.2.lasts (at_place _ _ _ c.before.before.before.before.before.before.place_of.ensures c.before.before.before.before.place.given.1) _ c.before.wide.ensures).0)
+run-up-to-requires c κs = (c.if1.false, (its_last _ _ _ c.before.before.before.before.before.before.before.before.before.before.before.before.before.before.before.before.before.before.requires.2.lasts (at_place _ _ _ c.before.before.before.before.before.before.place_of.ensures c.before.before.before.before.place.given.1) _ c.before.wide.ensures).0)
 
 meet-requires : tie.Need-meet-requires invariant-loop decreases-loop
 meet-requires c κs = search rules
@@ -86,7 +86,7 @@ same-length-3 : tie.Need-same-length-3 invariant-loop decreases-loop
 same-length-3 c = simp (c.before.before.before.before.before.before.before.before.before.before.before.before.before.loop.invariant.0.below.each, c.before.before.before.before.before.before.before.before.before.before.before.before.before.before.before.before.before.before.before.before.before.requires.3.each)
 
 returns-3 : tie.Need-returns-3 invariant-loop decreases-loop
-returns-3 c = refuse-meeting _ _ _ _ _ _ _ c.before.before.before.before.before.before.before.before.before.before.before.before.before.before.before.before.before.before.before.before.before.requires.1 c.before.before.before.before.before.before.before.before.before.before.before.before.before.loop.invariant.0 (within c.before.before.before.before.before.before.before.before.before.before.before.before.before.loop.invariant.1 c.before.before.before.before.before.before.before.before.before.before.before.before.loop-test.true) _ (at_place _ _ _ c.before.before.before.before.before.before.before.before.before.place_of.ensures c.before.before.before.before.before.before.before.place.given.1) _ (its-last _ _ _ c.before.before.before.before.before.before.before.before.before.before.before.before.before.before.before.before.before.before.before.before.before.requires.2.lasts (at_place _ _ _ c.before.before.before.before.before.before.before.before.before.place_of.ensures c.before.before.before.before.before.before.before.place.given.1) _ c.before.before.before.before.wide.ensures) c.before.before.before.if1.false _ c.before.before.run-up-to.ensures (sym c.before.meet.ensures ∙ c.if2.true)
+returns-3 c = refuse_meeting _ _ _ _ _ _ _ c.before.before.before.before.before.before.before.before.before.before.before.before.before.before.before.before.before.before.before.before.before.requires.1 c.before.before.before.before.before.before.before.before.before.before.before.before.before.loop.invariant.0 (within c.before.before.before.before.before.before.before.before.before.before.before.before.before.loop.invariant.1 c.before.before.before.before.before.before.before.before.before.before.before.before.loop-test.true) _ (at_place _ _ _ c.before.before.before.before.before.before.before.before.before.place_of.ensures c.before.before.before.before.before.before.before.place.given.1) _ (its_last _ _ _ c.before.before.before.before.before.before.before.before.before.before.before.before.before.before.before.before.before.before.before.before.before.requires.2.lasts (at_place _ _ _ c.before.before.before.before.before.before.before.before.before.place_of.ensures c.before.before.before.before.before.before.before.place.given.1) _ c.before.before.before.before.wide.ensures) c.before.before.before.if1.false _ c.before.before.run-up-to.ensures (sym c.before.meet.ensures ∙ c.if2.true)
 
 slice-read-if3 : tie.Need-slice-read-if3 invariant-loop decreases-loop
 slice-read-if3 c = omega (arith, c.before.before.before.before.before.before.before.before.before.before.before.before.before.before.loop.invariant.0.below.each, (at_place _ _ _ c.before.before.before.before.before.before.before.before.before.before.place_of.ensures c.before.before.before.before.before.before.before.before.place.given.1).1)
@@ -101,7 +101,7 @@ same-length-4 : tie.Need-same-length-4 invariant-loop decreases-loop
 same-length-4 c = simp (c.before.before.before.before.before.before.before.before.before.before.before.before.before.before.before.before.before.loop.invariant.0.below.each, c.before.before.before.before.before.before.before.before.before.before.before.before.before.before.before.before.before.before.before.before.before.before.before.before.before.requires.3.each)
 
 returns-4 : tie.Need-returns-4 invariant-loop decreases-loop
-returns-4 c = refuse-again _ _ _ _ _ _ _ c.before.before.before.before.before.before.before.before.before.before.before.before.before.before.before.before.before.before.before.before.before.before.before.before.before.requires.1 c.before.before.before.before.before.before.before.before.before.before.before.before.before.before.before.before.before.loop.invariant.0 (within c.before.before.before.before.before.before.before.before.before.before.before.before.before.before.before.before.before.loop.invariant.1 c.before.before.before.before.before.before.before.before.before.before.before.before.before.before.before.before.loop-test.true) _ (at_place _ _ _ c.before.before.before.before.before.before.before.before.before.before.before.before.before.place_of.ensures c.before.before.before.before.before.before.before.before.before.before.before.place.given.1) _ (its-last _ _ _ c.before.before.before.before.before.before.before.before.before.before.before.before.before.before.before.before.before.before.before.before.before.before.before.before.before.requires.2.lasts (at_place _ _ _ c.before.before.before.before.before.before.before.before.before.before.before.before.before.place_of.ensures c.before.before.before.before.before.before.before.before.before.before.before.place.given.1) _ c.before.before.before.before.before.before.before.before.wide.ensures) c.before.before.before.before.before.before.before.if1.false (omega (arith, c.before.before.if3.false)) (sym c.before.has-fixed-start.ensures ∙ not-true _ c.if4.true)
+returns-4 c = refuse_again _ _ _ _ _ _ _ c.before.before.before.before.before.before.before.before.before.before.before.before.before.before.before.before.before.before.before.before.before.before.before.before.before.requires.1 c.before.before.before.before.before.before.before.before.before.before.before.before.before.before.before.before.before.loop.invariant.0 (within c.before.before.before.before.before.before.before.before.before.before.before.before.before.before.before.before.before.loop.invariant.1 c.before.before.before.before.before.before.before.before.before.before.before.before.before.before.before.before.loop-test.true) _ (at_place _ _ _ c.before.before.before.before.before.before.before.before.before.before.before.before.before.place_of.ensures c.before.before.before.before.before.before.before.before.before.before.before.place.given.1) _ (its_last _ _ _ c.before.before.before.before.before.before.before.before.before.before.before.before.before.before.before.before.before.before.before.before.before.before.before.before.before.requires.2.lasts (at_place _ _ _ c.before.before.before.before.before.before.before.before.before.before.before.before.before.place_of.ensures c.before.before.before.before.before.before.before.before.before.before.before.place.given.1) _ c.before.before.before.before.before.before.before.before.wide.ensures) c.before.before.before.before.before.before.before.if1.false (omega (arith, c.before.before.if3.false)) (sym c.before.has-fixed-start.ensures ∙ not-true _ c.if4.true)
 
 either-requires : tie.Need-either-requires invariant-loop decreases-loop
 either-requires c κs = search rules
@@ -118,8 +118,8 @@ loop-less c = omega arith
 loop-again : tie.Need-loop-preserved invariant-loop decreases-loop
 loop-again c = (
   ⊎_elim
-      (λ w. next-other _ _ _ _ _ _ _ c.before.before.before.before.before.before.before.before.before.before.before.before.before.before.before.before.before.before.before.before.before.before.before.before.requires.1 c.before.before.before.before.before.before.before.before.before.before.before.before.before.before.before.before.loop.invariant.0 (within c.before.before.before.before.before.before.before.before.before.before.before.before.before.before.before.before.loop.invariant.1 c.before.before.before.before.before.before.before.before.before.before.before.before.before.before.before.loop-test.true) _ (at_place _ _ _ c.before.before.before.before.before.before.before.before.before.before.before.before.place_of.ensures c.before.before.before.before.before.before.before.before.before.before.place.given.1) _ (its-last _ _ _ c.before.before.before.before.before.before.before.before.before.before.before.before.before.before.before.before.before.before.before.before.before.before.before.before.requires.2.lasts (at_place _ _ _ c.before.before.before.before.before.before.before.before.before.before.before.before.place_of.ensures c.before.before.before.before.before.before.before.before.before.before.place.given.1) _ c.before.before.before.before.before.before.before.wide.ensures) c.before.before.before.before.before.before.if1.false _ c.before.before.before.before.before.run-up-to.ensures (sym c.before.before.before.before.meet.ensures ∙ c.before.before.before.if2.false) _ c.either.ensures _ (omega (arith, c.before.before.before.before.before.before.before.before.before.before.before.before.before.before.before.before.before.before.before.before.before.before.before.before.ranges.stamp.fits)) w.0.taken w.1)
-      (λ w. next-fixed _ _ _ _ _ _ _ c.before.before.before.before.before.before.before.before.before.before.before.before.before.before.before.before.before.before.before.before.before.before.before.before.requires.1 c.before.before.before.before.before.before.before.before.before.before.before.before.before.before.before.before.loop.invariant.0 (within c.before.before.before.before.before.before.before.before.before.before.before.before.before.before.before.before.loop.invariant.1 c.before.before.before.before.before.before.before.before.before.before.before.before.before.before.before.loop-test.true) _ (at_place _ _ _ c.before.before.before.before.before.before.before.before.before.before.before.before.place_of.ensures c.before.before.before.before.before.before.before.before.before.before.place.given.1) _ (its-last _ _ _ c.before.before.before.before.before.before.before.before.before.before.before.before.before.before.before.before.before.before.before.before.before.before.before.before.requires.2.lasts (at_place _ _ _ c.before.before.before.before.before.before.before.before.before.before.before.before.place_of.ensures c.before.before.before.before.before.before.before.before.before.before.place.given.1) _ c.before.before.before.before.before.before.before.wide.ensures) c.before.before.before.before.before.before.if1.false _ c.before.before.before.before.before.run-up-to.ensures (sym c.before.before.before.before.meet.ensures ∙ c.before.before.before.if2.false) _ c.either.ensures _ (sym w.1.ensures ∙ not-false _ w.2.left) w.3)
+      (λ w. next_other _ _ _ _ _ _ _ c.before.before.before.before.before.before.before.before.before.before.before.before.before.before.before.before.before.before.before.before.before.before.before.before.requires.1 c.before.before.before.before.before.before.before.before.before.before.before.before.before.before.before.before.loop.invariant.0 (within c.before.before.before.before.before.before.before.before.before.before.before.before.before.before.before.before.loop.invariant.1 c.before.before.before.before.before.before.before.before.before.before.before.before.before.before.before.loop-test.true) _ (at_place _ _ _ c.before.before.before.before.before.before.before.before.before.before.before.before.place_of.ensures c.before.before.before.before.before.before.before.before.before.before.place.given.1) _ (its_last _ _ _ c.before.before.before.before.before.before.before.before.before.before.before.before.before.before.before.before.before.before.before.before.before.before.before.before.requires.2.lasts (at_place _ _ _ c.before.before.before.before.before.before.before.before.before.before.before.before.place_of.ensures c.before.before.before.before.before.before.before.before.before.before.place.given.1) _ c.before.before.before.before.before.before.before.wide.ensures) c.before.before.before.before.before.before.if1.false _ c.before.before.before.before.before.run-up-to.ensures (sym c.before.before.before.before.meet.ensures ∙ c.before.before.before.if2.false) _ c.either.ensures _ (omega (arith, c.before.before.before.before.before.before.before.before.before.before.before.before.before.before.before.before.before.before.before.before.before.before.before.before.ranges.stamp.fits)) w.0.taken w.1)
+      (λ w. next_fixed _ _ _ _ _ _ _ c.before.before.before.before.before.before.before.before.before.before.before.before.before.before.before.before.before.before.before.before.before.before.before.before.requires.1 c.before.before.before.before.before.before.before.before.before.before.before.before.before.before.before.before.loop.invariant.0 (within c.before.before.before.before.before.before.before.before.before.before.before.before.before.before.before.before.loop.invariant.1 c.before.before.before.before.before.before.before.before.before.before.before.before.before.before.before.loop-test.true) _ (at_place _ _ _ c.before.before.before.before.before.before.before.before.before.before.before.before.place_of.ensures c.before.before.before.before.before.before.before.before.before.before.place.given.1) _ (its_last _ _ _ c.before.before.before.before.before.before.before.before.before.before.before.before.before.before.before.before.before.before.before.before.before.before.before.before.requires.2.lasts (at_place _ _ _ c.before.before.before.before.before.before.before.before.before.before.before.before.place_of.ensures c.before.before.before.before.before.before.before.before.before.before.place.given.1) _ c.before.before.before.before.before.before.before.wide.ensures) c.before.before.before.before.before.before.if1.false _ c.before.before.before.before.before.run-up-to.ensures (sym c.before.before.before.before.meet.ensures ∙ c.before.before.before.if2.false) _ c.either.ensures _ (sym w.1.ensures ∙ not-false _ w.2.left) w.3)
       c.before.if3.branch,
   omega (arith, c.before.before.before.before.before.before.before.before.before.before.before.before.before.before.before.before.loop.invariant.1, c.before.before.before.before.before.before.before.before.before.before.before.before.before.before.before.loop-test.true),
 )

@@ -38,7 +38,7 @@ next-state-requires c κs = simp (← c.before.before.before.before.before.befor
 
 returns-5 : tie.Need-returns-5
 unfolding step_of
-returns-5 c = simp (← c.before.before.before.before.before.before.before.before.relays-fit.ensures, ← c.before.before.before.before.before.before.before.commands-fit.ensures, ← c.before.before.before.before.before.before.readings-fit.ensures, ← c.before.before.before.before.before.share-fits.ensures, not-false c.before.before.before.before.before.before.before.before.relays-fit.result c.before.before.before.before.if1.false, not-false c.before.before.before.before.before.before.before.commands-fit.result c.before.before.before.if2.false, not-false c.before.before.before.before.before.before.readings-fit.result c.before.before.if3.false, not-false c.before.before.before.before.before.share-fits.result c.before.if4.false, c.next-state.ensures)
+returns-5 c = simp (← c.before.before.before.before.before.before.before.before.relays-fit.ensures, ← c.before.before.before.before.before.before.before.commands-fit.ensures, ← c.before.before.before.before.before.before.readings-fit.ensures, ← c.before.before.before.before.before.share-fits.ensures, not-false c.before.before.before.before.before.before.before.before.relays-fit.result c.before.before.before.before.if1.false, not-false c.before.before.before.before.before.before.before.commands-fit.result c.before.before.before.if2.false, not-false c.before.before.before.before.before.before.readings-fit.result c.before.before.if3.false, not-false c.before.before.before.before.before.share-fits.result c.before.if4.false, c.next_state.ensures)
 
 pub step_spec : {M : Type 1} → statement M
 step_spec =

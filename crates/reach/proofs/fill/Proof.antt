@@ -4,7 +4,7 @@ use Prim.Native.Nat.{◌-◌, ◌*◌, ◌<◌}
 use native.Mathlib.Omega.{arith}
 use lib.ListN.{length}
 use Rattle.masks.specs.Bit.{width}
-use Rattle.reach.proofs.Leading.{Leading, real-start, tells-one, leading-start, leading-more, leading_end}
+use Rattle.reach.proofs.Leading.{Leading, real_start, tells_one, leading_start, leading_more, leading_end}
 use borrow.Author.Rules.{rules}
 use Rattle.reach.proofs.fill.Statement.{statement}
 use Rattle.reach.proofs.fill.Tie as tie
@@ -19,10 +19,10 @@ slice-aggregate-settle : tie.Need-slice-aggregate-settle invariant-loop decrease
 slice-aggregate-settle c = search rules
 
 settle-requires : tie.Need-settle-requires invariant-loop decreases-loop
-settle-requires c κs = (c.before.before.before.before.requires.0, refl, real-start _ _ (2 * width))
+settle-requires c κs = (c.before.before.before.before.requires.0, refl, real_start _ _ (2 * width))
 
 loop-holds : tie.Need-loop-init invariant-loop decreases-loop
-loop-holds c = leading-start _ _ _
+loop-holds c = leading_start _ _ _
 
 end-of-requires : tie.Need-end-of-requires invariant-loop decreases-loop
 end-of-requires c κs =
@@ -61,7 +61,7 @@ loop-again c =
     let at-settle = c.before.before.before.before.before.settle in
     let at_pre = c.before.before.before.before.before.before.before.before.before.before.requires in
     let low : at-loop.i < length at-loop.onward = omega (arith, at-loop-test.true, at_pre.1, at-loop.invariant.long) in
-    leading-more _ _ _ _ _ at-loop.invariant at-loop-test.true low _ (tells-one _ _ _ at-settle.ensures _ _ _ at_end_of.ensures.0 c.with.ensures)
+    leading_more _ _ _ _ _ at-loop.invariant at-loop-test.true low _ (tells_one _ _ _ at-settle.ensures _ _ _ at_end_of.ensures.0 c.with.ensures)
 
 same_length : tie.Need-same-length invariant-loop decreases-loop
 same_length c = search rules

@@ -2,7 +2,7 @@
 use Prim.Native.Nat.{◌<◌}
 use native.Mathlib.Omega.{arith}
 use lib.ListN.{length}
-use Rattle.reach.proofs.Handed.{handing-one}
+use Rattle.reach.proofs.Handed.{handing_one}
 use borrow.Author.Rules.{rules}
 use borrow.Author.Rules.{rules}
 use Rattle.reach.proofs.hand.Statement.{statement}
@@ -52,7 +52,7 @@ returns c =
     let at_pre = c.before.before.before.before.before.before.before.before.before.requires in
     let at-args = c.before.before.before.before.before.before.before.before.before.args in
     let low : at-start-of.result < length at-args.masks.now = omega (arith, at-start-of.ensures.1, at_pre.2) in
-    handing-one at-args.starts.now at-args.ends.now at-args.masks.now at-args.j at-start-of.result at_end_of.result at_with.result c.either.result
+    handing_one at-args.starts.now at-args.ends.now at-args.masks.now at-args.j at-start-of.result at_end_of.result at_with.result c.either.result
     at-start-of.ensures.0 at_end_of.ensures.0 at_pre.1 low at_with.ensures c.either.ensures
 
 pub hand-spec : {M : Type 1} → statement M

@@ -3,8 +3,8 @@ use Prim.Native.Nat.{◌-◌, ◌≤◌}
 use native.Mathlib.Omega.{arith}
 use lib.ListN.{length}
 use Rattle.reach.specs.Handing.{Handing}
-use Rattle.reach.proofs.Handed.{handing-none, handing-both}
-use Rattle.reach.proofs.Passing.{Turned, turned_none, turned_more, turned-all, handing-for}
+use Rattle.reach.proofs.Handed.{handing_none, handing_both}
+use Rattle.reach.proofs.Passing.{Turned, turned_none, turned_more, turned_all, handing_for}
 use borrow.Author.Rules.{rules}
 use Rattle.reach.proofs.pass.Statement.{statement}
 use Rattle.reach.proofs.pass.Tie as tie
@@ -18,7 +18,7 @@ decreases-loop starts ends down masks₀ n new₀ t₀ masks new t = n - t
 loop-holds : tie.Need-loop-init invariant-loop decreases-loop
 loop-holds c =
     let at-args = c.before.before.before.args in
-    (omega arith, handing-none _ _ _ _ (turned_none (length at-args.starts.now) at-args.down))
+    (omega arith, handing_none _ _ _ _ (turned_none (length at-args.starts.now) at-args.down))
 
 nth-requires : tie.Need-nth-requires invariant-loop decreases-loop
 nth-requires c κs = search rules
@@ -40,7 +40,7 @@ loop-again c =
     let at-loop = c.before.before.before.before.before.before.loop in
     let at-args = c.before.before.before.before.before.before.before.before.before.before.args in
     let more = turned_more (length at-args.starts.now) at-args.down _ _ at-nth.ensures.0 in
-    (omega (arith, at-loop-test.true), handing-both _ _ _ _ _ _ _ _ _ at-loop.invariant.1 at-hand.ensures _ more)
+    (omega (arith, at-loop-test.true), handing_both _ _ _ _ _ _ _ _ _ at-loop.invariant.1 at-hand.ensures _ more)
 
 same_length : tie.Need-same-length invariant-loop decreases-loop
 same_length c = search rules
@@ -49,8 +49,8 @@ returns : tie.Need-returns invariant-loop decreases-loop
 returns c =
     let at-loop = c.before.loop in
     let at-args = c.before.before.before.before.before.args in
-    let all = turned-all (length at-args.starts.now) at-args.down _ c.loop-test.false in
-    handing-for _ _ _ _ _ _ _ at-loop.invariant.1 all
+    let all = turned_all (length at-args.starts.now) at-args.down _ c.loop-test.false in
+    handing_for _ _ _ _ _ _ _ at-loop.invariant.1 all
 
 pub pass_spec : {M : Type 1} → statement M
 pass_spec =

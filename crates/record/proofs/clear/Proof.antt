@@ -1,11 +1,11 @@
 -- `record::clear` meets its contract: the words that it stores are those of the empty book. Assumes nothing.
-use Rattle.record.specs.Columns.{emptyBook}
+use Rattle.record.specs.Columns.{empty_book}
 use Rattle.record.proofs.clear.Statement.{statement}
 use Rattle.record.proofs.clear.Tie as tie
 use mathlib.Core.Path.{refl}
 
 returns : tie.Need-returns
-unfolding emptyBook
+unfolding empty_book
 returns c = refl
 
 pub clear_spec : {M : Type 1} → statement M

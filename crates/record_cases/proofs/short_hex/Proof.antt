@@ -1,6 +1,6 @@
 -- `record_cases::short_hex` meets its contract: the zeros before the two digits add nothing. Assumes nothing.
 use borrow.Author.Rules.{rules}
-use Rattle.numerals.specs.Numeral.{digitValue, numeralFrom, identifier}
+use Rattle.numerals.specs.Numeral.{digit_value, numeral_from, identifier}
 use Rattle.record_cases.proofs.short_hex.Statement.{statement}
 use Rattle.record_cases.proofs.short_hex.Tie as tie
 
@@ -11,7 +11,7 @@ identifier-or-0-requires : tie.Need-identifier-or-0-requires
 identifier-or-0-requires c κs = search rules
 
 returns : tie.Need-returns
-unfolding identifier numeralFrom digitValue
+unfolding identifier numeral_from digit_value
 returns c = c.identifier-or-0.ensures
 
 pub short-hex-spec : {M : Type 1} → statement M

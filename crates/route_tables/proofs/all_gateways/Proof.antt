@@ -2,7 +2,7 @@
 use Prim.Native.Nat.{◌-◌}
 use native.Mathlib.Omega.{arith}
 use lib.ListN.{length}
-use Rattle.route_tables.proofs.Carried.{GatewaysBefore, none_before, one-gateway-more, all-before}
+use Rattle.route_tables.proofs.Carried.{GatewaysBefore, none_before, one_gateway_more, all_before}
 use borrow.Author.Rules.{rules}
 use Rattle.route_tables.proofs.all_gateways.Statement.{statement}
 use Rattle.route_tables.proofs.all_gateways.Tie as tie
@@ -32,10 +32,10 @@ loop-less : tie.Need-loop-smaller invariant-loop decreases-loop
 loop-less c = search rules
 
 loop-again : tie.Need-loop-preserved invariant-loop decreases-loop
-loop-again c = one-gateway-more _ _ c.before.before.before.loop.invariant c.before.before.loop-test.true (omega (arith, c.if1.false))
+loop-again c = one_gateway_more _ _ c.before.before.before.loop.invariant c.before.before.loop-test.true (omega (arith, c.if1.false))
 
 returns-2 : tie.Need-returns-2 invariant-loop decreases-loop
-returns-2 c = all-before _ _ c.before.loop.invariant c.loop-test.false
+returns-2 c = all_before _ _ c.before.loop.invariant c.loop-test.false
 
 pub all-gateways-spec : {M : Type 1} → statement M
 all-gateways-spec =

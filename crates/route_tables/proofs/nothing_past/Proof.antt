@@ -1,6 +1,6 @@
 -- `route_tables::nothing_past` meets its contract: the rest of the gateways is gathered twice, which tells no more than once. Assumes nothing.
 use mathlib.Core.Path.{◌∙◌}
-use Rattle.route_tables.proofs.Tested.{rests-told}
+use Rattle.route_tables.proofs.Tested.{rests_told}
 use borrow.Author.Rules.{rules}
 use Rattle.route_tables.proofs.nothing_past.Statement.{statement}
 use Rattle.route_tables.proofs.nothing_past.Tie as tie
@@ -47,7 +47,7 @@ four-zero-requires c κs = search rules
 returns : tie.Need-returns
 returns c =
     let z = c.before.before.before.before.before.before.before.args in
-    c.four-zero.ensures ∙ rests-told z.froms.now z.tos.now z.gateways.now z.count
+    c.four-zero.ensures ∙ rests_told z.froms.now z.tos.now z.gateways.now z.count
 
 pub nothing-past-spec : {M : Type 1} → statement M
 nothing-past-spec =

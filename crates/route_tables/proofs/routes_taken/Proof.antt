@@ -8,9 +8,9 @@ use native.Mathlib.Omega.{arith}
 use borrow.Author.Tests.{not-true, not-false}
 use Rattle.chains.specs.Chain.{IsSound}
 use Rattle.chains.specs.Tells.{Tells}
-use Rattle.chains.proofs.Bools.{told-yes, told-no}
+use Rattle.chains.proofs.Bools.{told_yes, told_no}
 use Rattle.route_tables.specs.Tables.{AllGateways}
-use Rattle.route_tables.proofs.Tested.{few-taken, all_past, carried-past, tells}
+use Rattle.route_tables.proofs.Tested.{few_taken, all_past, carried_past, tells}
 use borrow.Author.Rules.{rules}
 use Rattle.route_tables.proofs.routes_taken.Statement.{statement}
 use Rattle.route_tables.proofs.routes_taken.Tie as tie
@@ -19,7 +19,7 @@ count-requires : tie.Need-count-requires
 count-requires c κs = search rules
 
 returns : tie.Need-returns
-returns c = λ t. omega (arith, c.if1.true, few-taken _ _ c.before.count.ensures t)
+returns c = λ t. omega (arith, c.if1.true, few_taken _ _ c.before.count.ensures t)
 
 froms-requires : tie.Need-froms-requires
 froms-requires c κs = search rules
@@ -55,9 +55,9 @@ returns-3 c =
     let tos = c.before.before.before.before.before.before.tos in
     let froms = c.before.before.before.before.before.before.before.froms in
     let count = c.before.before.before.before.before.before.before.before.before.count in
-    λ t. told-no all.result all.ensures (not-true all.result c.if3.true)
+    λ t. told_no all.result all.ensures (not-true all.result c.if3.true)
     (subst AllGateways (sym part.ensures.0)
-    (carried-past _ _ _ _ _ count.ensures froms.ensures.0 tos.ensures.0 gateways.ensures.0 (omega (arith, c.before.before.before.before.before.before.before.before.if1.false)) froms.ensures.1 tos.ensures.1 gateways.ensures.1 t))
+    (carried_past _ _ _ _ _ count.ensures froms.ensures.0 tos.ensures.0 gateways.ensures.0 (omega (arith, c.before.before.before.before.before.before.before.before.if1.false)) froms.ensures.1 tos.ensures.1 gateways.ensures.1 t))
 
 first-requires-2 : tie.Need-first-requires-2
 first-requires-2 c κs = search rules
@@ -79,7 +79,7 @@ returns-4 c =
     let tos = c.before.before.before.before.before.before.before.before.before.tos in
     let froms = c.before.before.before.before.before.before.before.before.before.before.froms in
     let count = c.before.before.before.before.before.before.before.before.before.before.before.before.count in
-    let carried = subst AllGateways part.ensures.0 (told-yes all.result all.ensures (not-false all.result c.before.before.before.if3.false)) in
+    let carried = subst AllGateways part.ensures.0 (told_yes all.result all.ensures (not-false all.result c.before.before.before.if3.false)) in
     let s = subst (λ (fs : List ℕ). Tells (IsSound fs at-first3.result.now) c.sound.result) at-first2.ensures.0 c.sound.ensures in
     let s' = subst (λ (ts : List ℕ). Tells (IsSound (take count.result froms.result.now) ts) c.sound.result) at-first3.ensures.0 s in
     tells _ _ _ _ _ count.ensures froms.ensures.0 tos.ensures.0 gateways.ensures.0 (omega (arith, c.before.before.before.before.before.before.before.before.before.before.before.if1.false)) froms.ensures.1 tos.ensures.1 gateways.ensures.1 none-past carried c.sound.result s'

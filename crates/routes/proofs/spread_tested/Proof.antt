@@ -14,7 +14,7 @@ use Rattle.routes.proofs.tell.Reads as tell-reads
 use Rattle.sending.proofs.send.Reads as send-reads
 
 returns : tie.Need-returns
-returns c = no_place (λ p. omega (arith, p.on-bus, c.if1.true))
+returns c = no_place (λ p. omega (arith, p.on_bus, c.if1.true))
 
 returns-2 : tie.Need-returns-2
 returns-2 c = no_place (λ p. omega (arith, p.identified, c.if2.true))
@@ -29,10 +29,10 @@ wide-requires : tie.Need-wide-requires
 wide-requires c κs = search rules
 
 returns-3 : tie.Need-returns-3
-returns-3 c = too_small _ c.before.before.before.before.before.before.before.before.before.requires _ _ _ c.before.before.before.before.place.ensures _ _ c.before.before.send.ensures _ (record { on-bus = omega (arith, c.before.before.before.before.before.before.if1.false); identified = omega (arith, c.before.before.before.before.before.if2.false) }) (omega (arith, c.if3.true, c.before.wide.ensures))
+returns-3 c = too_small _ c.before.before.before.before.before.before.before.before.before.requires _ _ _ c.before.before.before.before.place.ensures _ _ c.before.before.send.ensures _ (record { on_bus = omega (arith, c.before.before.before.before.before.before.if1.false); identified = omega (arith, c.before.before.before.before.before.if2.false) }) (omega (arith, c.if3.true, c.before.wide.ensures))
 
 returns-4 : tie.Need-returns-4
-returns-4 c = too_small _ c.before.before.before.before.before.before.before.before.before.before.requires _ _ _ c.before.before.before.before.before.place.ensures _ _ c.before.before.before.send.ensures _ (record { on-bus = omega (arith, c.before.before.before.before.before.before.before.if1.false); identified = omega (arith, c.before.before.before.before.before.before.if2.false) }) (omega (arith, c.if4.true, c.before.before.wide.ensures))
+returns-4 c = too_small _ c.before.before.before.before.before.before.before.before.before.before.requires _ _ _ c.before.before.before.before.before.place.ensures _ _ c.before.before.before.send.ensures _ (record { on_bus = omega (arith, c.before.before.before.before.before.before.before.if1.false); identified = omega (arith, c.before.before.before.before.before.before.if2.false) }) (omega (arith, c.if4.true, c.before.before.wide.ensures))
 
 tell-requires : tie.Need-tell-requires
 tell-requires c κs = tellable _ c.before.before.before.before.before.before.before.before.before.before.before.before.before.requires _ _ _ c.before.before.before.before.before.before.before.before.place.ensures _ _ c.before.before.before.before.before.before.send.ensures _ _ (omega (arith, c.before.before.before.before.before.wide.ensures)) (omega (arith, c.before.before.before.before.if3.false)) (omega (arith, c.before.before.before.if4.false))
@@ -44,7 +44,7 @@ same-length-2 : tie.Need-same-length-2
 same-length-2 c = search rules
 
 returns-5 : tie.Need-returns-5
-returns-5 c = written _ c.before.before.before.before.before.before.before.before.before.before.before.before.before.before.before.before.before.before.requires _ _ _ c.before.before.before.before.before.before.before.before.before.before.before.before.before.place.ensures _ _ c.before.before.before.before.before.before.before.before.before.before.before.send.ensures _ (record { on-bus = omega (arith, c.before.before.before.before.before.before.before.before.before.before.before.before.before.before.before.if1.false); identified = omega (arith, c.before.before.before.before.before.before.before.before.before.before.before.before.before.before.if2.false) }) c.before.before.before.before.before.before.before.before.before.before.wide.result _ c.before.before.before.before.tell.ensures c.before.before.before.before.before.before.before.before.before.before.wide.ensures (omega (arith, c.before.before.before.before.before.before.before.before.before.if3.false, c.before.before.before.before.before.before.before.before.if4.false))
+returns-5 c = written _ c.before.before.before.before.before.before.before.before.before.before.before.before.before.before.before.before.before.before.requires _ _ _ c.before.before.before.before.before.before.before.before.before.before.before.before.before.place.ensures _ _ c.before.before.before.before.before.before.before.before.before.before.before.send.ensures _ (record { on_bus = omega (arith, c.before.before.before.before.before.before.before.before.before.before.before.before.before.before.before.if1.false); identified = omega (arith, c.before.before.before.before.before.before.before.before.before.before.before.before.before.before.if2.false) }) c.before.before.before.before.before.before.before.before.before.before.wide.result _ c.before.before.before.before.tell.ensures c.before.before.before.before.before.before.before.before.before.before.wide.ensures (omega (arith, c.before.before.before.before.before.before.before.before.before.if3.false, c.before.before.before.before.before.before.before.before.if4.false))
 
 pub spread-tested-spec : {M : Type 1} → statement M
 spread-tested-spec =

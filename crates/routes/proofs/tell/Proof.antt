@@ -3,7 +3,7 @@ use Prim.Native.Nat.{◌-◌}
 use native.Mathlib.Omega.{arith}
 use borrow.Author.Rules.{rules}
 use Rattle.routes.specs.Answers.{rooms}
-use Rattle.routes.proofs.Telling.{ToldSoFar, carrier-low, none_told, told_more, told-end}
+use Rattle.routes.proofs.Telling.{ToldSoFar, carrier_low, none_told, told_more, told_end}
 use Rattle.routes.proofs.tell.Statement.{statement}
 use Rattle.routes.proofs.tell.Tie as tie
 use Rattle.routes.proofs.tell.Reads as reads
@@ -55,7 +55,7 @@ shared-slice-read-gateways : tie.Need-shared-slice-read-gateways invariant-loop 
 shared-slice-read-gateways c = omega (arith, c.before.before.wide.ensures, c.before.before.before.before.before.before.before.before.before.before.before.requires.routes _ c.before.before.before.before.loop-test.true, c.before.before.before.before.before.before.before.before.before.before.before.requires.few, c.before.before.before.before.loop-test.true, c.before.before.before.before.before.before.before.tos.ensures.1, c.before.before.before.before.before.before.gateways.ensures.1)
 
 cast-gateways : tie.Need-overflow-cast-gateways invariant-loop decreases-loop
-cast-gateways c = let low = carrier-low c.before.before.before.before.before.before.before.before.before.before.before.requires _ c.before.before.before.before.before.before.gateways.ensures.0 in omega (arith, low c.before.before.wide.result, low c.before.before.before.before.before.loop.i)
+cast-gateways c = let low = carrier_low c.before.before.before.before.before.before.before.before.before.before.before.requires _ c.before.before.before.before.before.before.gateways.ensures.0 in omega (arith, low c.before.before.wide.result, low c.before.before.before.before.before.loop.i)
 
 slice-write-gateways : tie.Need-slice-write-gateways invariant-loop decreases-loop
 slice-write-gateways c = search rules
@@ -76,7 +76,7 @@ same-length-2 : tie.Need-same-length-2 invariant-loop decreases-loop
 same-length-2 c = search rules
 
 returns : tie.Need-returns invariant-loop decreases-loop
-returns c = told-end _ _ _ _ c.before.before.before.before.before.before.before.requires (search rules) _ _ _ c.before.loop.invariant c.loop-test.false
+returns c = told_end _ _ _ _ c.before.before.before.before.before.before.before.requires (search rules) _ _ _ c.before.loop.invariant c.loop-test.false
 
 pub tell-spec : {M : Type 1} → statement M
 tell-spec =

@@ -6,11 +6,11 @@ use mathlib.Core.Path.{sym, ◌∙◌, subst₂}
 use mathlib.Core.Logic.{⊎_elim}
 use native.Mathlib.Omega.{arith}
 use lib.ListN.{length, get_or}
-use Rattle.record.specs.Columns.{routeCountOf}
-use Rattle.record.specs.Limits.{routeLimit}
-use Rattle.chains.proofs.Longest.{longestFrom, longest-falls}
-use Rattle.sending.specs.Writing.{liveFroms, liveTos}
-use Rattle.sending.proofs.Steps.{Going, going_start, going-skip, going-space, going-take, going_end, handed-after}
+use Rattle.record.specs.Columns.{route_count_of}
+use Rattle.record.specs.Limits.{route_limit}
+use Rattle.chains.proofs.Longest.{longest_from, longest_falls}
+use Rattle.sending.specs.Writing.{live_froms, live_tos}
+use Rattle.sending.proofs.Steps.{Going, going_start, going_skip, going_space, going_take, going_end, handed_after}
 use Prim.Native.Nat.{ℕ, ◌+◌, ◌-◌, ◌*◌, ◌<◌}
 use borrow.Fn.Kinds.{In}
 use borrow.Fn.PlainCycle.{Measures, is, falls, and}
@@ -28,10 +28,10 @@ use Rattle.sending.proofs.+hand_on_send.{statement}
 use Rattle.sending.proofs.+hand_on_send.Tie.{close}
 
 abbrev μ-hand-on : Measures 2 hand-on-kinds.ps ℕ
-μ-hand-on κs a = 2 * longestFrom (liveFroms a.0.now) (liveTos a.0.now) (get_or (liveTos a.0.now) a.1.0 0) + 1
+μ-hand-on κs a = 2 * longest_from (live_froms a.0.now) (live_tos a.0.now) (get_or (live_tos a.0.now) a.1.0 0) + 1
 
 abbrev μ-send : Measures 2 send-kinds.ps ℕ
-μ-send κs a = 2 * longestFrom (liveFroms a.0.now) (liveTos a.0.now) a.1.0
+μ-send κs a = 2 * longest_from (live_froms a.0.now) (live_tos a.0.now) a.1.0
 
 abbrev hand-on-at : ℕ → In 2 hand-on-kinds.ps
 hand-on-at t = and 2 hand-on-kinds.ps (is 2 hand-on-kinds.ps μ-hand-on t) hand_on.Pre
@@ -87,7 +87,7 @@ hand-on-send-requires t c κs =
     let z = c.before.before.before.before in
     let w = z.args.book.now in
     let e = c.before.before.before.to-of.ensures in
-    let h : 2 * longestFrom (liveFroms w) (liveTos w) c.before.before.before.to-of.result < t = omega (arith, rw (← e) at z.requires.0) in
+    let h : 2 * longest_from (live_froms w) (live_tos w) c.before.before.before.to-of.result < t = omega (arith, rw (← e) at z.requires.0) in
     (h, record { few = z.requires.1.1.few; whole = z.requires.1.1.whole; free = z.requires.1.1.free; space = omega (arith, rw (← e) at z.requires.1.1.space) })
 
 hand-on-returns : (t : ℕ) → hand-on-lts.Need-returns (
@@ -100,10 +100,10 @@ hand-on-returns : (t : ℕ) → hand-on-lts.Need-returns (
 ) (hand-on-at t) hand_on.Post
 hand-on-returns t c =
     let z = c.before.before.before.before.before.args in
-    handed-after z.book.now z.route c.before.before.before.before.to-of.ensures c.before.before.put.ensures c.send.ensures
+    handed_after z.book.now z.route c.before.before.before.before.to-of.ensures c.before.before.put.ensures c.send.ensures
 
 abbrev send-Inv-loop : send-lts.invariant-loop
-send-Inv-loop book place room₀ at count next₀ i₀ room next i = Going (liveFroms book) (liveTos book) place room₀ at i room next
+send-Inv-loop book place room₀ at count next₀ i₀ room next i = Going (live_froms book) (live_tos book) place room₀ at i room next
 
 abbrev send-μ-loop : send-lts.decreases-loop
 send-μ-loop book place room₀ at count next₀ i₀ room next i = count - i
@@ -150,11 +150,11 @@ send-hand-on-requires t c κs =
     let z = c.before.before.before.before.before.before in
     let a = c.before.before.before.before.loop in
     let w = z.args.book.now in
-    let counted : a.i < routeCountOf w = omega (arith, c.before.before.before.loop-test.true, c.before.before.before.before.before.route-count.ensures) in
-    let lt : a.i < length (liveFroms w) = omega (arith, counted, z.requires.1.whole) in
+    let counted : a.i < route_count_of w = omega (arith, c.before.before.before.loop-test.true, c.before.before.before.before.before.route-count.ensures) in
+    let lt : a.i < length (live_froms w) = omega (arith, counted, z.requires.1.whole) in
     let e = sym c.before.before.from-of.ensures ∙ c.before.if1.true in
-    let f = longest-falls (liveFroms w) (liveTos w) z.requires.1.free a.i z.args.place lt e in
-    let h : 2 * longestFrom (liveFroms w) (liveTos w) (get_or (liveTos w) a.i 0) + 1 < t = omega (arith, z.requires.0, f) in (
+    let f = longest_falls (live_froms w) (live_tos w) z.requires.1.free a.i z.args.place lt e in
+    let h : 2 * longest_from (live_froms w) (live_tos w) (get_or (live_tos w) a.i 0) + 1 < t = omega (arith, z.requires.0, f) in (
       h,
       (
         counted,
@@ -162,7 +162,7 @@ send-hand-on-requires t c κs =
           few = z.requires.1.few;
           whole = z.requires.1.whole;
           free = z.requires.1.free;
-          space = going-space _ _ _ _ _ a.i a.room a.next a.invariant lt e routeLimit z.requires.1.space;
+          space = going_space _ _ _ _ _ a.i a.room a.next a.invariant lt e route_limit z.requires.1.space;
         },
       ),
     )
@@ -199,11 +199,11 @@ send-loop-again t c =
     let z = c.before.before.before.before.before in
     let a = c.before.before.before.loop in
     let w = z.args.book.now in
-    let lt : a.i < length (liveFroms w) = omega (arith, c.before.before.loop-test.true, c.before.before.before.before.route-count.ensures, z.requires.1.whole) in
-    let goes = Going (liveFroms w) (liveTos w) z.args.place z.args.room.now z.args.at (a.i + 1) in
+    let lt : a.i < length (live_froms w) = omega (arith, c.before.before.loop-test.true, c.before.before.before.before.route-count.ensures, z.requires.1.whole) in
+    let goes = Going (live_froms w) (live_tos w) z.args.place z.args.room.now z.args.at (a.i + 1) in
     ⊎_elim
-    (λ t. subst₂ goes (sym t.3) (sym t.4) (going-take _ _ _ _ _ a.i a.room a.next a.invariant lt (sym c.before.from-of.ensures ∙ t.0.taken) _ _ t.2.ensures))
-    (λ t. subst₂ goes (sym t.1) (sym t.2) (going-skip _ _ _ _ _ a.i a.room a.next a.invariant lt (λ e. t.0.left (c.before.from-of.ensures ∙ e))))
+    (λ t. subst₂ goes (sym t.3) (sym t.4) (going_take _ _ _ _ _ a.i a.room a.next a.invariant lt (sym c.before.from-of.ensures ∙ t.0.taken) _ _ t.2.ensures))
+    (λ t. subst₂ goes (sym t.1) (sym t.2) (going_skip _ _ _ _ _ a.i a.room a.next a.invariant lt (λ e. t.0.left (c.before.from-of.ensures ∙ e))))
     c.if1.branch
 
 send-returns : (t : ℕ) → send-lts.Need-returns (

@@ -1,5 +1,5 @@
 -- `sending::to_of` meets its contract: the entry of the column at a route that is counted is the place that it leads to. Assumes nothing.
-use Rattle.sending.proofs.Steps.{column-entry}
+use Rattle.sending.proofs.Steps.{column_entry}
 use borrow.Author.Rules.{rules}
 use Rattle.sending.proofs.to_of.Statement.{statement}
 use Rattle.sending.proofs.to_of.Tie as tie
@@ -21,7 +21,7 @@ shared-slice-read-result : tie.Need-shared-slice-read-result
 shared-slice-read-result c = search rules
 
 returns : tie.Need-returns
-returns c = column-entry c.before.before.tos.ensures.0 c.before.wide.ensures c.before.before.before.requires
+returns c = column_entry c.before.before.tos.ensures.0 c.before.wide.ensures c.before.before.before.requires
 
 pub to-of-spec : {M : Type 1} → statement M
 to-of-spec =

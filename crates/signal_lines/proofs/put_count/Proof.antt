@@ -1,9 +1,9 @@
 -- `signal_lines::put_count` meets its contract: a word, a tab, a number, a newline. Assumes nothing.
 use native.Mathlib.Omega.{arith}
-use Rattle.printing.proofs.Puts.{put-within}
-use Rattle.printing.proofs.Spelling.{natural-few}
-use Rattle.signal_lines.specs.Printed.{endRoom}
-use Rattle.signal_lines.proofs.Fields.{put-more, put_last}
+use Rattle.printing.proofs.Puts.{put_within}
+use Rattle.printing.proofs.Spelling.{natural_few}
+use Rattle.signal_lines.specs.Printed.{end_room}
+use Rattle.signal_lines.proofs.Fields.{put_more, put_last}
 use borrow.Author.Rules.{rules}
 use Rattle.signal_lines.proofs.put_count.Statement.{statement}
 use Rattle.signal_lines.proofs.put_count.Tie as tie
@@ -23,13 +23,13 @@ put-natural-requires : tie.Need-put-natural-requires
 put-natural-requires c κs = search rules
 
 put-byte-requires-2 : tie.Need-put-byte-requires-2
-put-byte-requires-2 c κs = omega (arith, natural-few c.before.before.before.before.before.before.before.before.before.before.before.before.before.before.before.args.count (omega (arith, c.before.before.before.before.before.before.before.before.before.before.before.before.before.before.before.ranges.count.fits)), c.before.before.before.put-natural.ensures.now-at, c.before.before.before.before.before.before.before.put_byte.ensures.now-at, c.before.before.before.before.before.before.before.before.before.before.before.put-bytes.ensures.now-at)
+put-byte-requires-2 c κs = omega (arith, natural_few c.before.before.before.before.before.before.before.before.before.before.before.before.before.before.before.args.count (omega (arith, c.before.before.before.before.before.before.before.before.before.before.before.before.before.before.before.ranges.count.fits)), c.before.before.before.put-natural.ensures.now_at, c.before.before.before.before.before.before.before.put_byte.ensures.now_at, c.before.before.before.before.before.before.before.before.before.before.before.put-bytes.ensures.now_at)
 
 same_length : tie.Need-same-length
 same_length c = search rules
 
 returns : tie.Need-returns
-returns c = put-within endRoom (put-more _ _ c.before.before.before.before.before.before.before.before.before.before.before.before.before.before.put-bytes.ensures c.before.before.before.before.before.before.before.before.before.before.put_byte.ensures (put_last c.before.before.before.before.before.before.put-natural.ensures c.before.before.put-byte2.ensures)) (omega (arith, natural-few c.before.before.before.before.before.before.before.before.before.before.before.before.before.before.before.before.before.before.args.count (omega (arith, c.before.before.before.before.before.before.before.before.before.before.before.before.before.before.before.before.before.before.ranges.count.fits)), c.before.before.put-byte2.ensures.now-at, c.before.before.before.before.before.before.put-natural.ensures.now-at, c.before.before.before.before.before.before.before.before.before.before.put_byte.ensures.now-at, c.before.before.before.before.before.before.before.before.before.before.before.before.before.before.put-bytes.ensures.now-at))
+returns c = put_within end_room (put_more _ _ c.before.before.before.before.before.before.before.before.before.before.before.before.before.before.put-bytes.ensures c.before.before.before.before.before.before.before.before.before.before.put_byte.ensures (put_last c.before.before.before.before.before.before.put-natural.ensures c.before.before.put-byte2.ensures)) (omega (arith, natural_few c.before.before.before.before.before.before.before.before.before.before.before.before.before.before.before.before.before.before.args.count (omega (arith, c.before.before.before.before.before.before.before.before.before.before.before.before.before.before.before.before.before.before.ranges.count.fits)), c.before.before.put-byte2.ensures.now_at, c.before.before.before.before.before.before.put-natural.ensures.now_at, c.before.before.before.before.before.before.before.before.before.before.put_byte.ensures.now_at, c.before.before.before.before.before.before.before.before.before.before.before.before.before.before.put-bytes.ensures.now_at))
 
 pub put-count-spec : {M : Type 1} → statement M
 put-count-spec =

@@ -1,8 +1,8 @@
 -- `signal_lines::put_refused` meets its contract: the identifier, a tab, and the rest of the line. Assumes nothing.
 use native.Mathlib.Omega.{arith}
-use Rattle.printing.proofs.Puts.{put-within, put-identifier}
-use Rattle.signal_lines.specs.Printed.{listedLineRoom}
-use Rattle.signal_lines.proofs.Fields.{put-more}
+use Rattle.printing.proofs.Puts.{put_within, put_identifier_law}
+use Rattle.signal_lines.specs.Printed.{listed_line_room}
+use Rattle.signal_lines.proofs.Fields.{put_more}
 use borrow.Author.Rules.{rules}
 use Rattle.signal_lines.proofs.put_refused.Statement.{statement}
 use Rattle.signal_lines.proofs.put_refused.Tie as tie
@@ -28,7 +28,7 @@ same_length : tie.Need-same-length
 same_length c = search rules
 
 returns : tie.Need-returns
-returns c = put-within listedLineRoom (put-more _ _ (put-identifier _ c.before.before.before.before.before.before.before.before.before.before.before.put-identifier.ensures) c.before.before.before.before.before.before.before.put_byte.ensures c.before.before.put_count.ensures.put) (omega (arith, c.before.before.put_count.ensures.short, c.before.before.put_count.ensures.put.now-at, c.before.before.before.before.before.before.before.put_byte.ensures.now-at, c.before.before.before.before.before.before.before.before.before.before.before.put-identifier.ensures.0))
+returns c = put_within listed_line_room (put_more _ _ (put_identifier_law _ c.before.before.before.before.before.before.before.before.before.before.before.put_identifier.ensures) c.before.before.before.before.before.before.before.put_byte.ensures c.before.before.put_count.ensures.put) (omega (arith, c.before.before.put_count.ensures.short, c.before.before.put_count.ensures.put.now_at, c.before.before.before.before.before.before.before.put_byte.ensures.now_at, c.before.before.before.before.before.before.before.before.before.before.before.put_identifier.ensures.0))
 
 pub put-refused-spec : {M : Type 1} → statement M
 put-refused-spec =

@@ -1,9 +1,9 @@
 -- `signal_lines::put_value` meets its contract: a word, a tab, the figures, a newline. Assumes nothing.
 use native.Mathlib.Omega.{arith}
 use borrow.Author.Rules.{rules}
-use Rattle.printing.proofs.Puts.{put-within}
-use Rattle.signal_lines.specs.Printed.{endRoom}
-use Rattle.signal_lines.proofs.Fields.{put-more, put_last}
+use Rattle.printing.proofs.Puts.{put_within}
+use Rattle.signal_lines.specs.Printed.{end_room}
+use Rattle.signal_lines.proofs.Fields.{put_more, put_last}
 use Rattle.signal_lines.proofs.put_value.Statement.{statement}
 use Rattle.signal_lines.proofs.put_value.Tie as tie
 
@@ -31,7 +31,7 @@ returns c =
     let tab = c.before.before.before.before.before.before.before.before.before.before.put_byte.ensures in
     let figures = c.before.before.before.before.before.before.put-figures.ensures in
     let newline = c.before.before.put-byte2.ensures in
-    put-within endRoom (put-more _ _ word tab (put_last figures.put newline)) (omega (arith, figures.short, newline.now-at, figures.put.now-at, tab.now-at, word.now-at))
+    put_within end_room (put_more _ _ word tab (put_last figures.put newline)) (omega (arith, figures.short, newline.now_at, figures.put.now_at, tab.now_at, word.now_at))
 
 pub put-value-spec : {M : Type 1} → statement M
 put-value-spec =

@@ -1,6 +1,6 @@
 -- `taking::take_line` meets its contract: what the line says tells which of the adds was called. Assumes nothing.
 use mathlib.Core.Path.{refl}
-use Rattle.taking.proofs.Steps.{took-message, took-signal, took-route, took-none}
+use Rattle.taking.proofs.Steps.{took_message, took_signal, took_route, took_none}
 use borrow.Author.Rules.{rules}
 use Rattle.taking.proofs.take_line.Statement.{statement}
 use Rattle.taking.proofs.take_line.Tie as tie
@@ -39,16 +39,16 @@ enum_told : tie.Need-enum-told
 enum_told c = search rules
 
 returns : tie.Need-returns
-returns c = λ b k. took-message b c.step_of_lem.ensures _ c.before.before.before.before.before.line.given.1 (c.before.before.add-message.ensures b k.holds) c.before.nothing.ensures
+returns c = λ b k. took_message b c.step_of_lem.ensures _ c.before.before.before.before.before.line.given.1 (c.before.before.add-message.ensures b k.holds) c.before.nothing.ensures
 
 returns-2 : tie.Need-returns-2
-returns-2 c = λ b k. took-signal b c.step-of2.ensures _ _ c.before.before.before.before.line2.given.1 c.before.add-signal.result refl refl (c.before.add-signal.ensures b k)
+returns-2 c = λ b k. took_signal b c.step-of2.ensures _ _ c.before.before.before.before.line2.given.1 c.before.add-signal.result refl refl (c.before.add-signal.ensures b k)
 
 returns-3 : tie.Need-returns-3
-returns-3 c = λ b k. took-route b c.step-of3.ensures _ _ _ _ _ c.before.before.before.before.line3.given.1 (c.before.add-route.ensures b k.holds) k.fills
+returns-3 c = λ b k. took_route b c.step-of3.ensures _ _ _ _ _ c.before.before.before.before.line3.given.1 (c.before.add-route.ensures b k.holds) k.fills
 
 returns-4 : tie.Need-returns-4
-returns-4 c = λ b k. took-none b c.enum_told.given.1 k.holds
+returns-4 c = λ b k. took_none b c.enum_told.given.1 k.holds
 
 pub take-line-spec : {M : Type 1} → statement M
 take-line-spec =

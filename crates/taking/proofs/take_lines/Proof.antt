@@ -3,7 +3,7 @@ use Prim.Native.Nat.{◌-◌}
 use native.Mathlib.Omega.{arith}
 use lib.ListN.{length}
 use borrow.Author.Rules.{rules}
-use Rattle.taking.proofs.Going.{read, Going, start, all-taken, refused-here, goes_on}
+use Rattle.taking.proofs.Going.{read, Going, start, all_taken, refused_here, goes_on}
 use Rattle.taking.proofs.take_lines.Statement.{statement}
 use Rattle.taking.proofs.take_lines.Tie as tie
 
@@ -55,7 +55,7 @@ clear-requires : tie.Need-clear-requires invariant-loop decreases-loop
 clear-requires c κs = search rules
 
 returns : tie.Need-returns invariant-loop decreases-loop
-returns c = (refused-here c.before.before.before.before.before.before.before.before.before.before.before.before.loop.invariant c.before.before.before.before.before.before.before.before.before.before.before.loop-test.true _ c.before.before.before.before.before.before.before.before.before.before.read_at.ensures _ (c.before.before.before.before.before.take-line.ensures c.before.before.before.before.before.before.before.before.before.before.before.before.loop.invariant.book c.before.before.before.before.before.before.before.before.before.before.before.before.loop.invariant.kept) _ c.before.before.before.why.given.1, c.clear.ensures)
+returns c = (refused_here c.before.before.before.before.before.before.before.before.before.before.before.before.loop.invariant c.before.before.before.before.before.before.before.before.before.before.before.loop-test.true _ c.before.before.before.before.before.before.before.before.before.before.read_at.ensures _ (c.before.before.before.before.before.take-line.ensures c.before.before.before.before.before.before.before.before.before.before.before.before.loop.invariant.book c.before.before.before.before.before.before.before.before.before.before.before.before.loop.invariant.kept) _ c.before.before.before.why.given.1, c.clear.ensures)
 
 add-n : tie.Need-overflow-add-n invariant-loop decreases-loop
 add-n c = omega (arith, c.before.before.before.before.before.before.before.before.before.before.loop.invariant.numbered, c.before.before.before.before.before.before.before.before.before.before.loop.invariant.within, c.before.before.before.before.before.before.before.before.before.before.before.before.before.before.before.before.requires.0)
@@ -67,7 +67,7 @@ loop-again : tie.Need-loop-preserved invariant-loop decreases-loop
 loop-again c = goes_on c.before.before.before.before.before.before.before.before.before.before.loop.invariant c.before.before.before.before.before.before.before.before.before.loop-test.true _ c.before.before.before.before.before.before.before.before.read_at.ensures _ (c.before.before.before.take-line.ensures c.before.before.before.before.before.before.before.before.before.before.loop.invariant.book c.before.before.before.before.before.before.before.before.before.before.loop.invariant.kept) _ c.before.more.given.1
 
 returns-2 : tie.Need-returns-2 invariant-loop decreases-loop
-returns-2 c = all-taken c.before.loop.invariant c.loop-test.false
+returns-2 c = all_taken c.before.loop.invariant c.loop-test.false
 
 pub take-lines-spec : {M : Type 1} → statement M
 take-lines-spec =

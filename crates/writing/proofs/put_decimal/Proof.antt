@@ -1,7 +1,7 @@
 -- `writing::put_decimal` meets its contract: a number has as many digits as hold it. Assumes nothing.
 use native.Mathlib.Omega.{arith}
-use Rattle.numerals.specs.Written.{decimalText}
-use Rattle.numerals.proofs.Decimals.{width-holds}
+use Rattle.numerals.specs.Written.{decimal_text}
+use Rattle.numerals.proofs.Decimals.{width_holds}
 use borrow.Author.Rules.{rules}
 use Rattle.writing.proofs.put_decimal.Statement.{statement}
 use Rattle.writing.proofs.put_decimal.Tie as tie
@@ -18,7 +18,7 @@ put-digits-requires c κs = record {
   inside = omega (arith, c.before.before.before.requires.1, c.before.decimal-width.ensures);
   some = omega arith;
   few = omega arith;
-  holds = rw c.before.decimal-width.ensures (width-holds _ c.before.before.before.requires.0);
+  holds = rw c.before.decimal-width.ensures (width_holds _ c.before.before.before.requires.0);
 }
 
 add-result : tie.Need-overflow-add-result
@@ -28,7 +28,7 @@ same_length : tie.Need-same-length
 same_length c = search rules
 
 returns : tie.Need-returns
-unfolding decimalText
+unfolding decimal_text
 returns c =
     let e = c.before.before.before.before.decimal-width.ensures in
     (rw e, rw e at c.before.before.put-digits.ensures)

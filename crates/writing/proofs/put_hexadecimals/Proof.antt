@@ -3,7 +3,7 @@ use native.Mathlib.Nat.{mod-lt}
 use native.Mathlib.Omega.{arith}
 use lib.Dec.{lit<}
 use Rattle.writing.proofs.Left.{Left, all_left, none_left, one_less}
-use Rattle.writing.proofs.LookUp.{looked-up}
+use Rattle.writing.proofs.LookUp.{looked_up}
 use Rattle.writing.proofs.put_hexadecimals.Statement.{statement}
 use Rattle.writing.proofs.put_hexadecimals.Tie as tie
 
@@ -32,7 +32,7 @@ loop-less : tie.Need-loop-smaller invariant-loop decreases-loop
 loop-less c = omega arith
 
 loop-again : tie.Need-loop-preserved invariant-loop decreases-loop
-loop-again c = one_less _ _ _ c.before.loop.invariant c.loop-test.true (lit< tt) (looked-up _ (mod-lt c.before.loop.m (lit< tt)))
+loop-again c = one_less _ _ _ c.before.loop.invariant c.loop-test.true (lit< tt) (looked_up _ (mod-lt c.before.loop.m (lit< tt)))
 
 same_length : tie.Need-same-length invariant-loop decreases-loop
 same_length c = c.before.loop.invariant.size

@@ -1,6 +1,6 @@
 -- `writing::put_identifier` meets its contract. Assumes nothing.
 use mathlib.Core.Path.{refl}
-use Rattle.numerals.specs.Written.{identifierText}
+use Rattle.numerals.specs.Written.{identifier_text}
 use borrow.Author.Rules.{rules}
 use Rattle.writing.proofs.put_identifier.Statement.{statement}
 use Rattle.writing.proofs.put_identifier.Tie as tie
@@ -18,7 +18,7 @@ same_length : tie.Need-same-length
 same_length c = search rules
 
 returns : tie.Need-returns
-unfolding identifierText
+unfolding identifier_text
 returns c = (refl, c.before.before.put-digits.ensures)
 
 pub put-identifier-spec : {M : Type 1} → statement M

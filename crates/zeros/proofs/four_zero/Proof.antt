@@ -7,7 +7,7 @@ use borrow.Author.Rules.{rules}
 use lib.Dec.{eqb}
 use lib.ListN.{length, drop}
 use Rattle.zeros.specs.Zeros.{zeros}
-use Rattle.zeros.proofs.Gathering.{four-step, four-end}
+use Rattle.zeros.proofs.Gathering.{four_step, four_end}
 use Rattle.zeros.proofs.four_zero.Statement.{statement}
 use Rattle.zeros.proofs.four_zero.Tie as tie
 use Rattle.zeros.proofs.four_zero.Reads as reads
@@ -53,10 +53,10 @@ loop-less : tie.Need-loop-smaller invariant-loop decreases-loop
 loop-less c = search rules
 
 loop-again : tie.Need-loop-preserved invariant-loop decreases-loop
-loop-again c = four-step _ _ _ _ c.before.before.before.before.before.before.requires c.before.before.before.before.before.loop.at c.before.before.before.before.before.loop.all c.before.before.before.before.loop-test.true ∙ c.before.before.before.before.before.loop.invariant
+loop-again c = four_step _ _ _ _ c.before.before.before.before.before.before.requires c.before.before.before.before.before.loop.at c.before.before.before.before.before.loop.all c.before.before.before.before.loop-test.true ∙ c.before.before.before.before.before.loop.invariant
 
 returns : tie.Need-returns invariant-loop decreases-loop
-returns c = sym (four-end _ _ _ _ c.before.before.requires c.before.loop.at c.before.loop.all c.loop-test.false) ∙ c.before.loop.invariant
+returns c = sym (four_end _ _ _ _ c.before.before.requires c.before.loop.at c.before.loop.all c.loop-test.false) ∙ c.before.loop.invariant
 
 pub four-zero-spec : {M : Type 1} → statement M
 four-zero-spec =

@@ -2,10 +2,10 @@
 use mathlib.Core.Path.{ap, ◌∙◌}
 use Prim.Native.Nat.{◌*◌}
 use native.Mathlib.Omega.{arith}
-use Rattle.books.specs.Book.{allPlacements}
-use Rattle.reading.proofs.LineLengths.{message-long}
-use Rattle.reading.proofs.TextLengths.{signalBytes, signals-few, messages-long}
-use Rattle.book_writer.proofs.Shown.{ms, stand, limits, messages-counted, signals-counted, own-signals}
+use Rattle.books.specs.Book.{all_placements}
+use Rattle.reading.proofs.LineLengths.{message_long}
+use Rattle.reading.proofs.TextLengths.{signal_bytes, signals_few, messages_long}
+use Rattle.book_writer.proofs.Shown.{ms, stand, limits, messages_counted, signals_counted, own_signals}
 use borrow.Author.Rules.{rules}
 use Rattle.book_writer.proofs.lengths.message_lines_length.Statement.{statement}
 use Rattle.book_writer.proofs.lengths.message_lines_length.Tie as tie
@@ -30,16 +30,16 @@ numbers-requires : tie.Need-numbers-requires
 numbers-requires c κs = search rules
 
 first-requires : tie.Need-first-requires
-first-requires c κs = omega (arith, signals-counted _ c.before.before.before.requires, c.numbers.ensures.1, c.before.wide.ensures, c.before.before.signal-count.ensures)
+first-requires c κs = omega (arith, signals_counted _ c.before.before.before.requires, c.numbers.ensures.1, c.before.wide.ensures, c.before.before.signal-count.ensures)
 
 starts-requires : tie.Need-starts-requires
 starts-requires c κs = search rules
 
 first-requires-2 : tie.Need-first-requires-2
-first-requires-2 c κs = omega (arith, signals-counted _ c.before.before.before.before.before.requires, c.starts.ensures.1, c.before.before.before.wide.ensures, c.before.before.before.before.signal-count.ensures)
+first-requires-2 c κs = omega (arith, signals_counted _ c.before.before.before.before.before.requires, c.starts.ensures.1, c.before.before.before.wide.ensures, c.before.before.before.before.signal-count.ensures)
 
 signals-length-requires : tie.Need-signals-length-requires
-signals-length-requires c κs = (omega (arith, c.before.before.first.ensures.1, c.first2.ensures.1), omega (arith, signals-counted _ c.before.before.before.before.before.before.requires, c.before.before.first.ensures.1, c.before.before.before.before.wide.ensures, c.before.before.before.before.before.signal-count.ensures))
+signals-length-requires c κs = (omega (arith, c.before.before.first.ensures.1, c.first2.ensures.1), omega (arith, signals_counted _ c.before.before.before.before.before.before.requires, c.before.before.first.ensures.1, c.before.before.before.before.wide.ensures, c.before.before.before.before.before.signal-count.ensures))
 
 message-length-requires : tie.Need-message-length-requires
 message-length-requires c κs = search rules
@@ -48,13 +48,13 @@ message-count-requires : tie.Need-message-count-requires
 message-count-requires c κs = search rules
 
 mul-result : tie.Need-overflow-mul-result
-mul-result c = omega (arith, ap (λ k. k * c.message-count.result) (c.before.message-length.ensures 0 ∙ message-long 0), messages-counted _ c.before.before.before.before.before.before.before.before.before.requires, c.message-count.ensures)
+mul-result c = omega (arith, ap (λ k. k * c.message-count.result) (c.before.message-length.ensures 0 ∙ message_long 0), messages_counted _ c.before.before.before.before.before.before.before.before.before.requires, c.message-count.ensures)
 
 add-result : tie.Need-overflow-add-result
-add-result c = omega (arith, ap (λ k. k * c.message-count.result) (c.before.message-length.ensures 0 ∙ message-long 0), messages-counted _ c.before.before.before.before.before.before.before.before.before.requires, c.message-count.ensures, signals-few (allPlacements (ms _ c.before.before.before.before.before.before.before.before.before.requires)), (limits _ c.before.before.before.before.before.before.before.before.before.requires).room, c.before.before.signals-length.ensures ∙ ap signalBytes (own-signals _ c.before.before.before.before.before.before.before.before.before.requires (c.before.before.before.before.before.before.before.wide.ensures ∙ c.before.before.before.before.before.before.before.before.signal-count.ensures) c.before.before.before.before.before.before.numbers.ensures.0 c.before.before.before.before.starts.ensures.0 c.before.before.before.before.before.first.ensures.0 c.before.before.before.first2.ensures.0))
+add-result c = omega (arith, ap (λ k. k * c.message-count.result) (c.before.message-length.ensures 0 ∙ message_long 0), messages_counted _ c.before.before.before.before.before.before.before.before.before.requires, c.message-count.ensures, signals_few (all_placements (ms _ c.before.before.before.before.before.before.before.before.before.requires)), (limits _ c.before.before.before.before.before.before.before.before.before.requires).room, c.before.before.signals-length.ensures ∙ ap signal_bytes (own_signals _ c.before.before.before.before.before.before.before.before.before.requires (c.before.before.before.before.before.before.before.wide.ensures ∙ c.before.before.before.before.before.before.before.before.signal-count.ensures) c.before.before.before.before.before.before.numbers.ensures.0 c.before.before.before.before.starts.ensures.0 c.before.before.before.before.before.first.ensures.0 c.before.before.before.first2.ensures.0))
 
 returns : tie.Need-returns
-returns c = omega (arith, ap (λ k. k * c.message-count.result) (c.before.message-length.ensures 0 ∙ message-long 0), messages-long (ms _ c.before.before.before.before.before.before.before.before.before.requires), (stand _ c.before.before.before.before.before.before.before.before.before.requires).messages, c.message-count.ensures, c.before.before.signals-length.ensures ∙ ap signalBytes (own-signals _ c.before.before.before.before.before.before.before.before.before.requires (c.before.before.before.before.before.before.before.wide.ensures ∙ c.before.before.before.before.before.before.before.before.signal-count.ensures) c.before.before.before.before.before.before.numbers.ensures.0 c.before.before.before.before.starts.ensures.0 c.before.before.before.before.before.first.ensures.0 c.before.before.before.first2.ensures.0))
+returns c = omega (arith, ap (λ k. k * c.message-count.result) (c.before.message-length.ensures 0 ∙ message_long 0), messages_long (ms _ c.before.before.before.before.before.before.before.before.before.requires), (stand _ c.before.before.before.before.before.before.before.before.before.requires).messages, c.message-count.ensures, c.before.before.signals-length.ensures ∙ ap signal_bytes (own_signals _ c.before.before.before.before.before.before.before.before.before.requires (c.before.before.before.before.before.before.before.wide.ensures ∙ c.before.before.before.before.before.before.before.before.signal-count.ensures) c.before.before.before.before.before.before.numbers.ensures.0 c.before.before.before.before.starts.ensures.0 c.before.before.before.before.before.first.ensures.0 c.before.before.before.first2.ensures.0))
 
 pub message-lines-length-spec : {M : Type 1} → statement M
 message-lines-length-spec =

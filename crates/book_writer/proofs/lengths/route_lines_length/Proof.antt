@@ -2,8 +2,8 @@
 use mathlib.Core.Path.{ap, ◌∙◌}
 use native.Mathlib.Omega.{arith}
 use lib.ListN.{length}
-use Rattle.reading.specs.Written.{linesText}
-use Rattle.book_writer.proofs.Shown.{routes-counted, own-routes}
+use Rattle.reading.specs.Written.{lines_text}
+use Rattle.book_writer.proofs.Shown.{routes_counted, own_routes}
 use borrow.Author.Rules.{rules}
 use Rattle.book_writer.proofs.lengths.route_lines_length.Statement.{statement}
 use Rattle.book_writer.proofs.lengths.route_lines_length.Tie as tie
@@ -27,29 +27,29 @@ froms-requires : tie.Need-froms-requires
 froms-requires c κs = search rules
 
 first-requires : tie.Need-first-requires
-first-requires c κs = omega (arith, routes-counted _ c.before.before.before.requires, c.froms.ensures.1, c.before.wide.ensures, c.before.before.route-count.ensures)
+first-requires c κs = omega (arith, routes_counted _ c.before.before.before.requires, c.froms.ensures.1, c.before.wide.ensures, c.before.before.route-count.ensures)
 
 tos-requires : tie.Need-tos-requires
 tos-requires c κs = search rules
 
 first-requires-2 : tie.Need-first-requires-2
-first-requires-2 c κs = omega (arith, routes-counted _ c.before.before.before.before.before.requires, c.tos.ensures.1, c.before.before.before.wide.ensures, c.before.before.before.before.route-count.ensures)
+first-requires-2 c κs = omega (arith, routes_counted _ c.before.before.before.before.before.requires, c.tos.ensures.1, c.before.before.before.wide.ensures, c.before.before.before.before.route-count.ensures)
 
 gateways-requires : tie.Need-gateways-requires
 gateways-requires c κs = search rules
 
 first-requires-3 : tie.Need-first-requires-3
-first-requires-3 c κs = omega (arith, routes-counted _ c.before.before.before.before.before.before.before.requires, c.gateways.ensures.1, c.before.before.before.before.before.wide.ensures, c.before.before.before.before.before.before.route-count.ensures)
+first-requires-3 c κs = omega (arith, routes_counted _ c.before.before.before.before.before.before.before.requires, c.gateways.ensures.1, c.before.before.before.before.before.wide.ensures, c.before.before.before.before.before.before.route-count.ensures)
 
 routes-length-requires : tie.Need-routes-length-requires
 routes-length-requires c κs = (
   omega (arith, c.before.before.before.before.first.ensures.1, c.before.before.first2.ensures.1),
   omega (arith, c.before.before.before.before.first.ensures.1, c.first3.ensures.1),
-  omega (arith, routes-counted _ c.before.before.before.before.before.before.before.before.requires, c.before.before.before.before.first.ensures.1, c.before.before.before.before.before.before.wide.ensures, c.before.before.before.before.before.before.before.route-count.ensures),
+  omega (arith, routes_counted _ c.before.before.before.before.before.before.before.before.requires, c.before.before.before.before.first.ensures.1, c.before.before.before.before.before.before.wide.ensures, c.before.before.before.before.before.before.before.route-count.ensures),
 )
 
 returns : tie.Need-returns
-returns c = c.routes-length.ensures ∙ ap (λ l. length (linesText l)) (own-routes _ c.before.before.before.before.before.before.before.before.before.requires (c.before.before.before.before.before.before.before.wide.ensures ∙ c.before.before.before.before.before.before.before.before.route-count.ensures) c.before.before.before.before.before.before.froms.ensures.0 c.before.before.before.before.tos.ensures.0 c.before.before.gateways.ensures.0 c.before.before.before.before.before.first.ensures.0 c.before.before.before.first2.ensures.0 c.before.first3.ensures.0)
+returns c = c.routes-length.ensures ∙ ap (λ l. length (lines_text l)) (own_routes _ c.before.before.before.before.before.before.before.before.before.requires (c.before.before.before.before.before.before.before.wide.ensures ∙ c.before.before.before.before.before.before.before.before.route-count.ensures) c.before.before.before.before.before.before.froms.ensures.0 c.before.before.before.before.tos.ensures.0 c.before.before.gateways.ensures.0 c.before.before.before.before.before.first.ensures.0 c.before.before.before.first2.ensures.0 c.before.first3.ensures.0)
 
 pub route-lines-length-spec : {M : Type 1} → statement M
 route-lines-length-spec =

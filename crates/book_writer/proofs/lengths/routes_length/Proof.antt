@@ -5,14 +5,14 @@ use native.Mathlib.Omega.{arith}
 use lib.ListN.{length, length-map}
 use mathlib.Core.Path.{sym, ap}
 use Rattle.books.specs.Book.{Route}
-use Rattle.books.specs.Words.{routesSideBySide}
-use Rattle.books.proofs.Sides.{routesFromOn}
-use Rattle.books.proofs.RouteColumns.{side-froms}
-use Rattle.reading.specs.Written.{routeLine}
-use Rattle.line_writer.proofs.Left.{LengthSoFar, none-summed, one-summed, all-summed}
-use Rattle.book_writer.specs.ShownLines.{routeLines}
-use Rattle.book_writer.proofs.Columns.{route-next, routes-done}
-use Rattle.reading.proofs.TextLengths.{routes-few}
+use Rattle.books.specs.Words.{routes_side_by_side}
+use Rattle.books.proofs.Sides.{routes_from_on}
+use Rattle.books.proofs.RouteColumns.{side_froms}
+use Rattle.reading.specs.Written.{route_line}
+use Rattle.line_writer.proofs.Left.{LengthSoFar, none_summed, one_summed, all_summed}
+use Rattle.book_writer.specs.ShownLines.{route_lines}
+use Rattle.book_writer.proofs.Columns.{route_next, routes_done}
+use Rattle.reading.proofs.TextLengths.{routes_few}
 use borrow.Author.Rules.{rules}
 use Rattle.book_writer.proofs.lengths.routes_length.Statement.{statement}
 use Rattle.book_writer.proofs.lengths.routes_length.Tie as tie
@@ -21,13 +21,13 @@ use Rattle.book_writer.proofs.lengths.routes_length.Lts as lts
 use Rattle.line_writer.proofs.route_length.Reads as route-length-reads
 
 abbrev invariant-loop : tie.invariant-loop
-invariant-loop froms tos gateways sum₀ i₀ sum i = LengthSoFar (routeLines froms tos gateways) sum (map routeLine (routesFromOn froms tos gateways i))
+invariant-loop froms tos gateways sum₀ i₀ sum i = LengthSoFar (route_lines froms tos gateways) sum (map route_line (routes_from_on froms tos gateways i))
 
 abbrev decreases-loop : tie.decreases-loop
 decreases-loop froms tos gateways sum₀ i₀ sum i = length froms - i
 
 loop-holds : tie.Need-loop-init invariant-loop decreases-loop
-loop-holds c = none-summed _
+loop-holds c = none_summed _
 
 mul-route-length : tie.Need-overflow-mul-route-length invariant-loop decreases-loop
 mul-route-length c = search rules
@@ -56,14 +56,14 @@ add-sum c =
     let fs = z.args.froms.now in
     let ts = z.args.tos.now in
     let gs = z.args.gateways.now in
-    let s = one-summed _ _ (route-next (LengthSoFar _ _) _ _ _ _ c.before.before.before.before.before.loop.invariant z.requires.0 z.requires.1 c.before.before.before.before.loop-test.true) c.route-length.ensures in
+    let s = one_summed _ _ (route_next (LengthSoFar _ _) _ _ _ _ c.before.before.before.before.before.loop.invariant z.requires.0 z.requires.1 c.before.before.before.before.loop-test.true) c.route-length.ensures in
     omega (
       arith,
       s.whole,
       z.requires.2,
-      routes-few (routesSideBySide fs ts gs),
-      ap length (side-froms fs ts gs (sym z.requires.0) (sym z.requires.1)),
-      length-map (routesSideBySide fs ts gs) (λ (r : Route). r.from),
+      routes_few (routes_side_by_side fs ts gs),
+      ap length (side_froms fs ts gs (sym z.requires.0) (sym z.requires.1)),
+      length-map (routes_side_by_side fs ts gs) (λ (r : Route). r.from),
     )
 
 add-i : tie.Need-overflow-add-i invariant-loop decreases-loop
@@ -73,10 +73,10 @@ loop-less : tie.Need-loop-smaller invariant-loop decreases-loop
 loop-less c = omega (arith, c.before.before.before.before.loop-test.true)
 
 loop-again : tie.Need-loop-preserved invariant-loop decreases-loop
-loop-again c = one-summed _ _ (route-next (LengthSoFar _ _) _ _ _ _ c.before.before.before.before.before.loop.invariant c.before.before.before.before.before.before.before.before.before.requires.0 c.before.before.before.before.before.before.before.before.before.requires.1 c.before.before.before.before.loop-test.true) c.route-length.ensures
+loop-again c = one_summed _ _ (route_next (LengthSoFar _ _) _ _ _ _ c.before.before.before.before.before.loop.invariant c.before.before.before.before.before.before.before.before.before.requires.0 c.before.before.before.before.before.before.before.before.before.requires.1 c.before.before.before.before.loop-test.true) c.route-length.ensures
 
 returns : tie.Need-returns invariant-loop decreases-loop
-returns c = all-summed (routes-done (LengthSoFar _ _) _ _ _ _ c.before.loop.invariant c.loop-test.false)
+returns c = all_summed (routes_done (LengthSoFar _ _) _ _ _ _ c.before.loop.invariant c.loop-test.false)
 
 pub routes-length-spec : {M : Type 1} → statement M
 routes-length-spec =

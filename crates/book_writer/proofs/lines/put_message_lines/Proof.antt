@@ -1,7 +1,7 @@
 -- `book_writer::lines::put_message_lines` meets its contract: the columns are those of the messages that the words show. Assumes nothing.
 use mathlib.Core.Path.{◌∙◌}
 use native.Mathlib.Omega.{arith}
-use Rattle.book_writer.proofs.Shown.{messages-counted, signals-counted, messages-fit, messages-put}
+use Rattle.book_writer.proofs.Shown.{messages_counted, signals_counted, messages_fit, messages_put}
 use borrow.Author.Rules.{rules}
 use Rattle.book_writer.proofs.lines.put_message_lines.Statement.{statement}
 use Rattle.book_writer.proofs.lines.put_message_lines.Tie as tie
@@ -33,34 +33,34 @@ ids-requires : tie.Need-ids-requires
 ids-requires c κs = search rules
 
 first-requires : tie.Need-first-requires
-first-requires c κs = omega (arith, messages-counted _ c.before.before.before.before.before.before.before.requires.0, c.ids.ensures.1, c.before.before.before.before.wide.ensures, c.before.before.before.before.before.message-count.ensures)
+first-requires c κs = omega (arith, messages_counted _ c.before.before.before.before.before.before.before.requires.0, c.ids.ensures.1, c.before.before.before.before.wide.ensures, c.before.before.before.before.before.message-count.ensures)
 
 ends-requires : tie.Need-ends-requires
 ends-requires c κs = search rules
 
 first-requires-2 : tie.Need-first-requires-2
-first-requires-2 c κs = omega (arith, messages-counted _ c.before.before.before.before.before.before.before.before.before.requires.0, c.ends.ensures.1, c.before.before.before.before.before.before.wide.ensures, c.before.before.before.before.before.before.before.message-count.ensures)
+first-requires-2 c κs = omega (arith, messages_counted _ c.before.before.before.before.before.before.before.before.before.requires.0, c.ends.ensures.1, c.before.before.before.before.before.before.wide.ensures, c.before.before.before.before.before.before.before.message-count.ensures)
 
 numbers-requires : tie.Need-numbers-requires
 numbers-requires c κs = search rules
 
 first-requires-3 : tie.Need-first-requires-3
-first-requires-3 c κs = omega (arith, signals-counted _ c.before.before.before.before.before.before.before.before.before.before.before.requires.0, c.numbers.ensures.1, c.before.before.before.before.before.before.wide2.ensures, c.before.before.before.before.before.before.before.signal-count.ensures)
+first-requires-3 c κs = omega (arith, signals_counted _ c.before.before.before.before.before.before.before.before.before.before.before.requires.0, c.numbers.ensures.1, c.before.before.before.before.before.before.wide2.ensures, c.before.before.before.before.before.before.before.signal-count.ensures)
 
 starts-requires : tie.Need-starts-requires
 starts-requires c κs = search rules
 
 first-requires-4 : tie.Need-first-requires-4
-first-requires-4 c κs = omega (arith, signals-counted _ c.before.before.before.before.before.before.before.before.before.before.before.before.before.requires.0, c.starts.ensures.1, c.before.before.before.before.before.before.before.before.wide2.ensures, c.before.before.before.before.before.before.before.before.before.signal-count.ensures)
+first-requires-4 c κs = omega (arith, signals_counted _ c.before.before.before.before.before.before.before.before.before.before.before.before.before.requires.0, c.starts.ensures.1, c.before.before.before.before.before.before.before.before.wide2.ensures, c.before.before.before.before.before.before.before.before.before.signal-count.ensures)
 
 put-messages-requires : tie.Need-put-messages-requires
-put-messages-requires c κs = messages-fit _ c.before.before.before.before.before.before.before.before.before.before.before.before.before.before.requires.0 (c.before.before.before.before.before.before.before.before.before.wide2.ensures ∙ c.before.before.before.before.before.before.before.before.before.before.signal-count.ensures) c.before.before.before.numbers.ensures.0 c.before.starts.ensures.0 c.before.before.first3.ensures.0 c.first4.ensures.0 (c.before.before.before.before.before.before.before.before.before.before.before.wide.ensures ∙ c.before.before.before.before.before.before.before.before.before.before.before.before.message-count.ensures) c.before.before.before.before.before.before.before.ids.ensures.0 c.before.before.before.before.before.ends.ensures.0 c.before.before.before.before.before.before.first.ensures.0 c.before.before.before.before.first2.ensures.0 c.before.before.before.before.before.before.before.before.before.before.before.before.before.before.requires.1
+put-messages-requires c κs = messages_fit _ c.before.before.before.before.before.before.before.before.before.before.before.before.before.before.requires.0 (c.before.before.before.before.before.before.before.before.before.wide2.ensures ∙ c.before.before.before.before.before.before.before.before.before.before.signal-count.ensures) c.before.before.before.numbers.ensures.0 c.before.starts.ensures.0 c.before.before.first3.ensures.0 c.first4.ensures.0 (c.before.before.before.before.before.before.before.before.before.before.before.wide.ensures ∙ c.before.before.before.before.before.before.before.before.before.before.before.before.message-count.ensures) c.before.before.before.before.before.before.before.ids.ensures.0 c.before.before.before.before.before.ends.ensures.0 c.before.before.before.before.before.before.first.ensures.0 c.before.before.before.before.first2.ensures.0 c.before.before.before.before.before.before.before.before.before.before.before.before.before.before.requires.1
 
 same_length : tie.Need-same-length
 same_length c = search rules
 
 returns : tie.Need-returns
-returns c = messages-put _ c.before.before.before.before.before.before.before.before.before.before.before.before.before.before.before.before.before.requires.0 (c.before.before.before.before.before.before.before.before.before.before.before.before.wide2.ensures ∙ c.before.before.before.before.before.before.before.before.before.before.before.before.before.signal-count.ensures) c.before.before.before.before.before.before.numbers.ensures.0 c.before.before.before.before.starts.ensures.0 c.before.before.before.before.before.first3.ensures.0 c.before.before.before.first4.ensures.0 (c.before.before.before.before.before.before.before.before.before.before.before.before.before.before.wide.ensures ∙ c.before.before.before.before.before.before.before.before.before.before.before.before.before.before.before.message-count.ensures) c.before.before.before.before.before.before.before.before.before.before.ids.ensures.0 c.before.before.before.before.before.before.before.before.ends.ensures.0 c.before.before.before.before.before.before.before.before.before.first.ensures.0 c.before.before.before.before.before.before.before.first2.ensures.0 c.before.before.put-messages.ensures
+returns c = messages_put _ c.before.before.before.before.before.before.before.before.before.before.before.before.before.before.before.before.before.requires.0 (c.before.before.before.before.before.before.before.before.before.before.before.before.wide2.ensures ∙ c.before.before.before.before.before.before.before.before.before.before.before.before.before.signal-count.ensures) c.before.before.before.before.before.before.numbers.ensures.0 c.before.before.before.before.starts.ensures.0 c.before.before.before.before.before.first3.ensures.0 c.before.before.before.first4.ensures.0 (c.before.before.before.before.before.before.before.before.before.before.before.before.before.before.wide.ensures ∙ c.before.before.before.before.before.before.before.before.before.before.before.before.before.before.before.message-count.ensures) c.before.before.before.before.before.before.before.before.before.before.ids.ensures.0 c.before.before.before.before.before.before.before.before.ends.ensures.0 c.before.before.before.before.before.before.before.before.before.first.ensures.0 c.before.before.before.before.before.before.before.first2.ensures.0 c.before.before.put-messages.ensures
 
 pub put-message-lines-spec : {M : Type 1} → statement M
 put-message-lines-spec =

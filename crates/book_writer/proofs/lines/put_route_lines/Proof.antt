@@ -1,7 +1,7 @@
 -- `book_writer::lines::put_route_lines` meets its contract: the columns are those of the routes that the words show. Assumes nothing.
 use mathlib.Core.Path.{◌∙◌}
 use native.Mathlib.Omega.{arith}
-use Rattle.book_writer.proofs.Shown.{routes-counted, routes-level, gateways-level, routes-fit, routes-put}
+use Rattle.book_writer.proofs.Shown.{routes_counted, routes_level, gateways_level, routes_fit, routes_put}
 use borrow.Author.Rules.{rules}
 use Rattle.book_writer.proofs.lines.put_route_lines.Statement.{statement}
 use Rattle.book_writer.proofs.lines.put_route_lines.Tie as tie
@@ -25,32 +25,32 @@ froms-requires : tie.Need-froms-requires
 froms-requires c κs = search rules
 
 first-requires : tie.Need-first-requires
-first-requires c κs = omega (arith, routes-counted _ c.before.before.before.before.before.requires.0, c.froms.ensures.1, c.before.before.wide.ensures, c.before.before.before.route-count.ensures)
+first-requires c κs = omega (arith, routes_counted _ c.before.before.before.before.before.requires.0, c.froms.ensures.1, c.before.before.wide.ensures, c.before.before.before.route-count.ensures)
 
 tos-requires : tie.Need-tos-requires
 tos-requires c κs = search rules
 
 first-requires-2 : tie.Need-first-requires-2
-first-requires-2 c κs = omega (arith, routes-counted _ c.before.before.before.before.before.before.before.requires.0, c.tos.ensures.1, c.before.before.before.before.wide.ensures, c.before.before.before.before.before.route-count.ensures)
+first-requires-2 c κs = omega (arith, routes_counted _ c.before.before.before.before.before.before.before.requires.0, c.tos.ensures.1, c.before.before.before.before.wide.ensures, c.before.before.before.before.before.route-count.ensures)
 
 gateways-requires : tie.Need-gateways-requires
 gateways-requires c κs = search rules
 
 first-requires-3 : tie.Need-first-requires-3
-first-requires-3 c κs = omega (arith, routes-counted _ c.before.before.before.before.before.before.before.before.before.requires.0, c.gateways.ensures.1, c.before.before.before.before.before.before.wide.ensures, c.before.before.before.before.before.before.before.route-count.ensures)
+first-requires-3 c κs = omega (arith, routes_counted _ c.before.before.before.before.before.before.before.before.before.requires.0, c.gateways.ensures.1, c.before.before.before.before.before.before.wide.ensures, c.before.before.before.before.before.before.before.route-count.ensures)
 
 put-routes-requires : tie.Need-put-routes-requires
 put-routes-requires c κs = (
-  routes-level _ c.before.before.before.before.before.before.before.before.before.before.requires.0 (c.before.before.before.before.before.before.before.wide.ensures ∙ c.before.before.before.before.before.before.before.before.route-count.ensures) c.before.before.before.before.before.froms.ensures.0 c.before.before.before.tos.ensures.0 c.before.gateways.ensures.0 c.before.before.before.before.first.ensures.0 c.before.before.first2.ensures.0 c.first3.ensures.0,
-  gateways-level _ c.before.before.before.before.before.before.before.before.before.before.requires.0 (c.before.before.before.before.before.before.before.wide.ensures ∙ c.before.before.before.before.before.before.before.before.route-count.ensures) c.before.before.before.before.before.froms.ensures.0 c.before.before.before.tos.ensures.0 c.before.gateways.ensures.0 c.before.before.before.before.first.ensures.0 c.before.before.first2.ensures.0 c.first3.ensures.0,
-  routes-fit _ c.before.before.before.before.before.before.before.before.before.before.requires.0 (c.before.before.before.before.before.before.before.wide.ensures ∙ c.before.before.before.before.before.before.before.before.route-count.ensures) c.before.before.before.before.before.froms.ensures.0 c.before.before.before.tos.ensures.0 c.before.gateways.ensures.0 c.before.before.before.before.first.ensures.0 c.before.before.first2.ensures.0 c.first3.ensures.0 c.before.before.before.before.before.before.before.before.before.before.requires.1,
+  routes_level _ c.before.before.before.before.before.before.before.before.before.before.requires.0 (c.before.before.before.before.before.before.before.wide.ensures ∙ c.before.before.before.before.before.before.before.before.route-count.ensures) c.before.before.before.before.before.froms.ensures.0 c.before.before.before.tos.ensures.0 c.before.gateways.ensures.0 c.before.before.before.before.first.ensures.0 c.before.before.first2.ensures.0 c.first3.ensures.0,
+  gateways_level _ c.before.before.before.before.before.before.before.before.before.before.requires.0 (c.before.before.before.before.before.before.before.wide.ensures ∙ c.before.before.before.before.before.before.before.before.route-count.ensures) c.before.before.before.before.before.froms.ensures.0 c.before.before.before.tos.ensures.0 c.before.gateways.ensures.0 c.before.before.before.before.first.ensures.0 c.before.before.first2.ensures.0 c.first3.ensures.0,
+  routes_fit _ c.before.before.before.before.before.before.before.before.before.before.requires.0 (c.before.before.before.before.before.before.before.wide.ensures ∙ c.before.before.before.before.before.before.before.before.route-count.ensures) c.before.before.before.before.before.froms.ensures.0 c.before.before.before.tos.ensures.0 c.before.gateways.ensures.0 c.before.before.before.before.first.ensures.0 c.before.before.first2.ensures.0 c.first3.ensures.0 c.before.before.before.before.before.before.before.before.before.before.requires.1,
 )
 
 same_length : tie.Need-same-length
 same_length c = search rules
 
 returns : tie.Need-returns
-returns c = routes-put _ c.before.before.before.before.before.before.before.before.before.before.before.before.before.requires.0 (c.before.before.before.before.before.before.before.before.before.before.wide.ensures ∙ c.before.before.before.before.before.before.before.before.before.before.before.route-count.ensures) c.before.before.before.before.before.before.before.before.froms.ensures.0 c.before.before.before.before.before.before.tos.ensures.0 c.before.before.before.before.gateways.ensures.0 c.before.before.before.before.before.before.before.first.ensures.0 c.before.before.before.before.before.first2.ensures.0 c.before.before.before.first3.ensures.0 c.before.before.put-routes.ensures
+returns c = routes_put _ c.before.before.before.before.before.before.before.before.before.before.before.before.before.requires.0 (c.before.before.before.before.before.before.before.before.before.before.wide.ensures ∙ c.before.before.before.before.before.before.before.before.before.before.before.route-count.ensures) c.before.before.before.before.before.before.before.before.froms.ensures.0 c.before.before.before.before.before.before.tos.ensures.0 c.before.before.before.before.gateways.ensures.0 c.before.before.before.before.before.before.before.first.ensures.0 c.before.before.before.before.before.first2.ensures.0 c.before.before.before.first3.ensures.0 c.before.before.put-routes.ensures
 
 pub put-route-lines-spec : {M : Type 1} → statement M
 put-route-lines-spec =

@@ -3,11 +3,11 @@ use Prim.Native.Nat.{◌-◌}
 use mathlib.Core.List.{[], ◌∷◌, map}
 use native.Mathlib.Omega.{arith}
 use lib.ListN.{length}
-use Rattle.books.proofs.Sides.{routesFromOn}
-use Rattle.reading.specs.Written.{routeLine}
-use Rattle.line_writer.proofs.Left.{LinesLeft, all_left, first-fit, lines-put, none_left}
-use Rattle.book_writer.specs.ShownLines.{routeLines}
-use Rattle.book_writer.proofs.Columns.{route-next, routes-done}
+use Rattle.books.proofs.Sides.{routes_from_on}
+use Rattle.reading.specs.Written.{route_line}
+use Rattle.line_writer.proofs.Left.{LinesLeft, all_left, first_fit, lines_put, none_left}
+use Rattle.book_writer.specs.ShownLines.{route_lines}
+use Rattle.book_writer.proofs.Columns.{route_next, routes_done}
 use borrow.Author.Rules.{rules}
 use Rattle.book_writer.proofs.lines.put_routes.Statement.{statement}
 use Rattle.book_writer.proofs.lines.put_routes.Tie as tie
@@ -16,7 +16,7 @@ use Rattle.book_writer.proofs.lines.put_routes.Lts as lts
 use Rattle.line_writer.proofs.put_route.Reads as put-route-reads
 
 abbrev invariant-loop : tie.invariant-loop
-invariant-loop out₀ at froms tos gateways next₀ i₀ out next i = LinesLeft out₀ at (routeLines froms tos gateways) out next (map routeLine (routesFromOn froms tos gateways i))
+invariant-loop out₀ at froms tos gateways next₀ i₀ out next i = LinesLeft out₀ at (route_lines froms tos gateways) out next (map route_line (routes_from_on froms tos gateways i))
 
 abbrev decreases-loop : tie.decreases-loop
 decreases-loop out₀ at froms tos gateways next₀ i₀ out next i = length froms - i
@@ -43,7 +43,7 @@ shared-slice-read-put-route-3 : tie.Need-shared-slice-read-put-route-3 invariant
 shared-slice-read-put-route-3 c = omega (arith, c.before.before.before.before.before.before.before.before.before.before.requires.0, c.before.before.before.before.loop-test.true)
 
 put-route-requires : tie.Need-put-route-requires invariant-loop decreases-loop
-put-route-requires c κs = first-fit (_ ∷ []) _ (route-next (LinesLeft _ _ _ _ _) _ _ _ _ c.before.before.before.before.before.loop.invariant c.before.before.before.before.before.before.before.before.before.before.requires.0 c.before.before.before.before.before.before.before.before.before.before.requires.1 c.before.before.before.before.loop-test.true)
+put-route-requires c κs = first_fit (_ ∷ []) _ (route_next (LinesLeft _ _ _ _ _) _ _ _ _ c.before.before.before.before.before.loop.invariant c.before.before.before.before.before.before.before.before.before.before.requires.0 c.before.before.before.before.before.before.before.before.before.before.requires.1 c.before.before.before.before.loop-test.true)
 
 add-i : tie.Need-overflow-add-i invariant-loop decreases-loop
 add-i c = search rules
@@ -52,13 +52,13 @@ loop-less : tie.Need-loop-smaller invariant-loop decreases-loop
 loop-less c = omega (arith, c.before.before.before.before.before.before.before.loop-test.true)
 
 loop-again : tie.Need-loop-preserved invariant-loop decreases-loop
-loop-again c = lines-put (_ ∷ []) _ (route-next (LinesLeft _ _ _ _ _) _ _ _ _ c.before.before.before.before.before.before.before.before.loop.invariant c.before.before.before.before.before.before.before.before.before.before.before.before.before.requires.0 c.before.before.before.before.before.before.before.before.before.before.before.before.before.requires.1 c.before.before.before.before.before.before.before.loop-test.true) c.before.before.put-route.ensures
+loop-again c = lines_put (_ ∷ []) _ (route_next (LinesLeft _ _ _ _ _) _ _ _ _ c.before.before.before.before.before.before.before.before.loop.invariant c.before.before.before.before.before.before.before.before.before.before.before.before.before.requires.0 c.before.before.before.before.before.before.before.before.before.before.before.before.before.requires.1 c.before.before.before.before.before.before.before.loop-test.true) c.before.before.put-route.ensures
 
 same_length : tie.Need-same-length invariant-loop decreases-loop
 same_length c = c.before.loop.invariant.size
 
 returns : tie.Need-returns invariant-loop decreases-loop
-returns c = none_left (routes-done (LinesLeft _ _ _ _ _) _ _ _ _ c.before.loop.invariant c.loop-test.false)
+returns c = none_left (routes_done (LinesLeft _ _ _ _ _) _ _ _ _ c.before.loop.invariant c.loop-test.false)
 
 pub put-routes-spec : {M : Type 1} → statement M
 put-routes-spec =

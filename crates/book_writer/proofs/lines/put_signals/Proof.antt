@@ -6,10 +6,10 @@ use mathlib.Core.List.{[], ◌∷◌, map}
 use native.Mathlib.Omega.{arith}
 use lib.ListN.{length}
 use Rattle.books.proofs.Sides.{rest}
-use Rattle.reading.specs.Written.{signalLine}
-use Rattle.line_writer.proofs.Left.{LinesLeft, all_left, first-fit, lines-put, none_left}
-use Rattle.book_writer.specs.ShownLines.{signalLines}
-use Rattle.book_writer.proofs.Columns.{signal-next, signals-done}
+use Rattle.reading.specs.Written.{signal_line}
+use Rattle.line_writer.proofs.Left.{LinesLeft, all_left, first_fit, lines_put, none_left}
+use Rattle.book_writer.specs.ShownLines.{signal_lines}
+use Rattle.book_writer.proofs.Columns.{signal_next, signals_done}
 use Rattle.book_writer.proofs.lines.put_signals.Statement.{statement}
 use Rattle.book_writer.proofs.lines.put_signals.Tie as tie
 use Rattle.book_writer.proofs.lines.put_signals.Reads as reads
@@ -17,7 +17,7 @@ use Rattle.book_writer.proofs.lines.put_signals.Lts as lts
 use Rattle.line_writer.proofs.put_signal.Reads as put-signal-reads
 
 abbrev invariant-loop : tie.invariant-loop
-invariant-loop out₀ at numbers starts next₀ left₀ i₀ out next left i = LinesLeft out₀ at (signalLines numbers starts) out next (map signalLine (rest numbers starts i)) × (i + left ≡ length numbers)
+invariant-loop out₀ at numbers starts next₀ left₀ i₀ out next left i = LinesLeft out₀ at (signal_lines numbers starts) out next (map signal_line (rest numbers starts i)) × (i + left ≡ length numbers)
 
 abbrev decreases-loop : tie.decreases-loop
 decreases-loop out₀ at numbers starts next₀ left₀ i₀ out next left i = left
@@ -38,7 +38,7 @@ shared-slice-read-put-signal-2 : tie.Need-shared-slice-read-put-signal-2 invaria
 shared-slice-read-put-signal-2 c = omega (arith, c.before.before.before.before.before.before.before.before.requires.0, c.before.before.before.loop-test.true, c.before.before.before.before.loop.invariant.1)
 
 put-signal-requires : tie.Need-put-signal-requires invariant-loop decreases-loop
-put-signal-requires c κs = first-fit (_ ∷ []) _ (signal-next (LinesLeft _ _ _ _ _) c.before.before.before.before.before.before.before.before.args.numbers.now c.before.before.before.before.before.before.before.before.args.starts.now c.before.before.before.before.loop.i c.before.before.before.before.loop.invariant.0 c.before.before.before.before.before.before.before.before.requires.0 (omega (arith, c.before.before.before.before.loop.invariant.1, c.before.before.before.loop-test.true)))
+put-signal-requires c κs = first_fit (_ ∷ []) _ (signal_next (LinesLeft _ _ _ _ _) c.before.before.before.before.before.before.before.before.args.numbers.now c.before.before.before.before.before.before.before.before.args.starts.now c.before.before.before.before.loop.i c.before.before.before.before.loop.invariant.0 c.before.before.before.before.before.before.before.before.requires.0 (omega (arith, c.before.before.before.before.loop.invariant.1, c.before.before.before.loop-test.true)))
 
 add-i : tie.Need-overflow-add-i invariant-loop decreases-loop
 add-i c = omega (arith, c.before.before.before.before.before.before.loop-test.true, c.before.before.before.before.before.before.before.loop.invariant.1)
@@ -50,13 +50,13 @@ loop-less : tie.Need-loop-smaller invariant-loop decreases-loop
 loop-less c = omega (arith, c.before.before.before.before.before.before.loop-test.true)
 
 loop-again : tie.Need-loop-preserved invariant-loop decreases-loop
-loop-again c = (lines-put (_ ∷ []) _ (signal-next (LinesLeft _ _ _ _ _) c.before.before.before.before.before.before.before.before.before.before.before.args.numbers.now c.before.before.before.before.before.before.before.before.before.before.before.args.starts.now c.before.before.before.before.before.before.before.loop.i c.before.before.before.before.before.before.before.loop.invariant.0 c.before.before.before.before.before.before.before.before.before.before.before.requires.0 (omega (arith, c.before.before.before.before.before.before.before.loop.invariant.1, c.before.before.before.before.before.before.loop-test.true))) c.before.before.put-signal.ensures, omega (arith, c.before.before.before.before.before.before.before.loop.invariant.1, c.before.before.before.before.before.before.loop-test.true))
+loop-again c = (lines_put (_ ∷ []) _ (signal_next (LinesLeft _ _ _ _ _) c.before.before.before.before.before.before.before.before.before.before.before.args.numbers.now c.before.before.before.before.before.before.before.before.before.before.before.args.starts.now c.before.before.before.before.before.before.before.loop.i c.before.before.before.before.before.before.before.loop.invariant.0 c.before.before.before.before.before.before.before.before.before.before.before.requires.0 (omega (arith, c.before.before.before.before.before.before.before.loop.invariant.1, c.before.before.before.before.before.before.loop-test.true))) c.before.before.put-signal.ensures, omega (arith, c.before.before.before.before.before.before.before.loop.invariant.1, c.before.before.before.before.before.before.loop-test.true))
 
 same_length : tie.Need-same-length invariant-loop decreases-loop
 same_length c = c.before.loop.invariant.0.size
 
 returns : tie.Need-returns invariant-loop decreases-loop
-returns c = none_left (signals-done (LinesLeft _ _ _ _ _) c.before.before.before.before.before.args.numbers.now c.before.before.before.before.before.args.starts.now c.before.loop.i c.before.loop.invariant.0 (omega (arith, c.before.loop.invariant.1, c.loop-test.false)))
+returns c = none_left (signals_done (LinesLeft _ _ _ _ _) c.before.before.before.before.before.args.numbers.now c.before.before.before.before.before.args.starts.now c.before.loop.i c.before.loop.invariant.0 (omega (arith, c.before.loop.invariant.1, c.loop-test.false)))
 
 pub put-signals-spec : {M : Type 1} → statement M
 put-signals-spec =

@@ -8,15 +8,15 @@ use borrow.Author.Rules.{rules}
 use Rattle.rows.specs.declared.Row.{Row}
 use Rattle.rows.proofs.Ruled.{kinded→}
 use Rattle.catalogue.specs.declared.Cut.{Cut}
-use Rattle.catalogue.specs.Shapes.{rowShaped}
-use Rattle.catalogue.specs.Cut.{cutFor}
-use Rattle.catalogue.proofs.Arms.{no-shape}
+use Rattle.catalogue.specs.Shapes.{row_shaped}
+use Rattle.catalogue.specs.Cut.{cut_for}
+use Rattle.catalogue.proofs.Arms.{no_shape_law}
 use Rattle.catalogue.proofs.by_shape.cut_shaped.Statement.{statement}
 use Rattle.catalogue.proofs.by_shape.cut_shaped.Tie as tie
 
 -- what is cut in the row of the arm's shape is that in the row of the shape, which is the same
-arm : (k s window : ℕ) (r : Cut) → s ≡ k → r ≡ cutFor (rowShaped k) window → r ≡ cutFor (rowShaped s) window
-arm k s window r e h = subst (λ (m : ℕ). r ≡ cutFor (rowShaped m) window) (sym e) h
+arm : (k s window : ℕ) (r : Cut) → s ≡ k → r ≡ cut_for (row_shaped k) window → r ≡ cut_for (row_shaped s) window
+arm k s window r e h = subst (λ (m : ℕ). r ≡ cut_for (row_shaped m) window) (sym e) h
 
 pub cut-shaped-spec : {M : Type 1} → statement M
 cut-shaped-spec =
@@ -94,4 +94,4 @@ cut-shaped-spec =
     (λ c. search arm)
     (λ c. search arm)
     (λ c. search arm)
-    (λ c. ap (λ (o : Option Row). cutFor o c.before.args.window) (no-shape c.before.args.shape c.match.rest)))
+    (λ c. ap (λ (o : Option Row). cut_for o c.before.args.window) (no_shape_law c.before.args.shape c.match.rest)))

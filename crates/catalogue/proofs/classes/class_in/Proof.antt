@@ -10,14 +10,14 @@ use mir.ValLaws.{to_z-of_z}
 use borrow.Author.Rules.{rules}
 use Rattle.catalogue.specs.declared.Class.TheVariants.{Value}
 use Rattle.catalogue.specs.Class.{between}
-use Rattle.catalogue.proofs.Marks.{has-kind}
+use Rattle.catalogue.proofs.Marks.{has_kind}
 use Rattle.catalogue.proofs.classes.class_in.Statement.{statement}
 use Rattle.catalogue.proofs.classes.class_in.Tie as tie
 
 -- the tests on the way
 module _ (c : tie.Else1) where
   no1 : between c.before.before.args.first1 c.before.before.args.last1 c.before.before.args.raw.0 ≡ false
-  no1 = sym c.before.is-between.ensures ∙ c.if1.false
+  no1 = sym c.before.is_between.ensures ∙ c.if1.false
 
 module _ (c : tie.Else2) where
   no2 : between c.before.before.before.before.args.first2 c.before.before.before.before.args.last2 c.before.before.before.before.args.raw.0 ≡ false
@@ -31,18 +31,18 @@ is-between-requires : tie.Need-is-between-requires
 is-between-requires c κs = search rules
 
 marked-requires : tie.Need-marked-requires
-marked-requires c κs = has-kind _ _ c.before.before.requires.0 (sym c.before.is-between.ensures ∙ c.if1.true)
+marked-requires c κs = has_kind _ _ c.before.before.requires.0 (sym c.before.is_between.ensures ∙ c.if1.true)
 
 returns : tie.Need-returns
 returns c =
     let w = c.before.before in
-    simp (sym c.marked.ensures, sym w.is-between.ensures ∙ c.before.if1.true)
+    simp (sym c.marked.ensures, sym w.is_between.ensures ∙ c.before.if1.true)
 
 is-between-requires-2 : tie.Need-is-between-requires-2
 is-between-requires-2 c κs = search rules
 
 marked-requires-2 : tie.Need-marked-requires-2
-marked-requires-2 c κs = has-kind _ _ c.before.before.before.before.requires.1 (sym c.before.is-between2.ensures ∙ c.if2.true)
+marked-requires-2 c κs = has_kind _ _ c.before.before.before.before.requires.1 (sym c.before.is-between2.ensures ∙ c.if2.true)
 
 returns-2 : tie.Need-returns-2
 returns-2 c =
@@ -54,7 +54,7 @@ is-between-requires-3 : tie.Need-is-between-requires-3
 is-between-requires-3 c κs = search rules
 
 marked-requires-3 : tie.Need-marked-requires-3
-marked-requires-3 c κs = has-kind _ _ c.before.before.before.before.before.before.requires.2 (sym c.before.is-between3.ensures ∙ c.if3.true)
+marked-requires-3 c κs = has_kind _ _ c.before.before.before.before.before.before.requires.2 (sym c.before.is-between3.ensures ∙ c.if3.true)
 
 returns-3 : tie.Need-returns-3
 returns-3 c =

@@ -4,7 +4,7 @@ use mathlib.Core.Path.{◌≡◌}
 use mathlib.Core.Logic.{inl, inr}
 use Prim.Native.Nat.{ℕ}
 use borrow.Author.Tests.{eq-eqb, ne_eqb}
-use Rattle.rows.specs.Rows.{invalidKind, absentKind, errorKind, reservedKind}
+use Rattle.rows.specs.Rows.{invalid_kind, absent_kind, error_kind, reserved_kind}
 use Rattle.rows.specs.Rule.{IsKind}
 use Rattle.catalogue.proofs.classes.marked.Statement.{statement}
 use Rattle.catalogue.proofs.classes.marked.Tie as tie
@@ -19,7 +19,7 @@ returns-3 : tie.Need-returns-3
 returns-3 c = simp (ne_eqb _ _ c.before.before.if1.false, ne_eqb _ _ c.before.if2.false, eq-eqb _ _ c.if3.true)
 
 -- what is left of the kinds is reserved
-last-kind : (k : ℕ) → IsKind k → (k ≡ invalidKind → ⊥) → (k ≡ absentKind → ⊥) → (k ≡ errorKind → ⊥) → k ≡ reservedKind
+last-kind : (k : ℕ) → IsKind k → (k ≡ invalid_kind → ⊥) → (k ≡ absent_kind → ⊥) → (k ≡ error_kind → ⊥) → k ≡ reserved_kind
 last-kind k (inl e) i a r = absurd (i e)
 last-kind k (inr (inl e)) i a r = absurd (a e)
 last-kind k (inr (inr (inl e))) i a r = absurd (r e)

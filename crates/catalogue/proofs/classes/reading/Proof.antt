@@ -10,7 +10,7 @@ use mir.Syntax.{w32, w64}
 use mir.Val.{to_z, of_z, Fits, SFits}
 use mir.ValLaws.{to_z-of_z}
 use borrow.Author.Rules.{rules}
-use Rattle.catalogue.proofs.Readings.{mag-add}
+use Rattle.catalogue.proofs.Readings.{mag_add}
 use Rattle.catalogue.proofs.classes.reading.Statement.{statement}
 use Rattle.catalogue.proofs.classes.reading.Tie as tie
 
@@ -34,7 +34,7 @@ module _ (c : tie.After-struct-known) where
   offset-fits = record { sfits = omega (arith, c.before.ranges.offset.sfits) }
 
   sum_fits : SFits w64 (pos (c.before.args.raw.0 * c.before.args.resolution) +ℤ c.before.args.offset)
-  sum_fits = record { sfits = omega (arith, small, narrow, mag-add (c.before.args.raw.0 * c.before.args.resolution) c.before.args.offset) }
+  sum_fits = record { sfits = omega (arith, small, narrow, mag_add (c.before.args.raw.0 * c.before.args.resolution) c.before.args.offset) }
 
   sum_is : to_z w64 (c.before.args.raw.0 * c.before.args.resolution) +ℤ to_z w64 (of_z w64 (to_z w32 (of_z w32 c.before.args.offset))) ≡ pos (c.before.args.raw.0 * c.before.args.resolution) +ℤ c.before.args.offset
   sum_is =

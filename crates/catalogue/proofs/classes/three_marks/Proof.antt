@@ -10,16 +10,16 @@ use Rattle.rows.specs.declared.Row.{Row}
 use Rattle.rows.specs.Rows.{row, mark}
 use Rattle.catalogue.specs.declared.Class.{Class}
 use Rattle.catalogue.specs.declared.Cut.{Cut}
-use Rattle.catalogue.specs.Class.{classIn}
-use Rattle.catalogue.specs.Cut.{cutFor}
+use Rattle.catalogue.specs.Class.{class_in_spec}
+use Rattle.catalogue.specs.Cut.{cut_for}
 use Rattle.catalogue.proofs.classes.three_marks.Statement.{statement}
 use Rattle.catalogue.proofs.classes.three_marks.Tie as tie
 
 -- the count and its class, put together
-together : (r : Row) (window count : ℕ) (k : Class) → count ≡ window % 2 ^ r.bits → k ≡ classIn r (record { 0 = count })
-    → ◌≡◌ {A = Cut} (record { bits = r.bits; raw = record { 0 = count }; class = k }) (cutFor (some r) window)
+together : (r : Row) (window count : ℕ) (k : Class) → count ≡ window % 2 ^ r.bits → k ≡ class_in_spec r (record { 0 = count })
+    → ◌≡◌ {A = Cut} (record { bits = r.bits; raw = record { 0 = count }; class = k }) (cut_for (some r) window)
 together r window count k e h =
-    let class = h ∙ ap (λ (n : ℕ). classIn r (record { 0 = n })) e in
+    let class = h ∙ ap (λ (n : ℕ). class_in_spec r (record { 0 = n })) e in
     λ i. record { bits = r.bits; raw = record { 0 = e i }; class = class i }
 
 low-bits-requires : tie.Need-low-bits-requires

@@ -1,11 +1,11 @@
 -- `catalogue::shapes::shape_of` meets its contract: each arm has the shape of its number, and what is left for `_` is no
 -- signal's number. Assumes nothing.
-use Rattle.catalogue.proofs.Arms.{by_number, by-none}
+use Rattle.catalogue.proofs.Arms.{by_number, by_none}
 use Rattle.catalogue.proofs.shapes.shape_of.Statement.{statement}
 use Rattle.catalogue.proofs.shapes.shape_of.Tie as tie
 
 none : tie.Need-returns-200
-none c = by-none c.before.args.number c.match.rest
+none c = by_none c.before.args.number c.match.rest
 
 pub shape-of-spec : {M : Type 1} → statement M
 shape-of-spec =

@@ -1,7 +1,7 @@
 -- `catalogue::widths::bits_at` meets its contract: the column has the signal's bits at its place. Assumes nothing.
 use mathlib.Core.Path.{sym}
 use borrow.Author.Rules.{rules}
-use Rattle.catalogue.proofs.Placed.{at_place, nowhere, no_bits, in-widths, its-bits}
+use Rattle.catalogue.proofs.Placed.{at_place, nowhere, no_bits, in_widths, its_bits}
 use Rattle.catalogue.proofs.widths.bits_at.Statement.{statement}
 use Rattle.catalogue.proofs.widths.bits_at.Tie as tie
 
@@ -19,7 +19,7 @@ returns c = sym (no_bits _ (nowhere _ _ c.before.before.place_of.ensures c.enum_
 
 shared-slice-read-wide : tie.Need-shared-slice-read-wide
 shared-slice-read-wide c =
-    in-widths _ _ _ c.before.before.before.before.before.before.before.before.requires.bits
+    in_widths _ _ _ c.before.before.before.before.before.before.before.before.requires.bits
     (at_place _ _ _ c.before.before.before.before.place_of.ensures c.before.before.place.given.1)
 
 wide-requires : tie.Need-wide-requires
@@ -27,7 +27,7 @@ wide-requires c κs = search rules
 
 returns-2 : tie.Need-returns-2
 returns-2 c =
-    its-bits _ _ _ c.before.before.before.before.before.before.before.before.before.requires.bits
+    its_bits _ _ _ c.before.before.before.before.before.before.before.before.before.requires.bits
     (at_place _ _ _ c.before.before.before.before.before.place_of.ensures c.before.before.before.place.given.1)
     _ c.wide.ensures
 

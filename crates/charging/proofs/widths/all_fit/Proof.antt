@@ -2,7 +2,7 @@
 use mathlib.Core.Path.{◌≡◌, refl}
 use mathlib.Core.Bool.{Bool, true, false, ◌&&◌}
 use Rattle.charging.specs.declared.ChargeObservation.{ChargeObservation}
-use Rattle.charging.specs.Refusals.{fitsSignal, countsFit}
+use Rattle.charging.specs.Refusals.{fits_signal, counts_fit}
 use borrow.Author.Rules.{rules}
 use Rattle.charging.proofs.widths.all_fit.Statement.{statement}
 use Rattle.charging.proofs.widths.all_fit.Tie as tie
@@ -23,25 +23,25 @@ in_a_row true true true true true true true true true true false = refl
 in_a_row true true true true true true true true true true true = refl
 
 listed : (seen : ChargeObservation)
-    → (fitsSignal 1708 seen.plug && fitsSignal 1605 seen.self_check)
-    && (fitsSignal 311 seen.main_positive_welded && fitsSignal 313 seen.main_negative_welded && fitsSignal 325 seen.heating_positive_welded && fitsSignal 327 seen.heating_negative_welded)
-    && (fitsSignal 301 seen.main_positive && fitsSignal 302 seen.main_negative)
-    && (fitsSignal 1709 seen.allowed && fitsSignal 304 seen.charge_positive && fitsSignal 306 seen.charge_negative)
-    ≡ countsFit seen
-unfolding countsFit
+    → (fits_signal 1708 seen.plug && fits_signal 1605 seen.self_check)
+    && (fits_signal 311 seen.main_positive_welded && fits_signal 313 seen.main_negative_welded && fits_signal 325 seen.heating_positive_welded && fits_signal 327 seen.heating_negative_welded)
+    && (fits_signal 301 seen.main_positive && fits_signal 302 seen.main_negative)
+    && (fits_signal 1709 seen.allowed && fits_signal 304 seen.charge_positive && fits_signal 306 seen.charge_negative)
+    ≡ counts_fit seen
+unfolding counts_fit
 listed seen =
     in_a_row
-    (fitsSignal 1708 seen.plug)
-    (fitsSignal 1605 seen.self_check)
-    (fitsSignal 311 seen.main_positive_welded)
-    (fitsSignal 313 seen.main_negative_welded)
-    (fitsSignal 325 seen.heating_positive_welded)
-    (fitsSignal 327 seen.heating_negative_welded)
-    (fitsSignal 301 seen.main_positive)
-    (fitsSignal 302 seen.main_negative)
-    (fitsSignal 1709 seen.allowed)
-    (fitsSignal 304 seen.charge_positive)
-    (fitsSignal 306 seen.charge_negative)
+    (fits_signal 1708 seen.plug)
+    (fits_signal 1605 seen.self_check)
+    (fits_signal 311 seen.main_positive_welded)
+    (fits_signal 313 seen.main_negative_welded)
+    (fits_signal 325 seen.heating_positive_welded)
+    (fits_signal 327 seen.heating_negative_welded)
+    (fits_signal 301 seen.main_positive)
+    (fits_signal 302 seen.main_negative)
+    (fits_signal 1709 seen.allowed)
+    (fits_signal 304 seen.charge_positive)
+    (fits_signal 306 seen.charge_negative)
 
 plug-and-self-check-fit-requires : tie.Need-plug-and-self-check-fit-requires
 plug-and-self-check-fit-requires c κs = search rules

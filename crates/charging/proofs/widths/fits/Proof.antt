@@ -10,7 +10,7 @@ use types.Run.{OneOf}
 use denote.Enum.Declared.{tag_of}
 use Rattle.catalogue.specs.declared.Class.{Class}
 use Rattle.catalogue.specs.declared.Class.TheVariants.{Value, Invalid, Absent, Error, Reserved, Outside, NotInCatalogue, TooWide}
-use Rattle.catalogue.specs.Class.{classNumber}
+use Rattle.catalogue.specs.Class.{class_number}
 use Rattle.catalogue.specs.contracts.Class.{the_type}
 use borrow.Author.Rules.{rules}
 use Rattle.charging.proofs.widths.fits.Statement.{statement}
@@ -26,7 +26,7 @@ below (inr (inr (inr (inr (inl e))))) f = omega (arith, e, f)
 below (inr (inr (inr (inr (inr (inl e)))))) f = omega (arith, e, f)
 below (inr (inr (inr (inr (inr (inr e)))))) f = omega (arith, e, f)
 
-another : (k : Class) → (tag_of the_type k ≡ 7 → ⊥) → true ≡ not (eqb (classNumber k) 26)
+another : (k : Class) → (tag_of the_type k ≡ 7 → ⊥) → true ≡ not (eqb (class_number k) 26)
 another (Value t) h = refl
 another (Invalid raw) h = refl
 another (Absent raw) h = refl
@@ -46,7 +46,7 @@ returns : tie.Need-returns
 returns c = simp (← c.before.before.class_of.ensures, c.enum_told.given.1)
 
 returns-2 : tie.Need-returns-2
-returns-2 c = another c.before.class_of.result (below c.match.keys2) ∙ ap (λ (k : Class). not (eqb (classNumber k) 26)) c.before.class_of.ensures
+returns-2 c = another c.before.class_of.result (below c.match.keys2) ∙ ap (λ (k : Class). not (eqb (class_number k) 26)) c.before.class_of.ensures
 
 pub fits-spec : {M : Type 1} → statement M
 fits-spec = tie.close (tie.spec class-of-requires enum_told returns returns-2)

@@ -6,7 +6,7 @@ use native.Mathlib.Omega.{arith}
 use lib.ListN.{length, drop}
 use borrow.Author.Rules.{rules}
 use Rattle.frames.specs.Lookup.{first_at}
-use Rattle.frames.proofs.Lookups.{first-here, first-later, first-none, first-counts}
+use Rattle.frames.proofs.Lookups.{first_here, first_later, first_none, first_counts}
 use Rattle.frames.proofs.lookup.find.Statement.{statement}
 use Rattle.frames.proofs.lookup.find.Tie as tie
 
@@ -26,7 +26,7 @@ shared-slice-read-if1 : tie.Need-shared-slice-read-if1 invariant-loop decreases-
 shared-slice-read-if1 c = search rules
 
 returns : tie.Need-returns invariant-loop decreases-loop
-returns c = omega (arith, first-here c.before.before.before.before.args.identifier c.before.before.before.before.args.ids.now c.before.before.before.loop.i c.before.before.loop-test.true c.if1.true)
+returns c = omega (arith, first_here c.before.before.before.before.args.identifier c.before.before.before.before.args.ids.now c.before.before.before.loop.i c.before.before.loop-test.true c.if1.true)
 
 add-i : tie.Need-overflow-add-i invariant-loop decreases-loop
 add-i c = search rules
@@ -35,10 +35,10 @@ loop-less : tie.Need-loop-smaller invariant-loop decreases-loop
 loop-less c = omega arith
 
 loop-again : tie.Need-loop-preserved invariant-loop decreases-loop
-loop-again c = (omega arith, first-counts c.before.before.before.before.args.identifier c.before.before.before.before.args.ids.now c.before.before.before.loop.i c.before.before.before.loop.invariant.1 (first-later c.before.before.before.before.args.identifier c.before.before.before.before.args.ids.now c.before.before.before.loop.i c.before.before.loop-test.true c.if1.false))
+loop-again c = (omega arith, first_counts c.before.before.before.before.args.identifier c.before.before.before.before.args.ids.now c.before.before.before.loop.i c.before.before.before.loop.invariant.1 (first_later c.before.before.before.before.args.identifier c.before.before.before.before.args.ids.now c.before.before.before.loop.i c.before.before.loop-test.true c.if1.false))
 
 returns-2 : tie.Need-returns-2 invariant-loop decreases-loop
-returns-2 c = omega (arith, first-none c.before.before.args.identifier c.before.before.args.ids.now c.before.loop.i c.loop-test.false)
+returns-2 c = omega (arith, first_none c.before.before.args.identifier c.before.before.args.ids.now c.before.loop.i c.loop-test.false)
 
 pub find_spec : {M : Type 1} → statement M
 find_spec =

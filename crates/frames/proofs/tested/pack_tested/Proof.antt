@@ -2,11 +2,11 @@
 -- Assumes nothing.
 use mathlib.Core.Path.{sym, subst, ◌∙◌}
 use native.Mathlib.Omega.{arith}
-use Rattle.books.specs.Words.{messagesOf}
-use Rattle.books.proofs.Columns.{taken-stands}
+use Rattle.books.specs.Words.{messages_of}
+use Rattle.books.proofs.Columns.{taken_stands}
 use Rattle.frames.specs.Lookup.{Finds, Spans}
 use Rattle.frames.specs.declared.lookup.MessageFound.{MessageFound}
-use Rattle.frames.proofs.Entries.{found, packable, many, pack-unknown, pack-count, pack-short, pack-known}
+use Rattle.frames.proofs.Entries.{found, packable, many, pack_unknown, pack_count, pack_short, pack_known}
 use borrow.Author.Rules.{rules}
 use Rattle.frames.proofs.tested.pack_tested.Statement.{statement}
 use Rattle.frames.proofs.tested.pack_tested.Tie as tie
@@ -30,12 +30,12 @@ sub-if1 c = (spans c.before).order
 returns : tie.Need-returns
 returns c = let a = c.before.before.before.before.before.before.before.args in
     let s = spans c.before.before in
-    pack-count (messagesOf a.book.now) a.identifier a.values.now a.frame.now _ s.found (λ e. c.if1.true (e ∙ s.many))
+    pack_count (messages_of a.book.now) a.identifier a.values.now a.frame.now _ s.found (λ e. c.if1.true (e ∙ s.many))
 
 returns-2 : tie.Need-returns-2
 returns-2 c = let a = c.before.before.before.before.before.before.before.before.args in
     let s = spans c.before.before.before in
-    pack-short (messagesOf a.book.now) a.identifier a.values.now a.frame.now _ s.found (c.before.if1.false ∙ sym s.many) c.if2.true
+    pack_short (messages_of a.book.now) a.identifier a.values.now a.frame.now _ s.found (c.before.if1.false ∙ sym s.many) c.if2.true
 
 numbers-requires : tie.Need-numbers-requires
 numbers-requires c κs = search rules
@@ -72,7 +72,7 @@ pack-message-requires c κs = (packable _ _ _ _ (spans c.before.before.before.be
 
 returns-3 : tie.Need-returns-3
 returns-3 c = let a = c.before.before.before.before.before.args in
-    pack-unknown (messagesOf a.book.now) a.identifier a.values.now a.frame.now (subst (λ (r : MessageFound). Finds a.book.now a.identifier r) c.enum_told.given.1 c.before.before.find-message.ensures)
+    pack_unknown (messages_of a.book.now) a.identifier a.values.now a.frame.now (subst (λ (r : MessageFound). Finds a.book.now a.identifier r) c.enum_told.given.1 c.before.before.find-message.ensures)
 
 same_length : tie.Need-same-length
 same_length c = search rules
@@ -80,9 +80,9 @@ same_length c = search rules
 returns-4 : tie.Need-returns-4
 returns-4 c = let a = c.before.before.before.before.before.before.before.before.before.before.before.before.before.before.before.before.args in
     let s = spans c.before.before.before.before.before.before.before.before.before.before.before in
-    pack-known (messagesOf a.book.now) a.identifier a.values.now a.frame.now _
+    pack_known (messages_of a.book.now) a.identifier a.values.now a.frame.now _
     (found _ _ _ _ s _ _ c.before.before.before.before.before.before.before.numbers.ensures.0 c.before.before.before.before.before.before.starts.ensures.0)
-    (taken-stands a.book.now c.before.before.before.before.before.before.before.before.before.before.before.before.before.before.before.before.requires).1
+    (taken_stands a.book.now c.before.before.before.before.before.before.before.before.before.before.before.before.before.before.before.before.requires).1
     (c.before.before.before.before.before.before.before.before.before.if1.false ∙ sym (many _ _ _ _ s _ _ c.before.before.before.before.before.before.before.numbers.ensures.0 c.before.before.before.before.before.before.starts.ensures.0)) c.before.before.before.before.before.before.before.before.if2.false _ c.before.before.pack-message.ensures
 
 pub pack-tested-spec : {M : Type 1} → statement M

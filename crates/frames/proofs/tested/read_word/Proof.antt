@@ -3,10 +3,10 @@
 use mathlib.Core.Path.{subst}
 use native.Mathlib.Omega.{arith}
 use Rattle.bits.specs.Word.{bytes_of}
-use Rattle.books.specs.Words.{messagesOf}
+use Rattle.books.specs.Words.{messages_of}
 use Rattle.frames.specs.Lookup.{Finds, Spans}
 use Rattle.frames.specs.declared.lookup.MessageFound.{MessageFound}
-use Rattle.frames.proofs.Entries.{found, readable, read-unknown, read_known}
+use Rattle.frames.proofs.Entries.{found, readable, read_unknown, read_known}
 use borrow.Author.Rules.{rules}
 use Rattle.frames.proofs.tested.read_word.Statement.{statement}
 use Rattle.frames.proofs.tested.read_word.Tie as tie
@@ -59,7 +59,7 @@ read-message-requires c κs = readable _ _ _ _ (spans c.before.before.before.bef
 
 returns : tie.Need-returns
 returns c = let a = c.before.before.before.before.before.args in
-    read-unknown (messagesOf a.book.now) a.identifier (bytes_of a.word) (record { raws = a.raws.now; classes = a.classes.now; thousandths = a.thousandths.now })
+    read_unknown (messages_of a.book.now) a.identifier (bytes_of a.word) (record { raws = a.raws.now; classes = a.classes.now; thousandths = a.thousandths.now })
     (subst (λ (r : MessageFound). Finds a.book.now a.identifier r) c.enum_told.given.1 c.before.before.find-message.ensures)
 
 same_length : tie.Need-same-length
@@ -73,7 +73,7 @@ same-length-3 c = search rules
 
 returns-2 : tie.Need-returns-2
 returns-2 c = let a = c.before.before.before.before.before.before.before.before.before.before.before.before.before.before.before.before.before.before.before.args in
-    read_known (messagesOf a.book.now) a.identifier (bytes_of a.word) (record { raws = a.raws.now; classes = a.classes.now; thousandths = a.thousandths.now }) _
+    read_known (messages_of a.book.now) a.identifier (bytes_of a.word) (record { raws = a.raws.now; classes = a.classes.now; thousandths = a.thousandths.now }) _
     (found _ _ _ _ (spans c.before.before.before.before.before.before.before.before.before.before.before.before.before.before) _ _ c.before.before.before.before.before.before.before.before.before.before.before.before.numbers.ensures.0 c.before.before.before.before.before.before.before.before.before.before.before.starts.ensures.0) _ c.before.before.before.before.before.read-message.ensures
 
 pub read-word-spec : {M : Type 1} → statement M

@@ -1,7 +1,7 @@
 -- `lister::input::keep` meets its contract: what is moved is what stood there. Assumes nothing.
 use Prim.Native.Nat.{◌-◌, ◌≤◌}
 use native.Mathlib.Omega.{arith}
-use Rattle.lister.proofs.Moving.{Moved, none-moved, byte-moved, all_moved}
+use Rattle.lister.proofs.Moving.{Moved, none_moved, byte_moved, all_moved}
 use Rattle.lister.proofs.input.keep.Statement.{statement}
 use Rattle.lister.proofs.input.keep.Tie as tie
 use Rattle.lister.proofs.input.keep.Reads as reads
@@ -14,7 +14,7 @@ abbrev decreases-loop : tie.decreases-loop
 decreases-loop input₀ from size i₀ input i = size - from - i
 
 loop-holds : tie.Need-loop-init invariant-loop decreases-loop
-loop-holds c = (none-moved _ _, omega arith)
+loop-holds c = (none_moved _ _, omega arith)
 
 sub-loop : tie.Need-overflow-sub-loop invariant-loop decreases-loop
 sub-loop c = omega (arith, c.before.requires.0)
@@ -35,7 +35,7 @@ loop-less : tie.Need-loop-smaller invariant-loop decreases-loop
 loop-less c = omega (arith, c.before.loop-test.true)
 
 loop-again : tie.Need-loop-preserved invariant-loop decreases-loop
-loop-again c = (byte-moved c.before.before.loop.invariant.0 (omega (arith, c.before.before.before.requires.0, c.before.before.before.requires.1, c.before.loop-test.true)), omega (arith, c.before.loop-test.true))
+loop-again c = (byte_moved c.before.before.loop.invariant.0 (omega (arith, c.before.before.before.requires.0, c.before.before.before.requires.1, c.before.loop-test.true)), omega (arith, c.before.loop-test.true))
 
 same_length : tie.Need-same-length invariant-loop decreases-loop
 same_length c = c.before.loop.invariant.0.size

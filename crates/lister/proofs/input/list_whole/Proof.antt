@@ -4,8 +4,8 @@ use Prim.Native.Nat.{◌-◌, ◌≤◌}
 use native.Mathlib.Omega.{arith}
 use borrow.Author.Rules.{rules}
 use lib.ListN.{length, length-drop}
-use Rattle.listing.proofs.Sizes.{list-long, list-used}
-use Rattle.lister.proofs.Whole.{none-used, no-book, all-used}
+use Rattle.listing.proofs.Sizes.{list_long, list_used}
+use Rattle.lister.proofs.Whole.{none_used, no_book_law, all_used}
 use Rattle.lister.proofs.input.list_whole.Statement.{statement}
 use Rattle.lister.proofs.input.list_whole.Tie as tie
 use Rattle.lister.proofs.input.list_whole.Reads as reads
@@ -36,34 +36,34 @@ write-first-requires : tie.Need-write-first-requires invariant-loop decreases-lo
 write-first-requires c κs = search rules
 
 same_length : tie.Need-same-length invariant-loop decreases-loop
-same_length c = list-long _ _ _ _ c.before.before.before.before.before.before.before.before.list.ensures ∙ c.before.before.before.before.before.before.before.before.before.before.before.before.loop.invariant.1
+same_length c = list_long _ _ _ _ c.before.before.before.before.before.before.before.before.list.ensures ∙ c.before.before.before.before.before.before.before.before.before.before.before.before.loop.invariant.1
 
 returns : tie.Need-returns invariant-loop decreases-loop
-returns c = none-used _ _ c.before.before.before.before.before.before.before.before.before.before.before.before.loop.invariant.0 c.before.before.before.before.before.before.before.before.before.before.before.before.loop.invariant.1 c.before.before.before.before.before.before.before.before.before.before.part-from.ensures c.before.before.before.before.before.before.before.before.list.ensures _ _ c.before.before.before.before.more.given.1 c.if1.true
+returns c = none_used _ _ c.before.before.before.before.before.before.before.before.before.before.before.before.loop.invariant.0 c.before.before.before.before.before.before.before.before.before.before.before.before.loop.invariant.1 c.before.before.before.before.before.before.before.before.before.before.part-from.ensures c.before.before.before.before.before.before.before.before.list.ensures _ _ c.before.before.before.before.more.given.1 c.if1.true
 
 add-used : tie.Need-overflow-add-used invariant-loop decreases-loop
-add-used c = omega (arith, list-used _ _ _ _ c.before.before.before.before.before.before.before.before.list.ensures _ _ c.before.before.before.before.more.given.1, ap length c.before.before.before.before.before.before.before.before.before.before.part-from.ensures, length-drop c.before.before.before.before.before.before.before.before.before.before.before.before.loop.used c.before.before.before.before.before.before.before.before.before.before.before.before.before.before.before.args.text.now, c.before.before.before.before.before.before.before.before.before.before.before.loop-test.true)
+add-used c = omega (arith, list_used _ _ _ _ c.before.before.before.before.before.before.before.before.list.ensures _ _ c.before.before.before.before.more.given.1, ap length c.before.before.before.before.before.before.before.before.before.before.part-from.ensures, length-drop c.before.before.before.before.before.before.before.before.before.before.before.before.loop.used c.before.before.before.before.before.before.before.before.before.before.before.before.before.before.before.args.text.now, c.before.before.before.before.before.before.before.before.before.before.before.loop-test.true)
 
 loop-less : tie.Need-loop-smaller invariant-loop decreases-loop
 loop-less c = omega (arith, c.before.before.before.before.before.before.before.before.before.before.before.loop-test.true, c.if1.false)
 
 loop-again : tie.Need-loop-preserved invariant-loop decreases-loop
-loop-again c = (omega (arith, list-used _ _ _ _ c.before.before.before.before.before.before.before.before.list.ensures _ _ c.before.before.before.before.more.given.1, ap length c.before.before.before.before.before.before.before.before.before.before.part-from.ensures, length-drop c.before.before.before.before.before.before.before.before.before.before.before.before.loop.used c.before.before.before.before.before.before.before.before.before.before.before.before.before.before.before.args.text.now, c.before.before.before.before.before.before.before.before.before.before.before.loop-test.true), list-long _ _ _ _ c.before.before.before.before.before.before.before.before.list.ensures ∙ c.before.before.before.before.before.before.before.before.before.before.before.before.loop.invariant.1)
+loop-again c = (omega (arith, list_used _ _ _ _ c.before.before.before.before.before.before.before.before.list.ensures _ _ c.before.before.before.before.more.given.1, ap length c.before.before.before.before.before.before.before.before.before.before.part-from.ensures, length-drop c.before.before.before.before.before.before.before.before.before.before.before.before.loop.used c.before.before.before.before.before.before.before.before.before.before.before.before.before.before.before.args.text.now, c.before.before.before.before.before.before.before.before.before.before.before.loop-test.true), list_long _ _ _ _ c.before.before.before.before.before.before.before.before.list.ensures ∙ c.before.before.before.before.before.before.before.before.before.before.before.before.loop.invariant.1)
 
 enum_told : tie.Need-enum-told invariant-loop decreases-loop
 enum_told c = search rules
 
 same-length-2 : tie.Need-same-length-2 invariant-loop decreases-loop
-same-length-2 c = list-long _ _ _ _ c.before.before.before.before.list.ensures ∙ c.before.before.before.before.before.before.before.before.loop.invariant.1
+same-length-2 c = list_long _ _ _ _ c.before.before.before.before.list.ensures ∙ c.before.before.before.before.before.before.before.before.loop.invariant.1
 
 returns-2 : tie.Need-returns-2 invariant-loop decreases-loop
-returns-2 c = no-book _ _ c.before.before.before.before.before.before.before.before.loop.invariant.0 c.before.before.before.before.before.before.before.before.loop.invariant.1 _ c.before.before.before.before.list.ensures c.enum_told.given.1
+returns-2 c = no_book_law _ _ c.before.before.before.before.before.before.before.before.loop.invariant.0 c.before.before.before.before.before.before.before.before.loop.invariant.1 _ c.before.before.before.before.list.ensures c.enum_told.given.1
 
 same-length-3 : tie.Need-same-length-3 invariant-loop decreases-loop
 same-length-3 c = c.before.loop.invariant.1
 
 returns-3 : tie.Need-returns-3 invariant-loop decreases-loop
-returns-3 c = all-used c.before.loop.invariant.0 c.loop-test.false
+returns-3 c = all_used c.before.loop.invariant.0 c.loop-test.false
 
 pub list-whole-spec : {M : Type 1} → statement M
 list-whole-spec =

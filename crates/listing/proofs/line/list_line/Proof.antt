@@ -1,8 +1,8 @@
 -- `listing::line::list_line` meets its contract: what the line says is printed. Assumes nothing.
 use mathlib.Core.Path.{sym, ◌∙◌}
-use Rattle.frame_lines.proofs.Behind.{says-frame, says-fewer, says-ill}
-use Rattle.listing.proofs.Prints.{line_frame, line-fewer, line-ill}
-use Rattle.listing.proofs.Fits.{fitted-as}
+use Rattle.frame_lines.proofs.Behind.{says_frame, says_fewer, says_ill}
+use Rattle.listing.proofs.Prints.{line_frame, line_fewer, line_ill}
+use Rattle.listing.proofs.Fits.{fitted_as}
 use borrow.Author.Rules.{rules}
 use Rattle.listing.proofs.line.list_line.Statement.{statement}
 use Rattle.listing.proofs.line.list_line.Tie as tie
@@ -38,19 +38,19 @@ same_length : tie.Need-same-length
 same_length c = search rules
 
 returns : tie.Need-returns
-returns c = fitted-as _ _ (line_frame _ _ _ (says-frame _ (sym c.before.before.before.before.before.identifier.given.1 ∙ c.before.before.before.before.before.before.before.read-frame-line.ensures))) c.before.before.list-frame.ensures
+returns c = fitted_as _ _ (line_frame _ _ _ (says_frame _ (sym c.before.before.before.before.before.identifier.given.1 ∙ c.before.before.before.before.before.before.before.read-frame-line.ensures))) c.before.before.list-frame.ensures
 
 same-length-2 : tie.Need-same-length-2
 same-length-2 c = search rules
 
 returns-2 : tie.Need-returns-2
-returns-2 c = fitted-as _ _ (line-fewer _ _ _ (says-fewer _ (sym c.before.before.before.before.before.identifier2.given.1 ∙ c.before.before.before.before.before.before.before.read-frame-line.ensures))) c.before.before.list-refused.ensures
+returns-2 c = fitted_as _ _ (line_fewer _ _ _ (says_fewer _ (sym c.before.before.before.before.before.identifier2.given.1 ∙ c.before.before.before.before.before.before.before.read-frame-line.ensures))) c.before.before.list-refused.ensures
 
 same-length-3 : tie.Need-same-length-3
 same-length-3 c = search rules
 
 returns-3 : tie.Need-returns-3
-returns-3 c = fitted-as _ _ (line-ill _ _ _ (says-ill _ (sym c.before.before.before.before.enum_told.given.1 ∙ c.before.before.before.before.before.before.read-frame-line.ensures))) c.before.before.list-ill-formed.ensures
+returns-3 c = fitted_as _ _ (line_ill _ _ _ (says_ill _ (sym c.before.before.before.before.enum_told.given.1 ∙ c.before.before.before.before.before.before.read-frame-line.ensures))) c.before.before.list-ill-formed.ensures
 
 pub list-line-spec : {M : Type 1} → statement M
 list-line-spec =

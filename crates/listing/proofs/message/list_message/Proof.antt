@@ -1,6 +1,6 @@
 -- `listing::message::list_message` meets its contract: the checksum decides. Assumes nothing.
-use Rattle.listing.proofs.Prints.{message-signals, message-refused}
-use Rattle.listing.proofs.Fits.{fitted-as}
+use Rattle.listing.proofs.Prints.{message_signals, message_refused}
+use Rattle.listing.proofs.Fits.{fitted_as}
 use borrow.Author.Rules.{rules}
 use Rattle.listing.proofs.message.list_message.Statement.{statement}
 use Rattle.listing.proofs.message.list_message.Tie as tie
@@ -20,7 +20,7 @@ same_length : tie.Need-same-length
 same_length c = search rules
 
 returns : tie.Need-returns
-returns c = fitted-as _ _ (message-signals _ _ _ _ _ c.before.before.before.before.before.checked.ensures c.before.before.before.before.if1.true) c.before.before.list-signals.ensures
+returns c = fitted_as _ _ (message_signals _ _ _ _ _ c.before.before.before.before.before.checked.ensures c.before.before.before.before.if1.true) c.before.before.list-signals.ensures
 
 list-refused-requires : tie.Need-list-refused-requires
 list-refused-requires c κs = search rules
@@ -29,7 +29,7 @@ same-length-2 : tie.Need-same-length-2
 same-length-2 c = search rules
 
 returns-2 : tie.Need-returns-2
-returns-2 c = fitted-as _ _ (message-refused _ _ _ _ _ c.before.before.before.before.before.checked.ensures c.before.before.before.before.if1.false) c.before.before.list-refused.ensures
+returns-2 c = fitted_as _ _ (message_refused _ _ _ _ _ c.before.before.before.before.before.checked.ensures c.before.before.before.before.if1.false) c.before.before.list-refused.ensures
 
 pub list-message-spec : {M : Type 1} → statement M
 list-message-spec =

@@ -2,7 +2,7 @@
 use Prim.Native.Nat.{ℕ}
 use native.Mathlib.Omega.{arith}
 use lib.ListN.{length-replicate}
-use Rattle.listing.proofs.Fits.{fits, fitted-as, aside-is, aside-long}
+use Rattle.listing.proofs.Fits.{fits, fitted_as, aside_is, aside_long}
 use borrow.Author.Rules.{rules}
 use Rattle.listing.proofs.message.list_signals.Statement.{statement}
 use Rattle.listing.proofs.message.list_signals.Tie as tie
@@ -36,7 +36,7 @@ array-share-prefix-aside : tie.Need-array-share-prefix-aside
 array-share-prefix-aside c = search rules
 
 slice-aggregate-fit : tie.Need-slice-aggregate-fit
-slice-aggregate-fit c = aside-long c.before.before.before.put-signals2.ensures (omega (arith, length-replicate {A = ℕ} 4096 0, c.before.before.before.before.before.before.before.before.before.requires.many))
+slice-aggregate-fit c = aside_long c.before.before.before.put-signals2.ensures (omega (arith, length-replicate {A = ℕ} 4096 0, c.before.before.before.before.before.before.before.before.before.requires.many))
 
 fit-requires : tie.Need-fit-requires
 fit-requires c κs = search rules
@@ -45,7 +45,7 @@ same-length-2 : tie.Need-same-length-2
 same-length-2 c = search rules
 
 returns-2 : tie.Need-returns-2
-returns-2 c = fitted-as _ _ (aside-is c.before.before.before.before.before.before.put-signals2.ensures (omega (arith, length-replicate {A = ℕ} 4096 0, c.before.before.before.before.before.before.before.before.before.before.before.before.requires.many))) c.before.before.fit.ensures
+returns-2 c = fitted_as _ _ (aside_is c.before.before.before.before.before.before.put-signals2.ensures (omega (arith, length-replicate {A = ℕ} 4096 0, c.before.before.before.before.before.before.before.before.before.before.before.before.requires.many))) c.before.before.fit.ensures
 
 pub list-signals-spec : {M : Type 1} → statement M
 list-signals-spec =

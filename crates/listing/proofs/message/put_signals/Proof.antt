@@ -6,9 +6,9 @@ use borrow.Author.Rules.{rules}
 use lib.ListN.{length}
 use Rattle.catalogue.specs.declared.Cut.{Cut}
 use Rattle.doubles.specs.Doubles.{SmallIfValue}
-use Rattle.doubles.proofs.Values.{small-class}
-use Rattle.messages.proofs.Cuts.{class-there}
-use Rattle.listing.proofs.Walking.{Walked, none-walked, signal-walked, all-walked, room-left, fits_next}
+use Rattle.doubles.proofs.Values.{small_class}
+use Rattle.messages.proofs.Cuts.{class_there}
+use Rattle.listing.proofs.Walking.{Walked, none_walked, signal_walked, all_walked, room_left, fits_next}
 use Rattle.listing.proofs.message.put_signals.Statement.{statement}
 use Rattle.listing.proofs.message.put_signals.Tie as tie
 
@@ -19,7 +19,7 @@ abbrev decreases-loop : tie.decreases-loop
 decreases-loop out₀ at identifier word numbers starts figures next₀ i₀ out next i = length numbers - i
 
 loop-holds : tie.Need-loop-init invariant-loop decreases-loop
-loop-holds c = none-walked _ _ _ _ _ _ _ c.before.before.before.requires
+loop-holds c = none_walked _ _ _ _ _ _ _ c.before.before.before.requires
 
 mul-number : tie.Need-overflow-mul-number invariant-loop decreases-loop
 mul-number c = omega arith
@@ -46,8 +46,8 @@ put-reading-requires c κs =
     let w = c.before.before.before.before.before.before.loop.invariant in
     let r = c.before.before.before.before.before.before.before.before.before.before.requires in
     let h = c.before.before.before.before.before.loop-test.true in
-    let class = ap (λ (k : Cut). k.class) c.before.cut_of.ensures ∙ class-there _ _ (fits_next w r h) _ c.before.before.window.ensures in
-    (room-left w r h, subst⁻¹ SmallIfValue class (small-class _ _))
+    let class = ap (λ (k : Cut). k.class) c.before.cut_of.ensures ∙ class_there _ _ (fits_next w r h) _ c.before.before.window.ensures in
+    (room_left w r h, subst⁻¹ SmallIfValue class (small_class _ _))
 
 add-i : tie.Need-overflow-add-i invariant-loop decreases-loop
 add-i c = omega arith
@@ -60,14 +60,14 @@ loop-again c =
     let w = c.before.before.before.before.before.before.before.before.before.loop.invariant in
     let r = c.before.before.before.before.before.before.before.before.before.before.before.before.before.requires in
     let h = c.before.before.before.before.before.before.before.before.loop-test.true in
-    let class = ap (λ (k : Cut). k.class) c.before.before.before.before.cut_of.ensures ∙ class-there _ _ (fits_next w r h) _ c.before.before.before.before.before.window.ensures in
-    signal-walked w r h class c.before.before.put-reading.ensures
+    let class = ap (λ (k : Cut). k.class) c.before.before.before.before.cut_of.ensures ∙ class_there _ _ (fits_next w r h) _ c.before.before.before.before.before.window.ensures in
+    signal_walked w r h class c.before.before.put-reading.ensures
 
 same_length : tie.Need-same-length invariant-loop decreases-loop
 same_length c = c.before.loop.invariant.size
 
 returns : tie.Need-returns invariant-loop decreases-loop
-returns c = all-walked c.before.loop.invariant c.loop-test.false
+returns c = all_walked c.before.loop.invariant c.loop-test.false
 
 pub put-signals-spec : {M : Type 1} → statement M
 put-signals-spec =

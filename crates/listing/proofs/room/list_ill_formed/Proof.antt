@@ -1,6 +1,6 @@
 -- `listing::room::list_ill_formed` meets its contract: the constant is the line. Assumes nothing.
 use Rattle.signal_lines.proofs.IllFormed.{spelt}
-use Rattle.listing.proofs.Fits.{fitted-as}
+use Rattle.listing.proofs.Fits.{fitted_as}
 use borrow.Author.Rules.{rules}
 use Rattle.listing.proofs.room.list_ill_formed.Statement.{statement}
 use Rattle.listing.proofs.room.list_ill_formed.Tie as tie
@@ -18,7 +18,7 @@ same_length : tie.Need-same-length
 same_length c = search rules
 
 returns : tie.Need-returns
-returns c = fitted-as _ _ spelt c.before.before.fit.ensures
+returns c = fitted_as _ _ spelt c.before.before.fit.ensures
 
 pub list-ill-formed-spec : {M : Type 1} → statement M
 list-ill-formed-spec = tie.close (tie.spec slice-aggregate-fit fit-requires same_length returns)

@@ -2,7 +2,7 @@
 use Prim.Native.Nat.{ℕ}
 use native.Mathlib.Omega.{arith}
 use lib.ListN.{length-replicate}
-use Rattle.listing.proofs.Fits.{fitted-as, aside-is, aside-long}
+use Rattle.listing.proofs.Fits.{fitted_as, aside_is, aside_long}
 use borrow.Author.Rules.{rules}
 use Rattle.listing.proofs.room.list_refused.Statement.{statement}
 use Rattle.listing.proofs.room.list_refused.Tie as tie
@@ -21,7 +21,7 @@ array-share-prefix-line : tie.Need-array-share-prefix-line
 array-share-prefix-line c = search rules
 
 slice-aggregate-fit : tie.Need-slice-aggregate-fit
-slice-aggregate-fit c = aside-long c.before.before.before.Put-refused.ensures (omega (arith, length-replicate {A = ℕ} 64 0))
+slice-aggregate-fit c = aside_long c.before.before.before.Put-refused.ensures (omega (arith, length-replicate {A = ℕ} 64 0))
 
 fit-requires : tie.Need-fit-requires
 fit-requires c κs = search rules
@@ -30,7 +30,7 @@ same_length : tie.Need-same-length
 same_length c = search rules
 
 returns : tie.Need-returns
-returns c = fitted-as _ _ (aside-is c.before.before.before.before.before.before.Put-refused.ensures (omega (arith, length-replicate {A = ℕ} 64 0))) c.before.before.fit.ensures
+returns c = fitted_as _ _ (aside_is c.before.before.before.before.before.before.Put-refused.ensures (omega (arith, length-replicate {A = ℕ} 64 0))) c.before.before.fit.ensures
 
 pub list-refused-spec : {M : Type 1} → statement M
 list-refused-spec =

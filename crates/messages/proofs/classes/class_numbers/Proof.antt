@@ -2,9 +2,9 @@
 use mathlib.Core.Path.{sym, ap, ◌∙◌}
 use mir.Syntax.{w64}
 use mir.ValLaws.{to_z-of_z}
-use Rattle.catalogue.proofs.Classing.{class-cut, cut-too-wide}
-use Rattle.framing.specs.Reading.{classCode, thousandthsOf}
-use Rattle.messages.proofs.Cuts.{its-reading, its-count, its-code}
+use Rattle.catalogue.proofs.Classing.{class_cut, cut_too_wide}
+use Rattle.framing.specs.Reading.{class_code, thousandths_of_spec}
+use Rattle.messages.proofs.Cuts.{its_reading, its_count, its_code}
 use borrow.Author.Rules.{rules}
 use Rattle.messages.proofs.classes.class_numbers.Statement.{statement}
 use Rattle.messages.proofs.classes.class_numbers.Tie as tie
@@ -22,16 +22,16 @@ code-of-requires c κs = search rules
 returns : tie.Need-returns
 returns c =
     let whole = c.before.before.before.cut-numbers.ensures in
-    let class = cut-too-wide _ _ (λ e. c.before.if1.true (its-count whole ∙ e)) in
-    let code = c.code_of_lem.ensures ∙ ap classCode class in
-    λ i. (thousandthsOf (class i), code i)
+    let class = cut_too_wide _ _ (λ e. c.before.if1.true (its_count whole ∙ e)) in
+    let code = c.code_of_lem.ensures ∙ ap class_code class in
+    λ i. (thousandths_of_spec (class i), code i)
 
 returns-2 : tie.Need-returns-2
 returns-2 c =
     let whole = c.before.before.cut-numbers.ensures in
-    let class = class-cut _ _ (sym (its-count whole) ∙ c.if1.false) in
-    let reading = to_z-of_z w64 c.before.before.cut-numbers.result (search rules) ∙ its-reading whole ∙ ap thousandthsOf class in
-    let code = its-code whole ∙ ap classCode class in
+    let class = class_cut _ _ (sym (its_count whole) ∙ c.if1.false) in
+    let reading = to_z-of_z w64 c.before.before.cut-numbers.result (search rules) ∙ its_reading whole ∙ ap thousandths_of_spec class in
+    let code = its_code whole ∙ ap class_code class in
     λ i. (reading i, code i)
 
 pub class-numbers-spec : {M : Type 1} → statement M

@@ -3,7 +3,7 @@ use mathlib.Core.Path.{ap, ◌∙◌}
 use mir.Syntax.{w64}
 use mir.ValLaws.{to_z-of_z}
 use Rattle.catalogue.specs.declared.Cut.{Cut}
-use Rattle.framing.specs.Reading.{classCode, thousandthsOf}
+use Rattle.framing.specs.Reading.{class_code, thousandths_of_spec}
 use borrow.Author.Rules.{rules}
 use Rattle.messages.proofs.classes.cut_numbers.Statement.{statement}
 use Rattle.messages.proofs.classes.cut_numbers.Tie as tie
@@ -25,8 +25,8 @@ thousandths-of-requires c κs = search rules
 returns : tie.Need-returns
 returns c =
     let cut = c.before.before.before.cut_of.ensures in
-    let reading = to_z-of_z w64 c.thousandths-of.result (search rules) ∙ c.thousandths-of.ensures ∙ ap (λ (k : Cut). thousandthsOf k.class) cut in
-    let code = c.before.code_of_lem.ensures ∙ ap (λ (k : Cut). classCode k.class) cut in
+    let reading = to_z-of_z w64 c.thousandths-of.result (search rules) ∙ c.thousandths-of.ensures ∙ ap (λ (k : Cut). thousandths_of_spec k.class) cut in
+    let code = c.before.code_of_lem.ensures ∙ ap (λ (k : Cut). class_code k.class) cut in
     λ i. (reading i, ((cut i).bits, ((cut i).raw.0, code i)))
 
 pub cut-numbers-spec : {M : Type 1} → statement M

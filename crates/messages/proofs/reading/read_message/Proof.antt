@@ -4,8 +4,8 @@ use mathlib.Core.Path.{◌≡◌, sym, ◌∙◌}
 use mathlib.Core.Bool.{true, false}
 use native.Mathlib.Omega.{arith}
 use borrow.Author.Tests.{not-true, not-false}
-use Rattle.messages.specs.Signals.{checkHolds}
-use Rattle.messages.proofs.Readings.{refused-check, refused-room, was_read}
+use Rattle.messages.specs.Signals.{check_holds}
+use Rattle.messages.proofs.Readings.{refused_check, refused_room, was_read}
 use borrow.Author.Rules.{rules}
 use Rattle.messages.proofs.reading.read_message.Statement.{statement}
 use Rattle.messages.proofs.reading.read_message.Tie as tie
@@ -21,8 +21,8 @@ checked-requires c κs = search rules
 
 returns : tie.Need-returns
 returns c = let a = c.before.before.before.before.before.before.args in
-    let check : checkHolds a.identifier a.word a.numbers.now ≡ false = sym c.before.checked.ensures ∙ not-true _ c.if1.true in
-    refused-check a.identifier a.word a.numbers.now a.starts.now (omega arith) c.before.before.before.before.before.before.requires (record { raws = a.raws.now; classes = a.classes.now; thousandths = a.thousandths.now }) check
+    let check : check_holds a.identifier a.word a.numbers.now ≡ false = sym c.before.checked.ensures ∙ not-true _ c.if1.true in
+    refused_check a.identifier a.word a.numbers.now a.starts.now (omega arith) c.before.before.before.before.before.before.requires (record { raws = a.raws.now; classes = a.classes.now; thousandths = a.thousandths.now }) check
 
 least-requires : tie.Need-least-requires
 least-requires c κs = search rules
@@ -32,11 +32,11 @@ least-requires-2 c κs = search rules
 
 returns-2 : tie.Need-returns-2
 returns-2 c = let a = c.before.before.before.before.before.before.before.before.before.args in
-    let check : checkHolds a.identifier a.word a.numbers.now ≡ true = sym c.before.before.before.before.checked.ensures ∙ not-false _ c.before.before.before.if1.false in
-    refused-room a.identifier a.word a.numbers.now a.starts.now (omega arith) c.before.before.before.before.before.before.before.before.before.requires (record { raws = a.raws.now; classes = a.classes.now; thousandths = a.thousandths.now }) check (omega arith)
+    let check : check_holds a.identifier a.word a.numbers.now ≡ true = sym c.before.before.before.before.checked.ensures ∙ not-false _ c.before.before.before.if1.false in
+    refused_room a.identifier a.word a.numbers.now a.starts.now (omega arith) c.before.before.before.before.before.before.before.before.before.requires (record { raws = a.raws.now; classes = a.classes.now; thousandths = a.thousandths.now }) check (omega arith)
 
 read-signals-requires : tie.Need-read-signals-requires
-read-signals-requires c κs = record { few = c.before.before.before.before.before.before.before.before.before.before.before.before.requires.few; same = c.before.before.before.before.before.before.before.before.before.before.before.before.requires.same; fit = c.before.before.before.before.before.before.before.before.before.before.before.before.requires.fit; raw-room = omega arith; class-room = omega arith; thousandth-room = omega arith }
+read-signals-requires c κs = record { few = c.before.before.before.before.before.before.before.before.before.before.before.before.requires.few; same = c.before.before.before.before.before.before.before.before.before.before.before.before.requires.same; fit = c.before.before.before.before.before.before.before.before.before.before.before.before.requires.fit; raw_room = omega arith; class_room = omega arith; thousandth_room = omega arith }
 
 length-of-requires : tie.Need-length-of-requires
 length-of-requires c κs = c.before.before.before.before.before.before.before.before.before.before.before.before.before.before.before.before.before.before.requires.few
@@ -52,7 +52,7 @@ same-length-3 c = search rules
 
 returns-3 : tie.Need-returns-3
 returns-3 c = let a = c.before.before.before.before.before.before.before.before.before.before.before.before.before.before.before.before.before.before.before.args in
-    let check : checkHolds a.identifier a.word a.numbers.now ≡ true = sym c.before.before.before.before.before.before.before.before.before.before.before.before.before.before.checked.ensures ∙ not-false _ c.before.before.before.before.before.before.before.before.before.before.before.before.before.if1.false in
+    let check : check_holds a.identifier a.word a.numbers.now ≡ true = sym c.before.before.before.before.before.before.before.before.before.before.before.before.before.before.checked.ensures ∙ not-false _ c.before.before.before.before.before.before.before.before.before.before.before.before.before.if1.false in
     was_read a.identifier a.word a.numbers.now a.starts.now (omega (arith, c.before.before.before.before.before.before.before.before.before.before.before.before.before.before.before.before.before.before.before.ranges.word)) c.before.before.before.before.before.before.before.before.before.before.before.before.before.before.before.before.before.before.before.requires (record { raws = a.raws.now; classes = a.classes.now; thousandths = a.thousandths.now }) check (omega arith) _ c.length-of.ensures _
     c.before.before.before.before.before.before.read-signals.ensures.0 c.before.before.before.before.before.before.read-signals.ensures.1 c.before.before.before.before.before.before.read-signals.ensures.2
 

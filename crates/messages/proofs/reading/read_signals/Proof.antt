@@ -10,10 +10,10 @@ use lib.ListN.{length}
 use lib.IntN.{ℤ}
 use borrow.Author.Rules.{rules}
 use Rattle.columns.proofs.Counting.{within, past}
-use Rattle.framing.specs.Reading.{classCode, thousandthsOf}
-use Rattle.messages.specs.Signals.{AllFit, rawIn, code_in, readingIn}
-use Rattle.messages.proofs.Cuts.{count-there, class-there, its-reading, its-count, its-code}
-use Rattle.messages.proofs.Steps.{rest, placementAt, fits-at, fits_on, Writing, write-more, write-none, write-length}
+use Rattle.framing.specs.Reading.{class_code, thousandths_of_spec}
+use Rattle.messages.specs.Signals.{AllFit, raw_in, code_in, reading_in}
+use Rattle.messages.proofs.Cuts.{count_there, class_there, its_reading, its_count, its_code}
+use Rattle.messages.proofs.Steps.{rest, placement_at, fits_at, fits_on, Writing, write_more, write_none, write_length}
 use Rattle.messages.proofs.reading.read_signals.Statement.{statement}
 use Rattle.messages.proofs.reading.read_signals.Tie as tie
 use Rattle.messages.proofs.reading.read_signals.Reads as reads
@@ -25,9 +25,9 @@ use Rattle.messages.proofs.classes.cut_numbers.Reads as cut-numbers-reads
 record Inv (word : ℕ) (numbers starts : List ℕ) (raws₀ classes₀ : List ℕ) (thousandths₀ : List ℤ) (raws classes : List ℕ) (thousandths : List ℤ) (i left : ℕ) : Type 0 where
   counted : i + left ≡ length numbers
   fit : AllFit (rest numbers starts i)
-  in-raws : Writing (rawIn word) raws₀ numbers starts raws i
+  in-raws : Writing (raw_in word) raws₀ numbers starts raws i
   in-classes : Writing (code_in word) classes₀ numbers starts classes i
-  in-thousandths : Writing (readingIn word) thousandths₀ numbers starts thousandths i
+  in_thousandths : Writing (reading_in word) thousandths₀ numbers starts thousandths i
 
 abbrev invariant-loop : tie.invariant-loop
 invariant-loop word numbers starts raws₀ classes₀ thousandths₀ left₀ i₀ bits₀ raw₀ code₀ raws classes thousandths left i bits raw code = Inv word numbers starts raws₀ classes₀ thousandths₀ raws classes thousandths i left
@@ -39,7 +39,7 @@ length-of-requires : tie.Need-length-of-requires invariant-loop decreases-loop
 length-of-requires c κs = c.before.before.before.before.requires.few
 
 loop-holds : tie.Need-loop-init invariant-loop decreases-loop
-loop-holds c = record { counted = omega (arith, c.length-of.ensures); fit = c.before.before.before.before.before.requires.fit; in-raws = refl; in-classes = refl; in-thousandths = refl }
+loop-holds c = record { counted = omega (arith, c.length-of.ensures); fit = c.before.before.before.before.before.requires.fit; in-raws = refl; in-classes = refl; in_thousandths = refl }
 
 mul-number : tie.Need-overflow-mul-number invariant-loop decreases-loop
 mul-number c = omega (arith, c.before.loop.invariant.counted, c.before.before.before.before.before.before.before.requires.same)
@@ -55,7 +55,7 @@ shared-slice-read-window c = omega (arith, c.before.before.before.loop.invariant
 
 window-requires : tie.Need-window-requires invariant-loop decreases-loop
 window-requires c κs =
-    let f = fits-at c.before.before.before.before.before.before.before.before.before.args.numbers.now c.before.before.before.before.before.before.before.before.before.args.starts.now c.before.before.before.loop.i (within c.before.before.before.loop.invariant.counted c.before.before.loop-test.true) c.before.before.before.before.before.before.before.before.before.requires.same c.before.before.before.loop.invariant.fit in
+    let f = fits_at c.before.before.before.before.before.before.before.before.before.args.numbers.now c.before.before.before.before.before.before.before.before.before.args.starts.now c.before.before.before.loop.i (within c.before.before.before.loop.invariant.counted c.before.before.loop-test.true) c.before.before.before.before.before.before.before.before.before.requires.same c.before.before.before.loop.invariant.fit in
     omega (arith, f.some, f.inside)
 
 cut-numbers-requires : tie.Need-cut-numbers-requires invariant-loop decreases-loop
@@ -65,16 +65,16 @@ mul-raws : tie.Need-overflow-mul-raws invariant-loop decreases-loop
 mul-raws c = omega (arith, c.before.before.before.before.before.before.before.before.loop.invariant.counted, c.before.before.before.before.before.before.before.before.before.before.before.before.before.before.requires.same)
 
 slice-write-raws : tie.Need-slice-write-raws invariant-loop decreases-loop
-slice-write-raws c = omega (arith, c.before.before.before.before.before.before.before.before.loop.invariant.counted, c.before.before.before.before.before.before.before.before.before.before.before.before.before.before.requires.raw-room, write-length (rawIn c.before.before.before.before.before.before.before.before.before.before.before.before.before.before.args.word) c.before.before.before.before.before.before.before.before.before.before.before.before.before.before.args.raws.now c.before.before.before.before.before.before.before.before.before.before.before.before.before.before.args.numbers.now c.before.before.before.before.before.before.before.before.before.before.before.before.before.before.args.starts.now c.before.before.before.before.before.before.before.before.loop.raws c.before.before.before.before.before.before.before.before.loop.i c.before.before.before.before.before.before.before.before.loop.invariant.in-raws)
+slice-write-raws c = omega (arith, c.before.before.before.before.before.before.before.before.loop.invariant.counted, c.before.before.before.before.before.before.before.before.before.before.before.before.before.before.requires.raw_room, write_length (raw_in c.before.before.before.before.before.before.before.before.before.before.before.before.before.before.args.word) c.before.before.before.before.before.before.before.before.before.before.before.before.before.before.args.raws.now c.before.before.before.before.before.before.before.before.before.before.before.before.before.before.args.numbers.now c.before.before.before.before.before.before.before.before.before.before.before.before.before.before.args.starts.now c.before.before.before.before.before.before.before.before.loop.raws c.before.before.before.before.before.before.before.before.loop.i c.before.before.before.before.before.before.before.before.loop.invariant.in-raws)
 
 slice-write-classes : tie.Need-slice-write-classes invariant-loop decreases-loop
-slice-write-classes c = omega (arith, c.before.before.before.before.before.before.before.before.loop.invariant.counted, c.before.before.before.before.before.before.before.before.before.before.before.before.before.before.requires.class-room, write-length (code_in c.before.before.before.before.before.before.before.before.before.before.before.before.before.before.args.word) c.before.before.before.before.before.before.before.before.before.before.before.before.before.before.args.classes.now c.before.before.before.before.before.before.before.before.before.before.before.before.before.before.args.numbers.now c.before.before.before.before.before.before.before.before.before.before.before.before.before.before.args.starts.now c.before.before.before.before.before.before.before.before.loop.classes c.before.before.before.before.before.before.before.before.loop.i c.before.before.before.before.before.before.before.before.loop.invariant.in-classes)
+slice-write-classes c = omega (arith, c.before.before.before.before.before.before.before.before.loop.invariant.counted, c.before.before.before.before.before.before.before.before.before.before.before.before.before.before.requires.class_room, write_length (code_in c.before.before.before.before.before.before.before.before.before.before.before.before.before.before.args.word) c.before.before.before.before.before.before.before.before.before.before.before.before.before.before.args.classes.now c.before.before.before.before.before.before.before.before.before.before.before.before.before.before.args.numbers.now c.before.before.before.before.before.before.before.before.before.before.before.before.before.before.args.starts.now c.before.before.before.before.before.before.before.before.loop.classes c.before.before.before.before.before.before.before.before.loop.i c.before.before.before.before.before.before.before.before.loop.invariant.in-classes)
 
 mul-reading : tie.Need-overflow-mul-reading invariant-loop decreases-loop
 mul-reading c = omega (arith, c.before.before.before.before.before.before.before.before.loop.invariant.counted)
 
 slice-set-from-reading : tie.Need-slice-set-from-reading invariant-loop decreases-loop
-slice-set-from-reading c = omega (arith, c.before.before.before.before.before.before.before.before.loop.invariant.counted, c.before.before.before.before.before.before.before.before.before.before.before.before.before.before.requires.thousandth-room, write-length (readingIn c.before.before.before.before.before.before.before.before.before.before.before.before.before.before.args.word) c.before.before.before.before.before.before.before.before.before.before.before.before.before.before.args.thousandths.now c.before.before.before.before.before.before.before.before.before.before.before.before.before.before.args.numbers.now c.before.before.before.before.before.before.before.before.before.before.before.before.before.before.args.starts.now c.before.before.before.before.before.before.before.before.loop.thousandths c.before.before.before.before.before.before.before.before.loop.i c.before.before.before.before.before.before.before.before.loop.invariant.in-thousandths)
+slice-set-from-reading c = omega (arith, c.before.before.before.before.before.before.before.before.loop.invariant.counted, c.before.before.before.before.before.before.before.before.before.before.before.before.before.before.requires.thousandth_room, write_length (reading_in c.before.before.before.before.before.before.before.before.before.before.before.before.before.before.args.word) c.before.before.before.before.before.before.before.before.before.before.before.before.before.before.args.thousandths.now c.before.before.before.before.before.before.before.before.before.before.before.before.before.before.args.numbers.now c.before.before.before.before.before.before.before.before.before.before.before.before.before.before.args.starts.now c.before.before.before.before.before.before.before.before.loop.thousandths c.before.before.before.before.before.before.before.before.loop.i c.before.before.before.before.before.before.before.before.loop.invariant.in_thousandths)
 
 add-i : tie.Need-overflow-add-i invariant-loop decreases-loop
 add-i c = search rules
@@ -92,36 +92,36 @@ loop-again c = let a = c.before.before.before.before.before.before.before.before
     let ss = a.starts.now in
     let h = within l.invariant.counted c.before.before.before.before.before.before.before.loop-test.true in
     let e = c.before.before.before.before.before.before.before.before.before.before.before.before.before.before.requires.same in
-    let p = placementAt ns ss l.i in
-    let f = fits-at ns ss l.i h e l.invariant.fit in
+    let p = placement_at ns ss l.i in
+    let f = fits_at ns ss l.i h e l.invariant.fit in
     let there = c.before.before.before.before.window.ensures in
     let cut = c.cut-numbers.ensures in
-    let raw = its-count cut ∙ count-there a.word p f _ there in
-    let class = class-there a.word p f _ there in
-    let code = its-code cut ∙ ap classCode class in
-    let reading = to_z-of_z w64 c.cut-numbers.result (search rules) ∙ its-reading cut ∙ ap thousandthsOf class in
+    let raw = its_count cut ∙ count_there a.word p f _ there in
+    let class = class_there a.word p f _ there in
+    let code = its_code cut ∙ ap class_code class in
+    let reading = to_z-of_z w64 c.cut-numbers.result (search rules) ∙ its_reading cut ∙ ap thousandths_of_spec class in
     record {
       counted = omega (arith, l.invariant.counted, c.before.before.before.before.before.before.before.loop-test.true);
       fit = fits_on ns ss l.i h e l.invariant.fit;
-      in-raws = write-more (rawIn a.word) a.raws.now ns ss l.raws l.i _ h e raw l.invariant.in-raws;
-      in-classes = write-more (code_in a.word) a.classes.now ns ss l.classes l.i _ h e code l.invariant.in-classes;
-      in-thousandths = write-more (readingIn a.word) a.thousandths.now ns ss l.thousandths l.i _ h e reading l.invariant.in-thousandths;
+      in-raws = write_more (raw_in a.word) a.raws.now ns ss l.raws l.i _ h e raw l.invariant.in-raws;
+      in-classes = write_more (code_in a.word) a.classes.now ns ss l.classes l.i _ h e code l.invariant.in-classes;
+      in_thousandths = write_more (reading_in a.word) a.thousandths.now ns ss l.thousandths l.i _ h e reading l.invariant.in_thousandths;
     }
 
 same_length : tie.Need-same-length invariant-loop decreases-loop
-same_length c = write-length (rawIn c.before.before.before.before.before.before.before.args.word) c.before.before.before.before.before.before.before.args.raws.now c.before.before.before.before.before.before.before.args.numbers.now c.before.before.before.before.before.before.before.args.starts.now c.before.loop.raws c.before.loop.i c.before.loop.invariant.in-raws
+same_length c = write_length (raw_in c.before.before.before.before.before.before.before.args.word) c.before.before.before.before.before.before.before.args.raws.now c.before.before.before.before.before.before.before.args.numbers.now c.before.before.before.before.before.before.before.args.starts.now c.before.loop.raws c.before.loop.i c.before.loop.invariant.in-raws
 
 same-length-2 : tie.Need-same-length-2 invariant-loop decreases-loop
-same-length-2 c = write-length (code_in c.before.before.before.before.before.before.before.args.word) c.before.before.before.before.before.before.before.args.classes.now c.before.before.before.before.before.before.before.args.numbers.now c.before.before.before.before.before.before.before.args.starts.now c.before.loop.classes c.before.loop.i c.before.loop.invariant.in-classes
+same-length-2 c = write_length (code_in c.before.before.before.before.before.before.before.args.word) c.before.before.before.before.before.before.before.args.classes.now c.before.before.before.before.before.before.before.args.numbers.now c.before.before.before.before.before.before.before.args.starts.now c.before.loop.classes c.before.loop.i c.before.loop.invariant.in-classes
 
 same-length-3 : tie.Need-same-length-3 invariant-loop decreases-loop
-same-length-3 c = write-length (readingIn c.before.before.before.before.before.before.before.args.word) c.before.before.before.before.before.before.before.args.thousandths.now c.before.before.before.before.before.before.before.args.numbers.now c.before.before.before.before.before.before.before.args.starts.now c.before.loop.thousandths c.before.loop.i c.before.loop.invariant.in-thousandths
+same-length-3 c = write_length (reading_in c.before.before.before.before.before.before.before.args.word) c.before.before.before.before.before.before.before.args.thousandths.now c.before.before.before.before.before.before.before.args.numbers.now c.before.before.before.before.before.before.before.args.starts.now c.before.loop.thousandths c.before.loop.i c.before.loop.invariant.in_thousandths
 
 returns : tie.Need-returns invariant-loop decreases-loop
 returns c = (
-  write-none (rawIn c.before.before.before.before.before.before.before.args.word) c.before.before.before.before.before.before.before.args.raws.now c.before.before.before.before.before.before.before.args.numbers.now c.before.before.before.before.before.before.before.args.starts.now c.before.loop.raws c.before.loop.i (past c.before.loop.invariant.counted c.loop-test.false) c.before.loop.invariant.in-raws,
-  write-none (code_in c.before.before.before.before.before.before.before.args.word) c.before.before.before.before.before.before.before.args.classes.now c.before.before.before.before.before.before.before.args.numbers.now c.before.before.before.before.before.before.before.args.starts.now c.before.loop.classes c.before.loop.i (past c.before.loop.invariant.counted c.loop-test.false) c.before.loop.invariant.in-classes,
-  write-none (readingIn c.before.before.before.before.before.before.before.args.word) c.before.before.before.before.before.before.before.args.thousandths.now c.before.before.before.before.before.before.before.args.numbers.now c.before.before.before.before.before.before.before.args.starts.now c.before.loop.thousandths c.before.loop.i (past c.before.loop.invariant.counted c.loop-test.false) c.before.loop.invariant.in-thousandths,
+  write_none (raw_in c.before.before.before.before.before.before.before.args.word) c.before.before.before.before.before.before.before.args.raws.now c.before.before.before.before.before.before.before.args.numbers.now c.before.before.before.before.before.before.before.args.starts.now c.before.loop.raws c.before.loop.i (past c.before.loop.invariant.counted c.loop-test.false) c.before.loop.invariant.in-raws,
+  write_none (code_in c.before.before.before.before.before.before.before.args.word) c.before.before.before.before.before.before.before.args.classes.now c.before.before.before.before.before.before.before.args.numbers.now c.before.before.before.before.before.before.before.args.starts.now c.before.loop.classes c.before.loop.i (past c.before.loop.invariant.counted c.loop-test.false) c.before.loop.invariant.in-classes,
+  write_none (reading_in c.before.before.before.before.before.before.before.args.word) c.before.before.before.before.before.before.before.args.thousandths.now c.before.before.before.before.before.before.before.args.numbers.now c.before.before.before.before.before.before.before.args.starts.now c.before.loop.thousandths c.before.loop.i (past c.before.loop.invariant.counted c.loop-test.false) c.before.loop.invariant.in_thousandths,
 )
 
 pub read-signals-spec : {M : Type 1} → statement M

@@ -5,7 +5,7 @@ use native.Mathlib.Omega.{arith}
 use lib.Arith.{lt_of_le-ne}
 use lib.ListN.{get_or-eq_default}
 use Rattle.power.specs.declared.StateOrNone.TheVariants.{NoState}
-use Rattle.power.specs.States.{inOrder, stateNumbered}
+use Rattle.power.specs.States.{in_order_spec, state_numbered}
 use Rattle.power.proofs.State.numbered.Statement.{statement}
 use Rattle.power.proofs.State.numbered.Tie as tie
 
@@ -19,11 +19,11 @@ beyond zero x r = omega arith
 beyond (suc n) x r = lt_of_le-ne (beyond n x r.0) (λ e. r.1 (sym e))
 
 none_left : tie.Need-returns-8
-unfolding stateNumbered
-none_left c = sym (get_or-eq_default inOrder NoState (beyond 7 c.before.args.n c.match.rest))
+unfolding state_numbered
+none_left c = sym (get_or-eq_default in_order_spec NoState (beyond 7 c.before.args.n c.match.rest))
 
 pub numbered-spec : {M : Type 1} → statement M
-unfolding stateNumbered
+unfolding state_numbered
 numbered-spec =
     tie.close
     (tie.spec (λ c. cc) (λ c. cc) (λ c. cc) (λ c. cc) (λ c. cc) (λ c. cc) (λ c. cc) none_left)

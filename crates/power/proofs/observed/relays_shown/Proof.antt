@@ -1,6 +1,6 @@
 -- `power::observed::relays_shown` meets its contract: with relays of 1 or 2 the sum stays small. Assumes nothing.
 use native.Mathlib.Omega.{arith}
-use Rattle.power.proofs.PictureNumbers.{first_fits, second_fits, third-fits}
+use Rattle.power.proofs.PictureNumbers.{first_fits, second_fits, third_fits}
 use borrow.Author.Rules.{rules}
 use Rattle.power.proofs.observed.relays_shown.Statement.{statement}
 use Rattle.power.proofs.observed.relays_shown.Tie as tie
@@ -16,7 +16,7 @@ add-result c = record { fits = omega (arith, first_fits c.before.before.args.see
 
 add-result-2 : tie.Need-overflow-add-result-2
 add-result-2 c =
-    record { fits = omega (arith, first_fits c.before.before.before.args.seen c.before.before.before.requires, second_fits c.before.before.before.args.seen c.before.before.before.requires, third-fits c.before.before.before.args.seen c.before.before.before.requires) }
+    record { fits = omega (arith, first_fits c.before.before.before.args.seen c.before.before.before.requires, second_fits c.before.before.before.args.seen c.before.before.before.requires, third_fits c.before.before.before.args.seen c.before.before.before.requires) }
 
 returns : tie.Need-returns
 returns c = search rules

@@ -2,7 +2,7 @@
 use Prim.Native.Nat.{◌-◌}
 use native.Mathlib.Omega.{arith}
 use lib.ListN.{length}
-use Rattle.printing.proofs.Puts.{Written, none_written, byte-written, all-written}
+use Rattle.printing.proofs.Puts.{Written, none_written, byte_written, all_written}
 use Rattle.printing.proofs.bytes.put_bytes.Statement.{statement}
 use Rattle.printing.proofs.bytes.put_bytes.Tie as tie
 use Rattle.printing.proofs.bytes.put_bytes.Reads as reads
@@ -33,7 +33,7 @@ loop-less : tie.Need-loop-smaller invariant-loop decreases-loop
 loop-less c = omega arith
 
 loop-again : tie.Need-loop-preserved invariant-loop decreases-loop
-loop-again c = byte-written c.before.before.loop.invariant c.before.loop-test.true
+loop-again c = byte_written c.before.before.loop.invariant c.before.loop-test.true
 
 add-result : tie.Need-overflow-add-result invariant-loop decreases-loop
 add-result c = omega (arith, c.before.before.requires, c.before.loop.invariant.within)
@@ -42,7 +42,7 @@ same_length : tie.Need-same-length invariant-loop decreases-loop
 same_length c = c.before.loop.invariant.size
 
 returns : tie.Need-returns invariant-loop decreases-loop
-returns c = all-written c.before.loop.invariant c.loop-test.false
+returns c = all_written c.before.loop.invariant c.loop-test.false
 
 pub put-bytes-spec : {M : Type 1} → statement M
 put-bytes-spec =

@@ -1,7 +1,7 @@
 -- `printing::numbers::put_natural` meets its contract: the digits counted hold the number, and there are at most 20. Assumes nothing.
 use native.Mathlib.Omega.{arith}
-use Rattle.printing.proofs.Counting.{count-few, count-holds}
-use Rattle.printing.proofs.Spelling.{natural-put}
+use Rattle.printing.proofs.Counting.{count_few, count_holds}
+use Rattle.printing.proofs.Spelling.{natural_put}
 use borrow.Author.Rules.{rules}
 use Rattle.printing.proofs.numbers.put_natural.Statement.{statement}
 use Rattle.printing.proofs.numbers.put_natural.Tie as tie
@@ -14,16 +14,16 @@ digit-count-requires : tie.Need-digit-count-requires
 digit-count-requires c κs = search rules
 
 put-digits-requires : tie.Need-put-digits-requires
-put-digits-requires c κs = record { inside = omega (arith, c.before.before.before.requires, count-few _ c.before.before.before.ranges.n.fits, c.before.digit-count.ensures); some = omega arith; few = omega arith; holds = rw c.before.digit-count.ensures (count-holds _) }
+put-digits-requires c κs = record { inside = omega (arith, c.before.before.before.requires, count_few _ c.before.before.before.ranges.n.fits, c.before.digit-count.ensures); some = omega arith; few = omega arith; holds = rw c.before.digit-count.ensures (count_holds _) }
 
 add-result : tie.Need-overflow-add-result
-add-result c = omega (arith, c.before.before.before.before.before.before.requires, count-few _ c.before.before.before.before.before.before.ranges.n.fits, c.before.before.before.before.digit-count.ensures)
+add-result c = omega (arith, c.before.before.before.before.before.before.requires, count_few _ c.before.before.before.before.before.before.ranges.n.fits, c.before.before.before.before.digit-count.ensures)
 
 same_length : tie.Need-same-length
 same_length c = search rules
 
 returns : tie.Need-returns
-returns c = natural-put _ c.before.before.before.before.digit-count.ensures c.before.before.put-digits.ensures
+returns c = natural_put _ c.before.before.before.before.digit-count.ensures c.before.before.put-digits.ensures
 
 pub put-natural-spec : {M : Type 1} → statement M
 put-natural-spec =

@@ -1,6 +1,6 @@
 -- `punnetcrest::dashing::pc_dash` meets its contract: in each arm the answer is the one that the arm names. Assumes nothing.
 use borrow.Author.Rules.{rules}
-use Rattle.punnetcrest.proofs.DashNumbers.{in-numbers, shown-in-numbers}
+use Rattle.punnetcrest.proofs.DashNumbers.{in_numbers, shown_in_numbers}
 use Rattle.punnetcrest.proofs.dashing.pc_dash.Statement.{statement}
 use Rattle.punnetcrest.proofs.dashing.pc_dash.Tie as tie
 
@@ -23,13 +23,13 @@ enum-told-2 : tie.Need-enum-told-2
 enum-told-2 c = search rules
 
 returns : tie.Need-returns
-returns c = shown-in-numbers _ _ _ _ c.before.before.before.before.before.show.ensures c.before.before.before.answer.given.1 c.before.code_of_lem.ensures c.reading-of.ensures
+returns c = shown_in_numbers _ _ _ _ c.before.before.before.before.before.show.ensures c.before.before.before.answer.given.1 c.before.code_of_lem.ensures c.reading-of.ensures
 
 returns-2 : tie.Need-returns-2
-returns-2 c = in-numbers _ _ _ _ c.before.before.show.ensures c.enum_told.given.1
+returns-2 c = in_numbers _ _ _ _ c.before.before.show.ensures c.enum_told.given.1
 
 returns-3 : tie.Need-returns-3
-returns-3 c = in-numbers _ _ _ _ c.before.before.show.ensures c.enum-told2.given.1
+returns-3 c = in_numbers _ _ _ _ c.before.before.show.ensures c.enum-told2.given.1
 
 pub pc-dash-spec : {M : Type 1} → statement M
 pc-dash-spec =

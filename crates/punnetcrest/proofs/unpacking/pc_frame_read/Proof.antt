@@ -1,5 +1,5 @@
 -- `punnetcrest::unpacking::pc_frame_read` meets its contract: the reader leaves the slices, and its answer tells the number and the count. Assumes nothing.
-use Rattle.punnetcrest.proofs.UnpackNumbers.{as-unpacked}
+use Rattle.punnetcrest.proofs.UnpackNumbers.{as_unpacked}
 use borrow.Author.Rules.{rules}
 use Rattle.punnetcrest.proofs.unpacking.pc_frame_read.Statement.{statement}
 use Rattle.punnetcrest.proofs.unpacking.pc_frame_read.Tie as tie
@@ -28,7 +28,7 @@ same-length-3 : tie.Need-same-length-3
 same-length-3 c = search rules
 
 returns : tie.Need-returns
-returns c = rw (c.number_of_lem.ensures, c.before.count-after.ensures) (as-unpacked _ _ _ _ c.before.before.before.before.before.before.before.before.read.ensures)
+returns c = rw (c.number_of_lem.ensures, c.before.count_after.ensures) (as_unpacked _ _ _ _ c.before.before.before.before.before.before.before.before.read.ensures)
 
 pub pc-frame-read-spec : {M : Type 1} → statement M
 pc-frame-read-spec =

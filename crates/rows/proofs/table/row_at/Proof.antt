@@ -117,15 +117,15 @@ with-bits rs i empty o bits =
     (numbers (λ (r : Row). r.lowest) rs i) (numbers (λ (r : Row). r.highest) rs i)
     (mark-at (λ (r : Row). r.mark1) rs i empty) (mark-at (λ (r : Row). r.mark2) rs i empty) (mark-at (λ (r : Row). r.mark3) rs i empty)
 
-abbrev from-columns : List Row → ℕ → ℕ → ℤ → Row
-from-columns rs i empty o = with-bits rs i empty o (numbers (λ (r : Row). r.bits) rs i)
+abbrev from_columns : List Row → ℕ → ℕ → ℤ → Row
+from_columns rs i empty o = with-bits rs i empty o (numbers (λ (r : Row). r.bits) rs i)
 
-whole : (rs : List Row) (i : ℕ) → from-columns rs i 1 (offset_at rs i) ≡ get_or rs i blank
+whole : (rs : List Row) (i : ℕ) → from_columns rs i 1 (offset_at rs i) ≡ get_or rs i blank
 whole [] i = refl
 whole (r ∷ rs) zero = refl
 whole (r ∷ rs) (suc i) = whole rs i
 
-inside : (rs : List Row) (i : ℕ) (o : ℤ) → i < length rs → from-columns rs i 0 o ≡ from-columns rs i 1 o
+inside : (rs : List Row) (i : ℕ) (o : ℤ) → i < length rs → from_columns rs i 0 o ≡ from_columns rs i 1 o
 inside [] i o h = absurd (not-suc-le-zero h)
 inside (r ∷ rs) zero o h = refl
 inside (r ∷ rs) (suc i) o h = inside rs i o (le_of_suc-le-suc h)
@@ -136,7 +136,7 @@ returns c =
     let i = c.before.before.args.place in
     ap (with-bits rows i 0 (to_z w32 (of_z w32 (offset_at rows i)))) c.before.wide.ensures
     ∙ inside rows i (to_z w32 (of_z w32 (offset_at rows i))) c.before.before.requires
-    ∙ ap (from-columns rows i 1) (to_z-of_z w32 _ (record { sfits = c.t21.given }))
+    ∙ ap (from_columns rows i 1) (to_z-of_z w32 _ (record { sfits = c.t21.given }))
     ∙ whole rows i
 
 pub row-at-spec : {M : Type 1} → statement M

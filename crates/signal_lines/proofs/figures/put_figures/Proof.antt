@@ -8,11 +8,11 @@ use mir.Syntax.{w64}
 use mir.Val.{SFits}
 use mir.ValLaws.{to_z-of_z}
 use borrow.Author.Rules.{rules}
-use Rattle.doubles.specs.Doubles.{inUnits}
-use Rattle.printing.specs.Decimal.{signedText, signedRoom}
-use Rattle.printing.proofs.Puts.{put_as, put-within}
-use Rattle.printing.proofs.Spelling.{signed-few}
-use Rattle.signal_lines.proofs.Showing.{double-long}
+use Rattle.doubles.specs.Doubles.{in_units_spec}
+use Rattle.printing.specs.Decimal.{signed_text, signed_room}
+use Rattle.printing.proofs.Puts.{put_as, put_within}
+use Rattle.printing.proofs.Spelling.{signed_few}
+use Rattle.signal_lines.proofs.Showing.{double_long}
 use Rattle.signal_lines.proofs.figures.put_figures.Statement.{statement}
 use Rattle.signal_lines.proofs.figures.put_figures.Tie as tie
 
@@ -38,7 +38,7 @@ returns c =
     let same = to_z-of_z w64 t.0 f in
     let put = c.before.before.put-signed.ensures in
     rw c.before.before.before.before.before.enum_told.given.1
-    (put-within signedRoom (put_as (ap signedText same) put) (omega (arith, subst (λ (z : ℤ). length (signedText z) ≤ signedRoom) (sym same) (signed-few t.0 f), put.now-at)))
+    (put_within signed_room (put_as (ap signed_text same) put) (omega (arith, subst (λ (z : ℤ). length (signed_text z) ≤ signed_room) (sym same) (signed_few t.0 f), put.now_at)))
 
 same-length-2 : tie.Need-same-length-2
 same-length-2 c = search rules
@@ -47,7 +47,7 @@ returns-2 : tie.Need-returns-2
 returns-2 c =
     let put = c.before.before.put-double.ensures in
     rw c.before.before.before.before.enum-told2.given.1
-    (put-within signedRoom put (omega (arith, double-long (inUnits c.before.before.before.before.before.before.before.args.reading), put.now-at)))
+    (put_within signed_room put (omega (arith, double_long (in_units_spec c.before.before.before.before.before.before.before.args.reading), put.now_at)))
 
 pub put-figures-spec : {M : Type 1} → statement M
 put-figures-spec =

@@ -24,7 +24,7 @@ use denote.Steps.{facts}
 use denote.Triple.Call.{calls_at_last}
 use denote.Struct.Laws as LL
 use denote.Enum.Laws as EL
-use Rattle.sleep.specs.Watching.{after_call, watchAndAnswer}
+use Rattle.sleep.specs.Watching.{after_call, watch_and_answer}
 use Rattle.sleep.specs.declared.Watch.{Watch}
 use Rattle.sleep.specs.declared.SleepAnswer.{SleepAnswer}
 use Rattle.sleep.specs.contracts.Watch as T
@@ -186,7 +186,7 @@ module _ {M : Type 1} {𝓤 : Ura M} (𝓛 : Logic 𝓤) (at_mem : Memory → SP
         calls_at ! fm (Update 𝓛 at_mem run) known.update (update-to ν l₁ δ k) (and_then ! (load ! (from ! (stop !)) (look ! 6 refl)) (and_then ! (load ! (from ! (fld ! refl (stop !))) (look_in ! 16 (sub ! 2 refl (whole !)))) (and_then ! (load ! (from ! (fld ! refl (stop !))) (look_in ! 16 (sub ! 3 refl (whole !)))) (no_more !)))) (λ v.
         use1 𝓛 (later (some (λ (a : SleepAnswer). ((‵ (flft (ν ∷ []) full_share) ⊛ ‵ ftrue) ⊛ ‵ ((S.the_row).own_val a (v ∷ []))) ⊛ raw (ensured 𝓛 update-fn.ended (update-fn.clauses 𝓛 at_mem run) (ν ∷ [], tt) (ref l₁ δ k.watch, (k.turn.time, (k.turn.wake, tt))) tt a)))) (id⊢ 𝓤 _) $ await ! tt $ pick ! (λ a.
         -- at some last watch
-        split ! $ move ! (1 ∷ []) $ use1 𝓛 (some (λ (ws : Watch × (Unit {0} × (Unit {0} × Unit {0}))). ‵ (lasts update-fn.ended (ν ∷ [], tt) (ref l₁ δ k.watch, (k.turn.time, (k.turn.wake, tt))) ws) ⊛ raw (fact 𝓤 (watchAndAnswer ws.0 a ≡ after_call k.watch k.turn.time k.turn.wake)))) (id⊢ 𝓤 _) $ pick ! (λ ws.
+        split ! $ move ! (1 ∷ []) $ use1 𝓛 (some (λ (ws : Watch × (Unit {0} × (Unit {0} × Unit {0}))). ‵ (lasts update-fn.ended (ν ∷ [], tt) (ref l₁ δ k.watch, (k.turn.time, (k.turn.wake, tt))) ws) ⊛ raw (fact 𝓤 (watch_and_answer ws.0 a ≡ after_call k.watch k.turn.time k.turn.wake)))) (id⊢ 𝓤 _) $ pick ! (λ ws.
         split ! $ move ! (1 ∷ []) $ drop ! $ fsplit ! $ move ! (2 ∷ []) $ split ! $ move ! (1 ∷ []) $ facts ! S.the_row (Is S.the_row) (shows 𝓛 S.the_row) a (v ∷ []) (λ is.
         -- [the token; the last watch; …; the lender's part; _9; …]
         land ! (from ! (stop !)) (init ! 16 refl ((EL.lawful S.the_type S'.the_laws 𝓛 tt).typed a _ is).0) $

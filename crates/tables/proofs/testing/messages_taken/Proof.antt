@@ -9,11 +9,11 @@ use lib.ListN.{replicate, get_or, set}
 use lib.Seq.{get_or-set_other}
 use borrow.Author.Tests.{eqb-true, eqb-false, not-true, not-false}
 use Rattle.books.proofs.Tests.{both_false}
-use Rattle.catalogue.specs.Places.{noPlace, checksumPlace, counterPlace}
-use Rattle.columns.specs.Identifiers.{distinctAfter}
-use Rattle.placing.specs.Stamps.{fixedPlace, fixedStamp, Below}
-use Rattle.zeros.proofs.Gathering.{zero-at}
-use Rattle.tables.proofs.Tested.{many-messages, many-signals, rest-of-messages, rest-of-signals, repeated, last-part}
+use Rattle.catalogue.specs.Places.{no_place_spec, checksum_place, counter_place}
+use Rattle.columns.specs.Identifiers.{distinct_after}
+use Rattle.placing.specs.Stamps.{fixed_place, fixed_stamp, Below}
+use Rattle.zeros.proofs.Gathering.{zero_at}
+use Rattle.tables.proofs.Tested.{many_messages, many_signals, rest_of_messages, rest_of_signals, repeated, last_part}
 use borrow.Author.Rules.{rules}
 use Rattle.tables.proofs.testing.messages_taken.Statement.{statement}
 use Rattle.tables.proofs.testing.messages_taken.Tie as tie
@@ -36,23 +36,23 @@ use Rattle.tables.proofs.testing.well_parted.Reads as well-parted-reads
 
 -- before the first message no stamp stands but on the two fixed places
 abbrev stamped : List ℕ
-stamped = set (set (replicate noPlace 0) checksumPlace fixedStamp) counterPlace fixedStamp
+stamped = set (set (replicate no_place_spec 0) checksum_place fixed_stamp) counter_place fixed_stamp
 
 first-stamps : Below stamped 1
-first-stamps = record { each = refl; fixed = λ p f. go p (eqb p checksumPlace) refl (eqb p counterPlace) refl f; below = others }
+first-stamps = record { each = refl; fixed = λ p f. go p (eqb p checksum_place) refl (eqb p counter_place) refl f; below = others }
   where
-    go : (p : ℕ) (a : Bool) → eqb p checksumPlace ≡ a → (b : Bool) → eqb p counterPlace ≡ b → a || b ≡ true
-        → get_or stamped p 0 ≡ fixedStamp
-    go p true e b f k = ap (λ (q : ℕ). get_or stamped q 0) (eqb-true p checksumPlace e)
-    go p false e true f k = ap (λ (q : ℕ). get_or stamped q 0) (eqb-true p counterPlace f)
+    go : (p : ℕ) (a : Bool) → eqb p checksum_place ≡ a → (b : Bool) → eqb p counter_place ≡ b → a || b ≡ true
+        → get_or stamped p 0 ≡ fixed_stamp
+    go p true e b f k = ap (λ (q : ℕ). get_or stamped q 0) (eqb-true p checksum_place e)
+    go p false e true f k = ap (λ (q : ℕ). get_or stamped q 0) (eqb-true p counter_place f)
     go p false e false f k = absurd (true≢false (sym k))
 
-    others : (p : ℕ) → fixedPlace p ≡ false → get_or stamped p 0 < 1
+    others : (p : ℕ) → fixed_place p ≡ false → get_or stamped p 0 < 1
     others p f =
-        let both = both_false (eqb p checksumPlace) (eqb p counterPlace) f in
-        let a = get_or-set_other (set (replicate noPlace 0) checksumPlace fixedStamp) counterPlace p fixedStamp 0 (eqb-false p counterPlace both.1) in
-        let b = get_or-set_other (replicate noPlace 0) checksumPlace p fixedStamp 0 (eqb-false p checksumPlace both.0) in
-        let z = zero-at noPlace p in
+        let both = both_false (eqb p checksum_place) (eqb p counter_place) f in
+        let a = get_or-set_other (set (replicate no_place_spec 0) checksum_place fixed_stamp) counter_place p fixed_stamp 0 (eqb-false p counter_place both.1) in
+        let b = get_or-set_other (replicate no_place_spec 0) checksum_place p fixed_stamp 0 (eqb-false p checksum_place both.0) in
+        let z = zero_at no_place_spec p in
         omega (arith, a, b, z)
 
 message-count-requires : tie.Need-message-count-requires
@@ -62,7 +62,7 @@ wide-requires : tie.Need-wide-requires
 wide-requires c κs = search rules
 
 returns : tie.Need-returns
-returns c = many-messages _ _ (c.before.wide.ensures ∙ c.before.before.message-count.ensures) c.if1.true
+returns c = many_messages _ _ (c.before.wide.ensures ∙ c.before.before.message-count.ensures) c.if1.true
 
 signal-count-requires : tie.Need-signal-count-requires
 signal-count-requires c κs = search rules
@@ -71,7 +71,7 @@ wide-requires-2 : tie.Need-wide-requires-2
 wide-requires-2 c κs = search rules
 
 returns-2 : tie.Need-returns-2
-returns-2 c = many-signals _ _ (c.before.wide2.ensures ∙ c.before.before.signal-count.ensures) c.if2.true
+returns-2 c = many_signals _ _ (c.before.wide2.ensures ∙ c.before.before.signal-count.ensures) c.if2.true
 
 ids-requires : tie.Need-ids-requires
 ids-requires c κs = search rules
@@ -83,7 +83,7 @@ rests-zero-requires : tie.Need-rests-zero-requires
 rests-zero-requires c κs = search rules
 
 returns-3 : tie.Need-returns-3
-returns-3 c = rest-of-messages _ _ _ _ (c.before.before.before.before.before.before.before.before.wide.ensures ∙ c.before.before.before.before.before.before.before.before.before.message-count.ensures) c.before.before.before.ids.ensures.0 c.before.before.ends.ensures.0 (sym c.before.rests-zero.ensures ∙ not-true _ c.if3.true)
+returns-3 c = rest_of_messages _ _ _ _ (c.before.before.before.before.before.before.before.before.wide.ensures ∙ c.before.before.before.before.before.before.before.before.before.message-count.ensures) c.before.before.before.ids.ensures.0 c.before.before.ends.ensures.0 (sym c.before.rests-zero.ensures ∙ not-true _ c.if3.true)
 
 numbers-requires : tie.Need-numbers-requires
 numbers-requires c κs = search rules
@@ -95,7 +95,7 @@ rests-zero-requires-2 : tie.Need-rests-zero-requires-2
 rests-zero-requires-2 c κs = search rules
 
 returns-4 : tie.Need-returns-4
-returns-4 c = rest-of-signals _ _ _ _ (c.before.before.before.before.before.before.before.before.before.wide2.ensures ∙ c.before.before.before.before.before.before.before.before.before.before.signal-count.ensures) c.before.before.before.numbers.ensures.0 c.before.before.starts.ensures.0 (sym c.before.rests-zero2.ensures ∙ not-true _ c.if4.true)
+returns-4 c = rest_of_signals _ _ _ _ (c.before.before.before.before.before.before.before.before.before.wide2.ensures ∙ c.before.before.before.before.before.before.before.before.before.before.signal-count.ensures) c.before.before.before.numbers.ensures.0 c.before.before.starts.ensures.0 (sym c.before.rests-zero2.ensures ∙ not-true _ c.if4.true)
 
 first-requires : tie.Need-first-requires
 first-requires c κs = search rules
@@ -104,7 +104,7 @@ distinct-requires : tie.Need-distinct-requires
 distinct-requires c κs = search rules
 
 returns-5 : tie.Need-returns-5
-returns-5 c = repeated _ _ _ (c.before.before.before.before.before.before.before.before.before.before.before.before.before.before.before.wide.ensures ∙ c.before.before.before.before.before.before.before.before.before.before.before.before.before.before.before.before.message-count.ensures) c.before.before.before.before.before.before.before.before.before.before.ids.ensures.0 (sym (c.before.distinct.ensures ∙ ap (distinctAfter []) c.before.before.first.ensures.0) ∙ not-true _ c.if5.true)
+returns-5 c = repeated _ _ _ (c.before.before.before.before.before.before.before.before.before.before.before.before.before.before.before.wide.ensures ∙ c.before.before.before.before.before.before.before.before.before.before.before.before.before.before.before.before.message-count.ensures) c.before.before.before.before.before.before.before.before.before.before.ids.ensures.0 (sym (c.before.distinct.ensures ∙ ap (distinct_after []) c.before.before.first.ensures.0) ∙ not-true _ c.if5.true)
 
 surpluses-requires : tie.Need-surpluses-requires
 surpluses-requires c κs = search rules
@@ -146,7 +146,7 @@ well-parted-requires : tie.Need-well-parted-requires
 well-parted-requires c κs = (omega (arith, c.before.before.before.before.before.first3.ensures.1, c.before.before.before.before.first4.ensures.1), omega (arith, c.before.before.before.before.before.first3.ensures.1, c.before.before.before.before.before.before.before.before.before.before.before.before.before.before.before.before.before.before.before.before.before.if2.false), omega (arith, c.before.before.before.before.before.before.first2.ensures.1, c.before.before.before.before.before.before.before.before.before.before.before.before.before.before.before.before.before.before.before.before.before.before.before.before.if1.false), record { places = (c.before.before.before.before.before.before.before.before.before.surpluses.ensures, c.before.before.before.before.before.before.before.before.bounds.ensures); lasts = c.before.before.before.before.before.before.before.last-starts.ensures }, first-stamps)
 
 returns-6 : tie.Need-returns-6
-returns-6 c = c.before.well-parted.ensures ∙ last-part _ _ _ _ _ _ _ (c.before.before.before.before.before.before.before.before.before.before.before.before.before.before.before.before.before.before.before.before.before.before.before.before.before.before.before.wide.ensures ∙ c.before.before.before.before.before.before.before.before.before.before.before.before.before.before.before.before.before.before.before.before.before.before.before.before.before.before.before.before.message-count.ensures) (c.before.before.before.before.before.before.before.before.before.before.before.before.before.before.before.before.before.before.before.before.before.before.before.before.wide2.ensures ∙ c.before.before.before.before.before.before.before.before.before.before.before.before.before.before.before.before.before.before.before.before.before.before.before.before.before.signal-count.ensures) c.before.before.before.before.before.before.before.before.before.before.before.before.before.before.before.before.before.before.before.before.before.before.ids.ensures.0 c.before.before.before.before.before.before.before.before.before.before.before.before.before.before.before.before.before.before.before.before.before.ends.ensures.0 c.before.before.before.before.before.before.before.before.before.before.before.before.before.before.before.before.before.before.numbers.ensures.0 c.before.before.before.before.before.before.before.before.before.before.before.before.before.before.before.before.before.starts.ensures.0 c.before.before.before.before.before.before.before.before.before.before.before.before.before.before.before.before.before.before.before.before.before.before.ids.ensures.1 c.before.before.before.before.before.before.before.before.before.before.before.before.before.before.before.before.before.before.before.before.before.ends.ensures.1 c.before.before.before.before.before.before.before.before.before.before.before.before.before.before.before.before.before.before.numbers.ensures.1 c.before.before.before.before.before.before.before.before.before.before.before.before.before.before.before.before.before.starts.ensures.1 c.before.before.before.before.before.before.before.before.before.before.before.before.before.before.before.before.before.before.before.before.before.before.before.before.before.before.if1.false c.before.before.before.before.before.before.before.before.before.before.before.before.before.before.before.before.before.before.before.before.before.before.before.if2.false (sym c.before.before.before.before.before.before.before.before.before.before.before.before.before.before.before.before.before.before.before.before.rests-zero.ensures ∙ not-false _ c.before.before.before.before.before.before.before.before.before.before.before.before.before.before.before.before.before.before.before.if3.false) (sym c.before.before.before.before.before.before.before.before.before.before.before.before.before.before.before.before.rests-zero2.ensures ∙ not-false _ c.before.before.before.before.before.before.before.before.before.before.before.before.before.before.before.if4.false) (sym (c.before.before.before.before.before.before.before.before.before.before.before.before.before.distinct.ensures ∙ ap (distinctAfter []) c.before.before.before.before.before.before.before.before.before.before.before.before.before.before.first.ensures.0) ∙ not-false _ c.before.before.before.before.before.before.before.before.before.before.before.before.if5.false) _ _ _ c.before.before.before.before.before.before.before.before.first2.ensures.0 c.before.before.before.before.before.before.before.first3.ensures.0 c.before.before.before.before.before.before.first4.ensures.0
+returns-6 c = c.before.well-parted.ensures ∙ last_part _ _ _ _ _ _ _ (c.before.before.before.before.before.before.before.before.before.before.before.before.before.before.before.before.before.before.before.before.before.before.before.before.before.before.before.wide.ensures ∙ c.before.before.before.before.before.before.before.before.before.before.before.before.before.before.before.before.before.before.before.before.before.before.before.before.before.before.before.before.message-count.ensures) (c.before.before.before.before.before.before.before.before.before.before.before.before.before.before.before.before.before.before.before.before.before.before.before.before.wide2.ensures ∙ c.before.before.before.before.before.before.before.before.before.before.before.before.before.before.before.before.before.before.before.before.before.before.before.before.before.signal-count.ensures) c.before.before.before.before.before.before.before.before.before.before.before.before.before.before.before.before.before.before.before.before.before.before.ids.ensures.0 c.before.before.before.before.before.before.before.before.before.before.before.before.before.before.before.before.before.before.before.before.before.ends.ensures.0 c.before.before.before.before.before.before.before.before.before.before.before.before.before.before.before.before.before.before.numbers.ensures.0 c.before.before.before.before.before.before.before.before.before.before.before.before.before.before.before.before.before.starts.ensures.0 c.before.before.before.before.before.before.before.before.before.before.before.before.before.before.before.before.before.before.before.before.before.before.ids.ensures.1 c.before.before.before.before.before.before.before.before.before.before.before.before.before.before.before.before.before.before.before.before.before.ends.ensures.1 c.before.before.before.before.before.before.before.before.before.before.before.before.before.before.before.before.before.before.numbers.ensures.1 c.before.before.before.before.before.before.before.before.before.before.before.before.before.before.before.before.before.starts.ensures.1 c.before.before.before.before.before.before.before.before.before.before.before.before.before.before.before.before.before.before.before.before.before.before.before.before.before.before.if1.false c.before.before.before.before.before.before.before.before.before.before.before.before.before.before.before.before.before.before.before.before.before.before.before.if2.false (sym c.before.before.before.before.before.before.before.before.before.before.before.before.before.before.before.before.before.before.before.before.rests-zero.ensures ∙ not-false _ c.before.before.before.before.before.before.before.before.before.before.before.before.before.before.before.before.before.before.before.if3.false) (sym c.before.before.before.before.before.before.before.before.before.before.before.before.before.before.before.before.rests-zero2.ensures ∙ not-false _ c.before.before.before.before.before.before.before.before.before.before.before.before.before.before.before.if4.false) (sym (c.before.before.before.before.before.before.before.before.before.before.before.before.before.distinct.ensures ∙ ap (distinct_after []) c.before.before.before.before.before.before.before.before.before.before.before.before.before.before.first.ensures.0) ∙ not-false _ c.before.before.before.before.before.before.before.before.before.before.before.before.if5.false) _ _ _ c.before.before.before.before.before.before.before.before.first2.ensures.0 c.before.before.before.before.before.before.before.first3.ensures.0 c.before.before.before.before.before.before.first4.ensures.0
 
 pub messages-taken-spec : {M : Type 1} → statement M
 messages-taken-spec =

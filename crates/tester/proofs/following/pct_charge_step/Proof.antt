@@ -1,5 +1,5 @@
 -- `tester::following::pct_charge_step` meets its contract: a number that stands for a state takes the monitor's own step, any other is kept. Assumes nothing.
-use Rattle.tester.proofs.ChargeNumbers.{told, as-stepped}
+use Rattle.tester.proofs.ChargeNumbers.{told, as_stepped}
 use borrow.Author.Rules.{rules}
 use Rattle.tester.proofs.following.pct_charge_step.Statement.{statement}
 use Rattle.tester.proofs.following.pct_charge_step.Tie as tie
@@ -27,7 +27,7 @@ enum_told c = search rules
 
 returns : tie.Need-returns
 returns c = simp (c.number_of_lem.ensures, c.before.number.ensures)
-    (as-stepped _ _ c.before.before.step.result c.before.before.before.before.before.before.before.numbered.ensures c.before.before.before.before.before.held.given.1 c.before.before.before.observation-of.ensures c.before.before.step.ensures)
+    (as_stepped _ _ c.before.before.step.result c.before.before.before.before.before.before.before.numbered.ensures c.before.before.before.before.before.held.given.1 c.before.before.before.observation-of.ensures c.before.before.step.ensures)
 
 returns-2 : tie.Need-returns-2
 returns-2 c = told _ _ c.before.before.numbered.ensures c.enum_told.given.1
