@@ -2,12 +2,32 @@
    functions that return at once, which shows what the loop around the calls costs. The count of instructions at two numbers
    of times, subtracted and divided, less the same of nothing, is the cost of one call: host/measure does that.
    bench list: the names of the cases. */
-#include "bench_faces.h"
 #include "made_text.h"
+#include "nothing.h"
+#include "plain.h"
 #include "plain_signals.h"
 #include <stdio.h>
 #include <stdlib.h>
 #include <string.h>
+
+struct face {
+    uint32_t (*book_read)(const uint8_t *, uint64_t, uint32_t *, uint32_t *);
+    uint32_t (*book_write)(const uint32_t *, uint8_t *, uint64_t, uint32_t *);
+    uint32_t (*class_of)(uint32_t, uint32_t, uint32_t *, int64_t *);
+    uint32_t (*dash)(uint32_t, uint32_t, uint32_t *, double *);
+    uint32_t (*frame_read)(const uint32_t *, uint32_t, const uint8_t *, uint64_t, uint32_t *, uint64_t, uint8_t *, uint64_t, int64_t *, uint64_t, uint32_t *);
+    uint32_t (*frame_pack)(const uint32_t *, uint32_t, const uint32_t *, uint64_t, uint8_t *, uint64_t);
+    uint32_t (*spread)(const uint32_t *, uint32_t, uint32_t, uint32_t *, uint64_t, uint32_t *);
+    uint32_t (*fault_sum)(const uint32_t *, uint64_t, uint32_t *);
+    uint32_t (*power_step)(uint32_t *, const uint32_t *);
+    uint32_t (*power_step_by)(uint32_t *, const uint32_t *, uint32_t);
+    uint32_t (*sleep_watch)(uint32_t *, uint32_t *, uint32_t, uint32_t);
+};
+
+static const struct face library = { pc_book_read, pc_book_write, pc_class, pc_dash, pc_frame_read, pc_frame_pack, pc_spread, pc_fault_sum, pc_power_step, pc_power_step_by, pc_sleep_watch };
+static const struct face plain = { plain_book_read, plain_book_write, plain_class, plain_dash, plain_frame_read, plain_frame_pack, plain_spread, plain_fault_sum, plain_power_step, plain_power_step_by, plain_sleep_watch };
+
+static const struct face nothing = { no_book_read, no_book_write, no_class, no_dash, no_frame_read, no_frame_pack, no_spread, no_fault_sum, no_power_step, no_power_step_by, no_sleep_watch };
 
 /* The one that is measured. */
 static const struct face *face;
@@ -18,15 +38,15 @@ static struct made_text text;
 static uint32_t book[PC_BOOK_WORDS], message, first_signal, signal_count;
 static uint8_t frame[PC_FRAME_BYTES], written[PC_MOST_WRITTEN];
 static uint32_t values[PC_MOST_READINGS], raws[PC_MOST_READINGS], places[PC_MOST_ROUTES], counts[27];
-static uint8_t classes[PC_MOST_READINGS], gateways[PC_MOST_ROUTES];
+static uint8_t classes[PC_MOST_READINGS];
 static int64_t thousandths[PC_MOST_READINGS];
 
-/* The first book that chance makes of this size, the same whether its R lines name their gateway or not. */
-static void make_book(enum naming named, uint32_t messages, uint32_t signals, uint32_t routes) {
+/* The first book that chance makes of this size. */
+static void make_book(uint32_t messages, uint32_t signals, uint32_t routes) {
     struct chance c = { 2023 };
     uint32_t line;
     do
-        make_text(&text, &c, named, messages, signals, routes);
+        make_text(&text, &c, messages, signals, routes);
     while (plain_book_read(text.bytes, text.length, book, &line) != 0 || book[PC_BOOK_SIGNALS] != signals);
 }
 
@@ -76,18 +96,12 @@ static void choose_message(void) {
 static void no_book(void) {
 }
 static void typical_book(void) {
-    make_book(NO_GATEWAYS, 10, 60, 12);
+    make_book(10, 60, 12);
     choose_message();
 }
 static void full_book(void) {
-    make_book(NO_GATEWAYS, 64, 256, 64);
+    make_book(64, 256, 64);
     choose_message();
-}
-static void typical_gateways(void) {
-    make_book(ALL_GATEWAYS, 10, 60, 12);
-}
-static void full_gateways(void) {
-    make_book(ALL_GATEWAYS, 64, 256, 64);
 }
 static void thirty_bits(void) {
     make_thirty_bits();
@@ -152,14 +166,7 @@ static uint32_t call_frame_pack(uint32_t turn) {
 static uint32_t call_spread(uint32_t turn) {
     uint32_t count;
     uint32_t place = book[PC_BOOK_FROM + turn % book[PC_BOOK_ROUTES]];
-    return face->spread(book, PC_BUS(place), PC_IDENTIFIER(place), places, PC_MOST_ROUTES, gateways, PC_MOST_ROUTES, &count);
-}
-
-/* The same, by that route's gateway. */
-static uint32_t call_next_copies(uint32_t turn) {
-    uint32_t count;
-    uint32_t route = turn % book[PC_BOOK_ROUTES], place = book[PC_BOOK_FROM + route];
-    return face->next_copies(book, book[PC_BOOK_GATEWAYS + route], PC_BUS(place), PC_IDENTIFIER(place), places, PC_MOST_ROUTES, &count);
+    return face->spread(book, PC_BUS(place), PC_IDENTIFIER(place), places, PC_MOST_ROUTES, &count);
 }
 
 static uint32_t call_fault_sum(uint32_t turn) {
@@ -198,7 +205,6 @@ static const struct {
 } cases[] = {
     { "book-read-typical", typical_book, call_book_read },
     { "book-read-full", full_book, call_book_read },
-    { "book-read-gateways", full_gateways, call_book_read },
     { "book-read-30-bits", thirty_bits, call_book_read },
     { "book-read-loop", closed_chain, call_book_refused },
     { "book-read-doubling", double_chain, call_book_refused },
@@ -214,8 +220,6 @@ static const struct {
     { "dash", no_book, call_dash },
     { "spread-typical", typical_book, call_spread },
     { "spread-full", full_book, call_spread },
-    { "next-copies-typical", typical_gateways, call_next_copies },
-    { "next-copies-full", full_gateways, call_next_copies },
     { "fault-sum", some_faults, call_fault_sum },
     { "power-step", no_book, call_power_step },
     { "power-step-by", no_book, call_power_step_by },

@@ -11,10 +11,6 @@ static const char *const identifiers[] = {
     "1234567/", "1234567:", "1234567@", "1234567G", "/1234567", ":1234567", "@1234567", "G1234567", "1234567a", "1234 567",
 };
 static const char *const buses[] = { "0", "7", "8", "07", "00", "", "/", ":", "256", "65536", "99999", "100000", "0x1" };
-static const char *const gateways[] = {
-    "0", "1", "9", "10", "14", "15", "16", "17", "255", "256", "271", "1000", "9999", "65535", "65536", "65551", "99999", "100000", "00", "01", "015", "",
-    "/", ":", "1/", "1:", "-1", "+1", " 1", "1 ", "0x1", "F", "18FF21F3",
-};
 static const char *const numbers[] = {
     "0", "200", "201", "210", "211", "1307", "1308", "1401", "1501", "1927", "1928", "0201", "65737", "99999", "100000", "20/", "20:",
 };
@@ -31,11 +27,6 @@ static const struct {
     { "R\t0\t%s\t1\t18FF21F4\n", FIELDS(identifiers) },
     { "R\t0\t18FF21F3\t%s\t18FF21F4\n", FIELDS(buses) },
     { "R\t0\t18FF21F3\t1\t%s\n", FIELDS(identifiers) },
-    { "R\t%s\t0\t18FF21F3\t1\t18FF21F4\n", FIELDS(gateways) },
-    { "R\t15\t%s\t18FF21F3\t1\t18FF21F4\n", FIELDS(buses) },
-    { "R\t15\t0\t%s\t1\t18FF21F4\n", FIELDS(identifiers) },
-    { "R\t15\t0\t18FF21F3\t%s\t18FF21F4\n", FIELDS(buses) },
-    { "R\t15\t0\t18FF21F3\t1\t%s\n", FIELDS(identifiers) },
     { "M\t18FF21F3\nS\t%s\t0\n", FIELDS(numbers) },
     { "M\t18FF21F3\nS\t1915\t%s\n", FIELDS(starts) },
 };
@@ -52,15 +43,9 @@ static const char *const forms[] = {
     "R\t0\t18FF21F3\t1\n", "R\t0\t18FF21F3\t1\t18FF21F4\t\n", "Q\t0\t18FF21F3\t1\t18FF21F4\n", "R\t0\t18FF21F3\t0\t18FF21F3\n",
     "R\t0\t18FF21F3\t1\t18FF21F3\n", "R\t0\t18FF21F3\t0\t18FF21F4\n",
     "R\t0\t18FF21F3\t1\t18FF21F4\nR\t0\t18FF21F3\t1\t18FF21F4\n", "R\t0\t18FF21F3\t1\t18FF21F4\nR\t1\t18FF21F4\t0\t18FF21F3\n",
-    "R\n", "R\t\n", "R\t0\n", "R\t0\t18FF21F3\n", "R\t1\t0\t18FF21F3\t1\n", "R\t0\t18FF21F3\t1\t18FF21F4\t0\n",
-    "R\t0\t18FF21F3\t0\t1\t18FF21F4\n", "R\t18FF21F3\t0\t18FF21F3\t1\t18FF21F4\n", "R\t1\t0\t18FF21F3\t1\t18FF21F4\t\n",
-    "R\t1\t0\t18FF21F3\t1\t18FF21F4\t0\n", "R\t1\t1\t0\t18FF21F3\t1\t18FF21F4\n", "R\t1\t0\t18FF21F3\t1\t18FF21F4",
-    "R\t16\t0\t18FF21F3\t1\t18FF21FG\n", "R\t16\t8\t18FF21F3\t1\t18FF21F4\n", "r\t1\t0\t18FF21F3\t1\t18FF21F4\n",
-    "R\t1\t0\t18FF21F3\t1\t18FF21F4\nR\t2\t0\t18FF21F3\t1\t18FF21F4\n", "R\t1\t0\t18FF21F3\t1\t18FF21F4\nR\t2\t1\t18FF21F4\t0\t18FF21F3\n",
-    "R\t0\t18FF21F3\t1\t18FF21F4\nR\t15\t1\t18FF21F4\t2\t18FF21F3\nR\t2\t18FF21F3\t3\t18FF21F3\n",
 };
 
-typedef char fields_counted[EDGE_FIELDS == 5 * COUNT(identifiers) + 4 * COUNT(buses) + COUNT(gateways) + COUNT(numbers) + COUNT(starts) ? 1 : -1];
+typedef char fields_counted[EDGE_FIELDS == 3 * COUNT(identifiers) + 2 * COUNT(buses) + COUNT(numbers) + COUNT(starts) ? 1 : -1];
 typedef char forms_counted[EDGE_FORMS == COUNT(forms) ? 1 : -1];
 
 /* Of each signal four: one that just ends at frame bit 63 or goes one over, one whose last bit another just misses or meets. */
@@ -115,11 +100,9 @@ uint32_t make_full_text(struct made_text *text, struct chance *c, uint32_t which
         { "M\t00000000\n", PC_TABLE_FULL }, { "M\t20000000\n", PC_OVER_LIMIT }, { "M", PC_MESSAGE_REPEATED }, { "S\t200\t0\n", PC_OVER_LIMIT },
         { "S", PC_SIGNAL_REPEATED }, { "S\t503\t59\n", PC_SIGNAL_MISPLACED }, { "S\t504\t57\n", PC_SIGNAL_MISPLACED },
         { "R\t0\t00000000\t0\t00000001\n", PC_TABLE_FULL }, { "R\t8\t00000000\t0\t00000001\n", PC_OVER_LIMIT },
-        { "R\t15\t0\t00000000\t0\t00000001\n", PC_TABLE_FULL }, { "R\t16\t0\t00000000\t0\t00000001\n", PC_OVER_LIMIT },
-        { "R\t16\t00000000\t0\t00000001\n", PC_OVER_LIMIT },
     };
     const char *line = more[which].line;
-    make_text(text, c, (enum naming)chance_below(c, NAMINGS), PC_MOST_MESSAGES, PC_MOST_SIGNALS, PC_MOST_ROUTES);
+    make_text(text, c, PC_MOST_MESSAGES, PC_MOST_SIGNALS, PC_MOST_ROUTES);
     if (line[1] == 0)
         repeat_line(text, (uint8_t)line[0]);
     else

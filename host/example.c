@@ -7,15 +7,32 @@
 #include <stdio.h>
 #include <string.h>
 
-/* ---- What stands in for the drivers and for flash, where the book is that the truck's two gateways share. */
+/* ---- What stands in for the drivers and for flash. */
 
-static const char stored_book[] = "M\t18FF21F3\nS\t203\t0\nS\t204\t16\n"
-                                  "M\t18FF22F3\nS\t302\t0\nS\t303\t2\nS\t301\t4\nS\t201\t8\nS\t202\t24\n"
-                                  "M\t18FF31D0\nS\t501\t0\nS\t502\t2\nS\t504\t56\nS\t503\t60\n"
-                                  "M\t18FF31EF\nS\t501\t0\nS\t502\t2\nS\t504\t56\nS\t503\t60\n"
-                                  "R\t1\t0\t18FFFAF3\t1\t18FFFAF3\n"
-                                  "R\t1\t0\t18FF21F3\t1\t18FF21F3\nR\t2\t1\t18FF21F3\t2\t18FF21D0\n"
-                                  "R\t1\t1\t18FF31D0\t0\t18FF31D0\nR\t1\t0\t18FF31D0\t2\t18FF31EF\n";
+static const char stored_book[] = "M\t18FF21F3\n"
+                                  "S\t203\t0\n"
+                                  "S\t204\t16\n"
+                                  "M\t18FF22F3\n"
+                                  "S\t302\t0\n"
+                                  "S\t303\t2\n"
+                                  "S\t301\t4\n"
+                                  "S\t201\t8\n"
+                                  "S\t202\t24\n"
+                                  "M\t18FF31D0\n"
+                                  "S\t501\t0\n"
+                                  "S\t502\t2\n"
+                                  "S\t504\t56\n"
+                                  "S\t503\t60\n"
+                                  "M\t18FF31EF\n"
+                                  "S\t501\t0\n"
+                                  "S\t502\t2\n"
+                                  "S\t504\t56\n"
+                                  "S\t503\t60\n"
+                                  "R\t0\t18FFFAF3\t1\t18FFFAF3\n"
+                                  "R\t0\t18FF21F3\t1\t18FF21F3\n"
+                                  "R\t1\t18FF21F3\t2\t18FF21D0\n"
+                                  "R\t1\t18FF31D0\t0\t18FF31D0\n"
+                                  "R\t0\t18FF31D0\t2\t18FF31EF\n";
 
 /* The identifier that a Linux socket gives and takes (can_id of linux/can.h): flags above the identifier's own bits. */
 #define SOCKET_29_BITS 0x80000000u /* CAN_EFF_FLAG: an extended frame; without it the identifier has 11 bits */
@@ -37,8 +54,8 @@ static uint32_t books[2][PC_BOOK_WORDS], *book = books[0], damaged;
 static uint32_t seen[PC_POWER_WORDS] = { 1, 1, 1, 0, 0, 20000, 0, 0 }; /* all relays open, 0 A, 0 V */
 static uint32_t power = PC_POWER_START, last_wake, asleep;
 
-/* This gateway's number in the book; the share of the voltage inside, in hundredths, that precharge has to reach on this truck. */
-enum { GATEWAY = 1, SHARE = 95 };
+/* The share of the voltage inside, in hundredths, that precharge has to reach on this truck. pc_power_step gives none: 90. */
+enum { SHARE = 95 };
 
 /* Counts a refusal; 12 says that the book's memory was damaged, and the main loop reads the text again. */
 static void count_refusal(const char *call, uint32_t refusal) {
@@ -127,32 +144,27 @@ static uint32_t pack_anew(const struct came *frame, uint32_t identifier, uint8_t
    identifier is packed anew, and where that is refused, it is counted and not sent there. */
 static void hand_on(const struct came *frame, uint32_t place) {
     uint8_t packed[PC_FRAME_BYTES];
-    uint32_t refusal = PC_DONE, anew = frame->has_checksum && PC_IDENTIFIER(place) != frame->identifier;
-    if (anew)
-        refusal = pack_anew(frame, PC_IDENTIFIER(place), packed);
+    uint32_t refusal;
+    if (!frame->has_checksum || PC_IDENTIFIER(place) == frame->identifier) {
+        send_frame(place, frame->bytes, frame->length);
+        return;
+    }
+    refusal = pack_anew(frame, PC_IDENTIFIER(place), packed);
     if (refusal)
         count_refusal("pc_frame_pack", refusal);
     else
-        send_frame(place, anew ? packed : frame->bytes, anew ? sizeof packed : frame->length);
+        send_frame(place, packed, sizeof packed);
 }
 
-/* Every place to which this gateway sends a frame that came in: its copies and, since no socket hands back what was sent there, its copies
-   of those. It ends, and all have room: a taken book has no loop, and a frame reaches at most PC_MOST_ROUTES places. */
-static uint32_t own_copies(uint32_t bus, uint32_t identifier, uint32_t places[PC_MOST_ROUTES], uint32_t *count) {
-    uint32_t more = 0, refusal = pc_next_copies(book, GATEWAY, bus, identifier, places, PC_MOST_ROUTES, count);
-    for (uint32_t i = 0; refusal == PC_DONE && i < *count; i++, *count += more)
-        refusal = pc_next_copies(book, GATEWAY, PC_BUS(places[i]), PC_IDENTIFIER(places[i]), places + *count, PC_MOST_ROUTES - *count, &more);
-    return refusal;
-}
-
-/* The receive handler. It asks for the copies first, since a frame that can't be read may have routes all the same: a short
+/* The receive handler. It asks for the spread first, since a frame that can't be read may have routes all the same: a short
    one (21) is counted and handed on as it came, and one without a message in the book (22) is only handed on. Two refusals of
    a reading stop the frame: a wrong checksum (23), and a book that is none (12), by which nothing is handed on. */
 static void on_receive(uint32_t bus, uint32_t identifier, const uint8_t *bytes, uint32_t length) {
     struct came frame = { identifier, bytes, length, { 0 }, 0, 0 };
-    uint32_t places[PC_MOST_ROUTES], count, refusal = own_copies(bus, identifier, places, &count);
+    uint32_t places[PC_MOST_ROUTES], count;
+    uint32_t refusal = pc_spread(book, bus, identifier, places, PC_MOST_ROUTES, &count);
     if (refusal) {
-        count_refusal("pc_next_copies", refusal);
+        count_refusal("pc_spread", refusal);
         return;
     }
     refusal = read_frame(&frame);
@@ -162,17 +174,6 @@ static void on_receive(uint32_t bus, uint32_t identifier, const uint8_t *bytes, 
         return;
     for (uint32_t i = 0; i < count; i++)
         hand_on(&frame, places[i]);
-}
-
-/* Tells a fitter where a frame goes, whoever hands it on, and which gateway makes each copy: the box to open where it is missing. */
-static void tell_spread(uint32_t bus, uint32_t identifier) {
-    uint32_t places[PC_MOST_ROUTES], count = 0;
-    uint8_t gateways[PC_MOST_ROUTES];
-    uint32_t refusal = pc_spread(book, bus, identifier, places, PC_MOST_ROUTES, gateways, PC_MOST_ROUTES, &count);
-    if (refusal)
-        count_refusal("pc_spread", refusal);
-    for (uint32_t i = 0; i < count; i++)
-        printf("%08" PRIX32 " goes to bus %" PRIu32 " as %08" PRIX32 " by gateway %u\n", identifier, PC_BUS(places[i]), PC_IDENTIFIER(places[i]), gateways[i]);
 }
 
 /* What a socket gives. Only data frames with 29 bits go into the library, and without the flags. */
@@ -224,11 +225,10 @@ int main(void) {
         return 1;
     pc_sleep_start(&last_wake, &asleep, 0);
 
-    tell_spread(0, 0x18FF21F3);                        /* two copies, each by another gateway */
-    on_socket(0, 0x98FF21F3, current, sizeof current); /* read, and handed on to one place: the other copy is not this gateway's */
+    on_socket(0, 0x98FF21F3, current, sizeof current); /* read, and handed on to two places */
     on_socket(0, 0x98FF21F3, current, 5);              /* 21: counted, and handed on as it came */
     on_socket(0, 0x98FFFAF3, current, sizeof current); /* 22: no message, handed on */
-    on_socket(1, 0x98FF31D0, locked, sizeof locked);   /* a checksum that is right; two copies, packed anew where it is renamed */
+    on_socket(1, 0x98FF31D0, locked, sizeof locked);   /* a checksum that is right; packed anew where it is renamed */
     on_socket(1, 0x98FF31D0, spoilt, sizeof spoilt);   /* 23: counted, not handed on */
     on_socket(1, 0x98FF31D0, no_lock, sizeof no_lock); /* 501 is reserved, which is not packed: 27 where it is renamed */
     on_socket(0, 0x00000123, current, sizeof current); /* an identifier of 11 bits */
@@ -243,7 +243,7 @@ int main(void) {
     book[PC_BOOK_SIGNALS] = PC_MOST_SIGNALS + 1;       /* 12 from the reading: counted, not handed on */
     on_socket(0, 0x98FF21F3, current, sizeof current);
     turn(30, 0);
-    book[PC_BOOK_GATEWAYS] = PC_GATEWAYS;              /* 12 from the copies: the same, and nothing is read */
+    book[PC_BOOK_ROUTES] = PC_MOST_ROUTES + 1;         /* 12 from the spread: the same, and nothing is read */
     on_socket(0, 0x98FF21F3, current, sizeof current);
     turn(10010, 0);
     return 0;

@@ -1,22 +1,21 @@
-/* The cases that lend a book, for host/vectors.c: frames read and packed, the spread, a gateway's next copies and the text, and entries of
-   the book set. */
+/* The cases that lend a book, for host/vectors.c: frames read and packed, the spread and the text, and entries of the book set. */
 #ifndef LENT_CASES_H
 #define LENT_CASES_H
 
 #include "case_input.h"
 #include <string.h>
 
-static void print_spread(uint32_t bus, uint32_t identifier, uint32_t places_room, uint32_t gateways_room, const char *word) {
-    uint32_t places[256], count;
-    uint8_t gateways[256];
-    uint32_t refusal = FACE(spread)(book, bus, identifier, places, places_room, gateways, gateways_room, &count);
+static void print_spread(uint32_t bus, uint32_t identifier, uint32_t room, const char *word) {
+    uint32_t places[256];
+    uint32_t count;
+    uint32_t refusal = FACE(spread)(book, bus, identifier, places, room, &count);
     if (refusal) {
         print_refusal(refusal);
         return;
     }
     printf("%s\t%" PRIu32, word, count);
     for (uint32_t i = 0; i < count; i++)
-        printf("\t%08" PRIX32 "\t%u", places[i], gateways[i]);
+        printf("\t%08" PRIX32, places[i]);
     printf("\n");
 }
 
@@ -57,23 +56,9 @@ static void pack_case(void) {
 }
 
 static void spread_case(void) {
-    uint32_t bus = hex(8), identifier = hex(8), places_room = hex(2), gateways_room = hex(2);
+    uint32_t bus = hex(8), identifier = hex(8), room = hex(2);
     end_of_line();
-    print_spread(bus, identifier, places_room, gateways_room, "spread");
-}
-
-static void copies_case(void) {
-    uint32_t gateway = hex(8), bus = hex(8), identifier = hex(8), room = hex(2), places[256], count;
-    end_of_line();
-    uint32_t refusal = FACE(next_copies)(book, gateway, bus, identifier, places, room, &count);
-    if (refusal) {
-        print_refusal(refusal);
-        return;
-    }
-    printf("copies\t%" PRIu32, count);
-    for (uint32_t i = 0; i < count; i++)
-        printf("\t%08" PRIX32, places[i]);
-    printf("\n");
+    print_spread(bus, identifier, room, "spread");
 }
 
 /* Asks for the book's text with a room of so many bytes, filled before with one that no text has, and counts those that stayed. */
@@ -101,7 +86,6 @@ static void damage_book(void) {
     static const struct { char letter; int first; } columns[] = {
         { 'M', PC_BOOK_MESSAGES }, { 'S', PC_BOOK_SIGNALS }, { 'R', PC_BOOK_ROUTES }, { 'I', PC_BOOK_IDENTIFIERS },
         { 'E', PC_BOOK_ENDS }, { 'N', PC_BOOK_NUMBERS }, { 'T', PC_BOOK_STARTS }, { 'F', PC_BOOK_FROM }, { 'G', PC_BOOK_TO },
-        { 'C', PC_BOOK_GATEWAYS },
     };
     char letter = (char)input[at++];
     uint32_t index = hex(2), value = hex(8);
@@ -120,9 +104,6 @@ static void lent_book_case(void) {
         return;
     case 'F':
         read_case();
-        return;
-    case 'N':
-        copies_case();
         return;
     case 'P':
         pack_case();

@@ -44,19 +44,10 @@ static uint32_t append_message(struct made_text *text, struct chance *c, uint32_
     return count;
 }
 
-/* The places that routes are made over, and the gateways that carry them: all sixteen, or up to three. */
+/* The places that routes are made over. */
 struct map {
-    uint32_t places[PLACES], count, first_gateway, gateways;
-    enum naming named;
-    struct chance naming;         /* apart, so that the routes are the same whichever name their gateway */
+    uint32_t places[PLACES], count;
 };
-
-static struct map new_map(const struct chance *c, enum naming named) {
-    struct map map = { .count = 0, .named = named, .naming = { ~c->state } };
-    map.first_gateway = chance_below(&map.naming, PC_GATEWAYS);
-    map.gateways = one_in(&map.naming, 2) ? PC_GATEWAYS : 1 + chance_below(&map.naming, 3);
-    return map;
-}
 
 static uint32_t any_place(struct map *map, struct chance *c) {
     return map->places[chance_below(c, map->count)];
@@ -70,22 +61,19 @@ static uint32_t new_place(struct map *map, struct chance *c) {
     return place;
 }
 
-static void append_route(struct made_text *text, struct map *map, uint32_t from, uint32_t to) {
-    append(text, "R\t");
-    if (map->named == ALL_GATEWAYS || (map->named == SOME_GATEWAYS && one_in(&map->naming, 2)))
-        append(text, "%" PRIu32 "\t", (map->first_gateway + chance_below(&map->naming, map->gateways)) % PC_GATEWAYS);
-    append(text, "%" PRIu32 "\t%08" PRIX32 "\t%" PRIu32 "\t%08" PRIX32 "\n", PC_BUS(from), PC_IDENTIFIER(from), PC_BUS(to), PC_IDENTIFIER(to));
+static void append_route(struct made_text *text, uint32_t from, uint32_t to) {
+    append(text, "R\t%" PRIu32 "\t%08" PRIX32 "\t%" PRIu32 "\t%08" PRIX32 "\n", PC_BUS(from), PC_IDENTIFIER(from), PC_BUS(to), PC_IDENTIFIER(to));
 }
 
 /* Mostly to a new place, which makes no loop and no doubling; at times between two places there are. */
 static void append_any_route(struct made_text *text, struct map *map, struct chance *c) {
     uint32_t from = one_in(c, 6) ? new_place(map, c) : any_place(map, c);
     uint32_t to = one_in(c, 32) ? any_place(map, c) : new_place(map, c);
-    append_route(text, map, from, to);
+    append_route(text, from, to);
 }
 
-void make_text(struct made_text *text, struct chance *c, enum naming named, uint32_t messages, uint32_t signals, uint32_t routes) {
-    struct map map = new_map(c, named);
+void make_text(struct made_text *text, struct chance *c, uint32_t messages, uint32_t signals, uint32_t routes) {
+    struct map map = { .count = 0 };
     uint32_t wanted = signals, left = routes, base = 0x18FF0000 + chance_below(c, 0x8000);
     text->length = 0;
     new_place(&map, c);
@@ -108,12 +96,11 @@ void knot_route(struct chance *c, int onward, uint32_t *from, uint32_t *to) {
     *to = PC_PLACE(second % 2, second / 2);
 }
 
-void make_knot(struct made_text *text, struct chance *c, enum naming named, uint32_t routes, int onward) {
-    struct map map = new_map(c, named);
+void make_knot(struct made_text *text, struct chance *c, uint32_t routes, int onward) {
     uint32_t from, to;
     for (text->length = 0; routes > 0; routes--) {
         knot_route(c, onward, &from, &to);
-        append_route(text, &map, from, to);
+        append_route(text, from, to);
     }
 }
 
@@ -130,11 +117,10 @@ static int odd_line(struct chance *c, char line[64]) {
     static const char *const numbers[] = { "203", "204", "503", "504", "211", "1401", "1928", "0", "0203", "99999", "1927" };
     static const char *const identifiers[] = { "18FF21F3", "1FFFFFFF", "20000000", "FFFFFFFF", "18ff21f3", "8FF21F3", "018FF21F3", "00000000", "18FF21FG" };
     static const char *const buses[] = { "0", "1", "7", "8", "07", "10", "" };
-    static const char *const gateways[] = { "0", "9", "10", "15", "16", "15", "00", "015", "99999", "100000", "", "x", "18FF21F3" };
     static const char *const ends[] = { "\n", "\n", "\n", "\n", "\t\n", "\r\n", " \n", "", "\n\n", "\t0\n" };
 #define ANY(list) list[chance_below(c, sizeof list / sizeof *list)]
-    uint32_t form = chance_below(c, 5), kind = (uint8_t)"MSRsT1\t"[chance_below(c, 7)];
-    const char *start = ANY(starts), *number = ANY(numbers), *from_bus = ANY(buses), *to_bus = ANY(buses), *gateway = ANY(gateways);
+    uint32_t form = chance_below(c, 4), kind = (uint8_t)"MSRsT1\t"[chance_below(c, 7)];
+    const char *start = ANY(starts), *number = ANY(numbers), *from_bus = ANY(buses), *to_bus = ANY(buses);
     const char *from = ANY(identifiers), *to = ANY(identifiers), *end = ANY(ends);
 #undef ANY
     switch (form) {
@@ -144,8 +130,6 @@ static int odd_line(struct chance *c, char line[64]) {
         return sprintf(line, "S\t%s\t%s%s", number, start, end);
     case 2:
         return sprintf(line, "R\t%s\t%s\t%s\t%s%s", from_bus, from, to_bus, to, end);
-    case 3:
-        return sprintf(line, "R\t%s\t%s\t%s\t%s\t%s%s", gateway, from_bus, from, to_bus, to, end);
     default:
         return sprintf(line, "%c\t%s%s", (int)kind, from, end);
     }
@@ -162,12 +146,6 @@ static void insert(struct made_text *text, size_t at, const void *bytes, size_t 
 static void cut(struct made_text *text, size_t at, size_t count) {
     memmove(text->bytes + at, text->bytes + at + count, text->length - at - count);
     text->length -= count;
-}
-
-void name_gateway_0(struct made_text *text) {
-    for (size_t at = 0; at + 1 < text->length; at++)
-        if ((at == 0 || text->bytes[at - 1] == '\n') && text->bytes[at] == 'R' && text->bytes[at + 1] == '\t')
-            insert(text, at + 2, "0\t", 2);
 }
 
 /* Where a line of the text begins, and how long it is with its newline. */

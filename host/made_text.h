@@ -11,21 +11,15 @@ struct made_text {
     size_t length;
 };
 
-/* Which R lines of a text name their gateway. */
-enum naming { NO_GATEWAYS, SOME_GATEWAYS, ALL_GATEWAYS, NAMINGS };
-
 /* A text of about so many lines of each kind. Its messages are as a planner would have them; its routes are mostly without
-   loops and doubling, and the same whichever name their gateway. It is mostly taken. */
-void make_text(struct made_text *text, struct chance *c, enum naming named, uint32_t messages, uint32_t signals, uint32_t routes);
+   loops and doubling. It is mostly taken. */
+void make_text(struct made_text *text, struct chance *c, uint32_t messages, uint32_t signals, uint32_t routes);
 
 /* A route between two of six places, the place 0 among them; onward: only to a later one, so that no chain closes. */
 void knot_route(struct chance *c, int onward, uint32_t *from, uint32_t *to);
 
 /* A text of so many such routes, which mostly loop or double. */
-void make_knot(struct made_text *text, struct chance *c, enum naming named, uint32_t routes, int onward);
-
-/* The same text with gateway 0 before the values of each R line. */
-void name_gateway_0(struct made_text *text);
+void make_knot(struct made_text *text, struct chance *c, uint32_t routes, int onward);
 
 /* The same text with one thing changed: a byte, a line, the end, or a line more. */
 void damage_text(struct made_text *text, struct chance *c);

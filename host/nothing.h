@@ -28,12 +28,8 @@ static uint32_t no_frame_pack(const uint32_t *a, uint32_t b, const uint32_t *c, 
     (void)a, (void)b, (void)c, (void)d, (void)e, (void)f;
     return 0;
 }
-static uint32_t no_spread(const uint32_t *a, uint32_t b, uint32_t c, uint32_t *d, uint64_t e, uint8_t *f, uint64_t g, uint32_t *h) {
-    (void)a, (void)b, (void)c, (void)d, (void)e, (void)f, (void)g, (void)h;
-    return 0;
-}
-static uint32_t no_next_copies(const uint32_t *a, uint32_t b, uint32_t c, uint32_t d, uint32_t *e, uint64_t f, uint32_t *g) {
-    (void)a, (void)b, (void)c, (void)d, (void)e, (void)f, (void)g;
+static uint32_t no_spread(const uint32_t *a, uint32_t b, uint32_t c, uint32_t *d, uint64_t e, uint32_t *f) {
+    (void)a, (void)b, (void)c, (void)d, (void)e, (void)f;
     return 0;
 }
 static uint32_t no_fault_sum(const uint32_t *a, uint64_t b, uint32_t *c) {

@@ -15,9 +15,7 @@ uint32_t plain_frame_read(const uint32_t book[PC_BOOK_WORDS], uint32_t identifie
 uint32_t plain_frame_pack(const uint32_t book[PC_BOOK_WORDS], uint32_t identifier, const uint32_t *values,
                           uint64_t values_length, uint8_t *frame, uint64_t frame_length);
 uint32_t plain_spread(const uint32_t book[PC_BOOK_WORDS], uint32_t bus, uint32_t identifier, uint32_t *places,
-                      uint64_t places_length, uint8_t *gateways, uint64_t gateways_length, uint32_t *count);
-uint32_t plain_next_copies(const uint32_t book[PC_BOOK_WORDS], uint32_t gateway, uint32_t bus, uint32_t identifier,
-                           uint32_t *places, uint64_t places_length, uint32_t *count);
+                      uint64_t places_length, uint32_t *count);
 uint32_t plain_fault_sum(const uint32_t *counts, uint64_t counts_length, uint32_t sum[PC_FAULT_WORDS]);
 uint32_t plain_power_step(uint32_t *state, const uint32_t seen[PC_POWER_WORDS]);
 uint32_t plain_power_step_by(uint32_t *state, const uint32_t seen[PC_POWER_WORDS], uint32_t share);

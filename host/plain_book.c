@@ -8,16 +8,13 @@ struct part {
     size_t length;
 };
 
-/* The most fields that a line has. */
-enum { FIELDS = 6 };
-
 /* Parts a line at its tabs. Gives the count of fields, which may be more than fit. */
-static unsigned fields_of(const uint8_t *line, size_t length, struct part fields[FIELDS]) {
+static unsigned fields_of(const uint8_t *line, size_t length, struct part fields[5]) {
     unsigned count = 0;
     size_t begin = 0;
     for (size_t i = 0; i <= length; i++)
         if (i == length || line[i] == '\t') {
-            if (count < FIELDS) {
+            if (count < 5) {
                 fields[count].bytes = line + begin;
                 fields[count].length = i - begin;
             }
@@ -125,29 +122,24 @@ static uint32_t add_signal(struct reading *r, const struct part *fields, unsigne
     return PC_DONE;
 }
 
-/* The two places, and the gateway before them where there is one. */
 static uint32_t add_route(struct reading *r, const struct part *fields, unsigned count, uint32_t line) {
-    uint32_t gateway = 0, from_bus, from, to_bus, to, routes = r->book[PC_BOOK_ROUTES];
-    if (count != FIELDS - 1 && count != FIELDS)
+    uint32_t from_bus, from, to_bus, to, routes = r->book[PC_BOOK_ROUTES];
+    if (count != 5 || !number_in(fields[1], &from_bus) || !identifier_in(fields[2], &from) ||
+        !number_in(fields[3], &to_bus) || !identifier_in(fields[4], &to))
         return PC_LINE_FORM;
-    const struct part *places = fields + count - 4;
-    if ((count == FIELDS && !number_in(fields[1], &gateway)) || !number_in(places[0], &from_bus) ||
-        !identifier_in(places[1], &from) || !number_in(places[2], &to_bus) || !identifier_in(places[3], &to))
-        return PC_LINE_FORM;
-    if (gateway >= PC_GATEWAYS || from_bus > 7 || to_bus > 7 || !identifier_fits(from) || !identifier_fits(to))
+    if (from_bus > 7 || to_bus > 7 || !identifier_fits(from) || !identifier_fits(to))
         return PC_OVER_LIMIT;
     if (routes == PC_MOST_ROUTES)
         return PC_TABLE_FULL;
     r->book[PC_BOOK_FROM + routes] = PC_PLACE(from_bus, from);
     r->book[PC_BOOK_TO + routes] = PC_PLACE(to_bus, to);
-    r->book[PC_BOOK_GATEWAYS + routes] = gateway;
     r->book[PC_BOOK_ROUTES]++;
     r->line_of_route[routes] = line;
     return PC_DONE;
 }
 
 static uint32_t add_line(struct reading *r, const uint8_t *bytes, size_t length, uint32_t line) {
-    struct part fields[FIELDS];
+    struct part fields[5];
     unsigned count = fields_of(bytes, length, fields);
     if (fields[0].length != 1)
         return PC_LINE_FORM;

@@ -1,21 +1,19 @@
 /* The book writer: the length of the text first, then its lines, straight into the room. */
 #include "plain.h"
 
-/* The bytes of an M line, those of an S line beside its two numbers, and those of an R line beside its gateway. */
-enum { MESSAGE_LINE = 11, SIGNAL_LINE = 4, ROUTE_LINE = 25 };
+/* The bytes of an M line and of an R line, and those of an S line beside its two numbers. */
+enum { MESSAGE_LINE = 11, ROUTE_LINE = 24, SIGNAL_LINE = 4 };
 
-/* Of a signal's number or start or a gateway, which have at most four digits. */
+/* Of a signal's number or start, which have at most four digits. */
 static uint32_t digits_of(uint32_t number) {
     return number < 10 ? 1 : number < 100 ? 2 : number < 1000 ? 3 : 4;
 }
 
 static uint32_t length_of(const uint32_t book[PC_BOOK_WORDS]) {
-    uint32_t signals = book[PC_BOOK_SIGNALS], routes = book[PC_BOOK_ROUTES];
-    uint32_t length = MESSAGE_LINE * book[PC_BOOK_MESSAGES] + SIGNAL_LINE * signals + ROUTE_LINE * routes;
+    uint32_t signals = book[PC_BOOK_SIGNALS];
+    uint32_t length = MESSAGE_LINE * book[PC_BOOK_MESSAGES] + SIGNAL_LINE * signals + ROUTE_LINE * book[PC_BOOK_ROUTES];
     for (uint32_t i = 0; i < signals; i++)
         length += digits_of(book[PC_BOOK_NUMBERS + i]) + digits_of(book[PC_BOOK_STARTS + i]);
-    for (uint32_t i = 0; i < routes; i++)
-        length += digits_of(book[PC_BOOK_GATEWAYS + i]);
     return length;
 }
 
@@ -60,10 +58,8 @@ static uint8_t *put_signal(uint8_t *at, uint32_t number, uint32_t start) {
     return at;
 }
 
-static uint8_t *put_route(uint8_t *at, uint32_t gateway, uint32_t from, uint32_t to) {
+static uint8_t *put_route(uint8_t *at, uint32_t from, uint32_t to) {
     *at++ = 'R';
-    *at++ = '\t';
-    at = put_number(at, gateway);
     at = put_place(at, from);
     at = put_place(at, to);
     *at++ = '\n';
@@ -82,7 +78,7 @@ static uint8_t *put_messages(uint8_t *at, const uint32_t book[PC_BOOK_WORDS]) {
 
 static uint8_t *put_routes(uint8_t *at, const uint32_t book[PC_BOOK_WORDS]) {
     for (uint32_t i = 0; i < book[PC_BOOK_ROUTES]; i++)
-        at = put_route(at, book[PC_BOOK_GATEWAYS + i], book[PC_BOOK_FROM + i], book[PC_BOOK_TO + i]);
+        at = put_route(at, book[PC_BOOK_FROM + i], book[PC_BOOK_TO + i]);
     return at;
 }
 

@@ -7,7 +7,6 @@
 #define plain_frame_read pc_frame_read
 #define plain_frame_pack pc_frame_pack
 #define plain_spread pc_spread
-#define plain_next_copies pc_next_copies
 #define plain_fault_sum pc_fault_sum
 #define plain_power_step pc_power_step
 #define plain_power_step_by pc_power_step_by

@@ -18,7 +18,6 @@ static const struct {
     { "pc_frame_read", { 0, 12, 21, 22, 23, 24, -1 } },
     { "pc_frame_pack", { 0, 12, 21, 22, 25, 26, 27, -1 } },
     { "pc_spread", { 0, 12, 61, 62, -1 } },
-    { "pc_next_copies", { 0, 3, 12, 61, 62, -1 } },
     { "pc_fault_sum", { 0, 31, 32, -1 } },
     { "pc_power_step", { 0, 41, 42, 43, 91, -1 } },
     { "pc_power_step_by", { 0, 41, 42, 43, 44, 91, -1 } },
@@ -104,11 +103,6 @@ void judge(uint32_t library, uint32_t plain, int read_only) {
     met[calling][library]++;
 }
 
-void judge_behind(const struct lent *block, size_t bytes) {
-    if (memcmp((const uint8_t *)lent_was(block) + bytes, (const uint8_t *)lent_plain(block) + bytes, block->bytes - bytes) != 0)
-        fail_case("the room behind what there is was written", block->name);
-}
-
 /* The machine stopped a call in a closed stretch, or elsewhere. */
 static void stopped(const void *address) {
     for (int i = 0; i < used; i++) {
@@ -134,12 +128,8 @@ static void try_group(void) {
         try_power_step();
         try_sleep();
     }
-    for (int i = 0; i < 10; i++) {
+    for (int i = 0; i < 10; i++)
         try_spread();
-        try_next_copies();
-    }
-    try_lent_gateway();
-    try_full_routes();
     for (int i = 0; i < 4; i++) {
         try_book_write();
         try_row_in_frame();

@@ -18,7 +18,7 @@ uint32_t any_number(void);
 
 /* ---- A case: begun, lent to, judged. */
 
-enum function { BOOK_READ, BOOK_WRITE, CLASS, DASH, FRAME_READ, FRAME_PACK, SPREAD, NEXT_COPIES, FAULT_SUM, POWER_STEP, POWER_STEP_BY, SLEEP_START, SLEEP_WATCH, FUNCTIONS };
+enum function { BOOK_READ, BOOK_WRITE, CLASS, DASH, FRAME_READ, FRAME_PACK, SPREAD, FAULT_SUM, POWER_STEP, POWER_STEP_BY, SLEEP_START, SLEEP_WATCH, FUNCTIONS };
 
 void begin_case(enum function f);
 
@@ -35,17 +35,13 @@ struct lent *lend_bytes(const char *name, const void *contents, size_t bytes);
    apart. */
 void judge(uint32_t library, uint32_t plain, int read_only);
 
-/* Ends the run where the block was written behind its first so many bytes, which may be. After judge. */
-void judge_behind(const struct lent *block, size_t bytes);
-
 /* Ends the run and says what is wrong, and with which block where the name is not empty. */
 void fail_case(const char *what, const char *name);
 
 /* ---- Edges (test_edges.c): inputs that tell a rule from one that is off by one. Each family of them is counted one by one. */
 
 enum edges {
-    LONG_LENGTHS, TEXT_LENGTHS, FULL_TABLES, FULL_LINES, EDGE_LINES, KNOTS, GATEWAYS_READ, GATEWAYS_0, BOOK_COUNTS, LENT_EDGES, LENT_GATEWAYS, FULL_SPREADS,
-    SPREAD_ROOMS, SPREAD_PLACES, SPREAD_GATEWAYS, COPIES_ROOMS, COPIES_PLACES, COPIES_GATEWAYS, COPIES_ORDER,
+    LONG_LENGTHS, TEXT_LENGTHS, FULL_TABLES, FULL_LINES, EDGE_LINES, KNOTS, BOOK_COUNTS, LENT_EDGES, SPREAD_ROOMS, SPREAD_PLACES,
     WRITE_COUNTS, WRITE_ROOMS, WRITE_BOOKS, WRITE_REFUSED, WRITE_LONGEST,
     ROW_COUNTS, ROW_FRAMES, SIGNAL_NUMBERS, READ_ROOMS, CHECKS, FRAME_LENGTHS, PACK_LENGTHS, PACK_COUNTS, FRAME_PLACES,
     FAULT_ALONE, FAULT_LIMITS, FAULT_LENGTHS, FAULT_AGREEMENT,
@@ -58,9 +54,6 @@ enum { ROW_EDGES = 6 + 3 * 4 };
 
 /* Books of one message with one signal, lent: identifiers, each signal's starts, numbers of signals and between. */
 enum { LENT_IDENTIFIERS = 4, LENT_STARTS = 4 * PLAIN_ROWS, LENT_NUMBERS = 2048, LENT_BOOKS = LENT_IDENTIFIERS + LENT_STARTS + LENT_NUMBERS };
-
-/* Books of some routes, one of whose gateways is set: the numbers that it is set to, and where it stands. */
-enum { GATEWAY_NUMBERS = 16 + 28 + 8, GATEWAY_BOOKS = 4 * GATEWAY_NUMBERS };
 
 void meet(enum edges family, uint32_t which);
 
@@ -97,9 +90,6 @@ void meet_count(enum edges family, const uint32_t book[PC_BOOK_WORDS], uint32_t 
 void try_long_length(void);
 void try_texts(void);
 void try_spread(void);
-void try_next_copies(void);
-void try_lent_gateway(void);
-void try_full_routes(void);
 void try_book_write(void);
 void try_longest_text(void);
 void try_classes(void);

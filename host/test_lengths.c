@@ -3,15 +3,14 @@
 #include "test.h"
 
 /* A book with one message of one signal, and one route. */
-static const char text[] = "M\t18FF21F3\nS\t203\t0\nR\t12\t0\t18FF21F3\t1\t18FF21F3\n";
-enum { TEXT = sizeof text - 1, IDENTIFIER = 0x18FF21F3, GATEWAY = 12, FAULTS = 27 };
+static const char text[] = "M\t18FF21F3\nS\t203\t0\nR\t0\t18FF21F3\t1\t18FF21F3\n";
+enum { TEXT = sizeof text - 1, IDENTIFIER = 0x18FF21F3, FAULTS = 27 };
 
-enum length { OF_TEXT, OF_WRITTEN, OF_FRAME_TO_READ, OF_RAWS, OF_CLASSES, OF_THOUSANDTHS, OF_VALUES, OF_FRAME_TO_PACK, OF_PLACES, OF_GATEWAYS, OF_COPIES, OF_COUNTS, LENGTHS };
+enum length { OF_TEXT, OF_WRITTEN, OF_FRAME_TO_READ, OF_RAWS, OF_CLASSES, OF_THOUSANDTHS, OF_VALUES, OF_FRAME_TO_PACK, OF_PLACES, OF_COUNTS, LENGTHS };
 
 /* What the call says where that length is over 32 bits. */
 static const uint32_t meant[LENGTHS] = {
-    PC_TEXT_TOO_LONG, PC_DONE, PC_NOT_EIGHT_BYTES, PC_DONE, PC_DONE, PC_DONE, PC_COUNT_OF_VALUES, PC_NOT_EIGHT_BYTES, PC_DONE,
-    PC_DONE, PC_DONE, PC_NOT_27_FAULTS,
+    PC_TEXT_TOO_LONG, PC_DONE, PC_NOT_EIGHT_BYTES, PC_DONE, PC_DONE, PC_DONE, PC_COUNT_OF_VALUES, PC_NOT_EIGHT_BYTES, PC_DONE, PC_NOT_27_FAULTS,
 };
 
 /* What is added to the length that is tried: a number of times 2^32. */
@@ -75,21 +74,10 @@ static uint32_t long_pack(const uint32_t book[PC_BOOK_WORDS]) {
 
 static uint32_t long_spread(const uint32_t book[PC_BOOK_WORDS]) {
     begin_case(SPREAD);
-    struct lent *b = lend("book", book, 4 * PC_BOOK_WORDS), *places = lend("places", 0, 4), *gateways = lend_bytes("gateways", 0, 1);
-    struct lent *count = lend("count", 0, 4);
-    uint64_t p = room_if(OF_PLACES, 1), g = room_if(OF_GATEWAYS, 1);
-    uint32_t library = pc_spread(L(b, uint32_t), 0, IDENTIFIER, L(places, uint32_t), p, L(gateways, uint8_t), g, L(count, uint32_t));
-    uint32_t plain = plain_spread(P(b, uint32_t), 0, IDENTIFIER, P(places, uint32_t), p, P(gateways, uint8_t), g, P(count, uint32_t));
-    judge(library, plain, 1);
-    return plain;
-}
-
-static uint32_t long_copies(const uint32_t book[PC_BOOK_WORDS]) {
-    begin_case(NEXT_COPIES);
     struct lent *b = lend("book", book, 4 * PC_BOOK_WORDS), *places = lend("places", 0, 4), *count = lend("count", 0, 4);
-    uint64_t room = room_if(OF_COPIES, 1);
-    uint32_t library = pc_next_copies(L(b, uint32_t), GATEWAY, 0, IDENTIFIER, L(places, uint32_t), room, L(count, uint32_t));
-    uint32_t plain = plain_next_copies(P(b, uint32_t), GATEWAY, 0, IDENTIFIER, P(places, uint32_t), room, P(count, uint32_t));
+    uint64_t room = room_if(OF_PLACES, 1);
+    uint32_t library = pc_spread(L(b, uint32_t), 0, IDENTIFIER, L(places, uint32_t), room, L(count, uint32_t));
+    uint32_t plain = plain_spread(P(b, uint32_t), 0, IDENTIFIER, P(places, uint32_t), room, P(count, uint32_t));
     judge(library, plain, 1);
     return plain;
 }
@@ -115,10 +103,7 @@ static uint32_t long_call(const uint32_t book[PC_BOOK_WORDS]) {
     case OF_FRAME_TO_PACK:
         return long_pack(book);
     case OF_PLACES:
-    case OF_GATEWAYS:
         return long_spread(book);
-    case OF_COPIES:
-        return long_copies(book);
     case OF_COUNTS:
         return long_sum();
     default:

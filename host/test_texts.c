@@ -12,25 +12,6 @@ static uint8_t kind_of_line(uint32_t line) {
     return *at;
 }
 
-/* Which gateways the book has, and whether none of the text's R lines, all or some name theirs: such a line has a tab more. */
-static void meet_routes(const uint32_t book[PC_BOOK_WORDS]) {
-    uint32_t tabs = 0, named = 0, routes = book[PC_BOOK_ROUTES];
-    for (size_t at = 0, begin = 0; at < text.length; at++) {
-        tabs += text.bytes[at] == '\t';
-        if (text.bytes[at] != '\n')
-            continue;
-        named += text.bytes[begin] == 'R' && tabs == 5;
-        tabs = 0;
-        begin = at + 1;
-    }
-    for (uint32_t i = 0; i < routes; i++)
-        meet(GATEWAYS_READ, book[PC_BOOK_GATEWAYS + i]);
-    const int holds[] = { routes > 0 && named == 0, routes > 0 && named == routes, named > 0 && named < routes };
-    for (uint32_t i = 0; i < 3; i++)
-        if (holds[i])
-            meet(GATEWAYS_READ, PC_GATEWAYS + i);
-}
-
 static void meet_text(uint32_t refusal, const uint32_t book[PC_BOOK_WORDS], uint32_t line) {
     uint8_t over = refusal == PC_TABLE_FULL ? kind_of_line(line) : 0;
     const int lengths[] = { text.length == 0, text.length == PC_MOST_TEXT - 1, text.length == PC_MOST_TEXT, text.length == PC_MOST_TEXT + 1 };
@@ -57,12 +38,10 @@ uint32_t compare_book_read(const uint8_t *bytes, size_t length, uint32_t book[PC
 static uint32_t try_book_read(uint32_t *line) {
     uint32_t book[PC_BOOK_WORDS], refusal = compare_book_read(text.bytes, text.length, book, line);
     meet_text(refusal, book, *line);
-    if (refusal == PC_DONE)
-        meet_routes(book);
     return refusal;
 }
 
-static void make_any_text(enum naming named) {
+static void make_any_text(void) {
     uint32_t size = below(8), messages = 1 + below(20), signals = below(80), routes = below(40);
     if (size == 0) { /* full, or one line over */
         messages = 64 + once_in(4);
@@ -78,25 +57,21 @@ static void make_any_text(enum naming named) {
         signals = below(8);
         routes = 2 + below(6);
     }
-    make_text(&text, &chance, named, messages, signals, routes);
-}
-
-static enum naming any_naming(void) {
-    return (enum naming)below(NAMINGS);
+    make_text(&text, &chance, messages, signals, routes);
 }
 
 /* The small ones at least are soon found. */
 void make_taken_book(uint32_t book[PC_BOOK_WORDS]) {
     uint32_t line;
     do
-        make_any_text(any_naming());
+        make_any_text();
     while (plain_book_read(text.bytes, text.length, book, &line) != 0);
 }
 
 /* Over the limit of bytes or near it: lines that can be taken, then more. */
 static void make_long_text(void) {
     size_t wanted = PC_MOST_TEXT - 2 + below(5);
-    make_any_text(any_naming());
+    make_any_text();
     while (text.length < wanted) {
         size_t part = text.length < wanted - text.length ? text.length : wanted - text.length;
         if (part == 0)
@@ -123,31 +98,16 @@ static void try_full_text(void) {
 /* Counts loops and doubling that are on the first line, and that are not. */
 static void try_knot(void) {
     uint32_t routes = 1 + below(7), line;
-    make_knot(&text, &chance, any_naming(), routes, once_in(2));
+    make_knot(&text, &chance, routes, once_in(2));
     uint32_t refusal = try_book_read(&line);
     if (refusal != PC_DONE)
         meet(KNOTS, 2 * (refusal - PC_CLOSED_CHAIN) + (line > 1));
 }
 
-/* A text that names no gateway reads as the same one with gateway 0 on each R line: the same refusal, line and book. */
-static void try_gateway_0(void) {
-    uint32_t first[PC_BOOK_WORDS], book[PC_BOOK_WORDS], line, other;
-    if (once_in(2))
-        make_any_text(NO_GATEWAYS);
-    else
-        make_knot(&text, &chance, NO_GATEWAYS, 1 + below(7), once_in(2));
-    uint32_t refusal = compare_book_read(text.bytes, text.length, first, &line);
-    name_gateway_0(&text);
-    if (compare_book_read(text.bytes, text.length, book, &other) != refusal || other != line || memcmp(first, book, sizeof book) != 0)
-        fail_case("with gateway 0 on each R line it reads otherwise", "text");
-    const int holds[] = { book[PC_BOOK_ROUTES] > 0, refusal == PC_CLOSED_CHAIN, refusal == PC_DOUBLE_CHAIN, refusal == PC_TABLE_FULL };
-    meet_each(GATEWAYS_0, holds, 4);
-}
-
 void try_texts(void) {
     uint32_t line;
     for (int i = 0; i < 4; i++) {
-        make_any_text(any_naming());
+        make_any_text();
         try_book_read(&line);
         for (uint32_t times = 1 + below(3); times > 0; times--)
             damage_text(&text, &chance);
@@ -156,8 +116,6 @@ void try_texts(void) {
     make_jumble(&text, &chance, below(60));
     try_book_read(&line);
     try_edge_text();
-    try_edge_text();
-    try_gateway_0();
     try_knot();
     if (once_in(2))
         try_full_text();

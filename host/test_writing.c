@@ -16,7 +16,8 @@ uint32_t compare_book_write(const uint32_t book[PC_BOOK_WORDS], uint32_t room) {
     length = *P(count, uint32_t);
     if (length > room || length > PC_MOST_WRITTEN)
         fail_case("it counts more bytes than a text has", "count");
-    judge_behind(text, length);
+    if (memcmp((const uint8_t *)lent_was(text) + length, P(text, uint8_t) + length, room - length) != 0)
+        fail_case("the room behind the text was written", "text");
     memcpy(written, P(text, uint8_t), length);
     return plain;
 }
@@ -35,7 +36,6 @@ static void read_back(const uint32_t book[PC_BOOK_WORDS]) {
 /* ---- Which edge a case is at. */
 
 static void meet_book(const uint32_t book[PC_BOOK_WORDS]) {
-    static const uint32_t at_digits[4] = { 0, 9, 10, 15 };
     uint32_t messages = book[PC_BOOK_MESSAGES], signals = book[PC_BOOK_SIGNALS], routes = book[PC_BOOK_ROUTES], bare = 0;
     for (uint32_t m = 0; m < messages; m++)
         bare |= book[PC_BOOK_ENDS + m] == (m == 0 ? 0 : book[PC_BOOK_ENDS + m - 1]);
@@ -45,21 +45,13 @@ static void meet_book(const uint32_t book[PC_BOOK_WORDS]) {
         signals > 0 && routes > 0, signals > 0 && bare, full[0], full[1], full[2], full[0] && full[1] && full[2],
     };
     meet_each(WRITE_BOOKS, holds, sizeof holds / sizeof *holds);
-    for (uint32_t i = 0; i < routes; i++)
-        if (place_in(at_digits, 4, book[PC_BOOK_GATEWAYS + i]) < 4)
-            meet(WRITE_BOOKS, sizeof holds / sizeof *holds + place_in(at_digits, 4, book[PC_BOOK_GATEWAYS + i]));
 }
 
-/* Which tables are those of no taken book: the messages' alone, the routes' columns alone, a closed chain, a double one, both; the gateways
-   alone. */
+/* Which tables are those of no taken book: the messages' alone, the routes' columns alone, a closed chain, a double one, both. */
 static uint32_t reason(const uint32_t book[PC_BOOK_WORDS]) {
-    uint32_t routes = book[PC_BOOK_ROUTES], lowest, by_0[PC_BOOK_WORDS];
+    uint32_t routes = book[PC_BOOK_ROUTES], lowest;
     if (!plain_messages_taken(book))
         return plain_routes_taken(book) ? 0 : 4;
-    memcpy(by_0, book, sizeof by_0);
-    memset(by_0 + PC_BOOK_GATEWAYS, 0, PC_MOST_ROUTES * sizeof *by_0);
-    if (plain_routes_taken(by_0))
-        return 5;
     uint32_t knot = routes > PC_MOST_ROUTES ? 0 : plain_routes_refusal(book + PC_BOOK_FROM, book + PC_BOOK_TO, routes, &lowest);
     return knot == PC_CLOSED_CHAIN ? 2 : knot == PC_DOUBLE_CHAIN ? 3 : 1;
 }
@@ -97,7 +89,7 @@ void try_book_write(void) {
     try_near_rooms(book, length);
 }
 
-/* Full tables with numbers of four digits, starts and gateways of two: no text is longer. */
+/* Full tables with numbers of four digits and starts of two: no text is longer. */
 void try_longest_text(void) {
     uint32_t book[PC_BOOK_WORDS], which = below(3), per_message = PC_MOST_SIGNALS / PC_MOST_MESSAGES;
     book[PC_BOOK_MESSAGES] = PC_MOST_MESSAGES;
@@ -114,7 +106,6 @@ void try_longest_text(void) {
     for (uint32_t r = 0; r < PC_MOST_ROUTES; r++) {
         book[PC_BOOK_FROM + r] = PC_PLACE(below(8), 2 * r);
         book[PC_BOOK_TO + r] = PC_PLACE(below(8), 2 * r + 1);
-        book[PC_BOOK_GATEWAYS + r] = 10 + below(6);
     }
     uint32_t refusal = compare_book_write(book, PC_MOST_WRITTEN - 1 + which);
     if (refusal == (which == 0 ? PC_ROOM_FOR_TEXT : PC_DONE) && (which == 0 || length == PC_MOST_WRITTEN))

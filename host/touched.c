@@ -78,7 +78,7 @@ static size_t touched(void (*call)(void)) {
 static char text[4096];
 static uint32_t book[PC_BOOK_WORDS], line, refusal, class_code, values[4] = { 19999, 250, 5, 0 };
 static uint32_t raws[PC_MOST_READINGS], places[PC_MOST_ROUTES], counts[27], sum[PC_FAULT_WORDS], power, last_wake, asleep;
-static uint8_t written[PC_MOST_WRITTEN], frame[PC_FRAME_BYTES], classes[PC_MOST_READINGS], gateways[PC_MOST_ROUTES];
+static uint8_t written[PC_MOST_WRITTEN], frame[PC_FRAME_BYTES], classes[PC_MOST_READINGS];
 static int64_t thousandths[PC_MOST_READINGS];
 static double reading;
 static uint32_t count;
@@ -106,9 +106,6 @@ static void call_frame_pack(void) {
 static void call_frame_read(void) {
     refusal = ENTER(pc_frame_read, book, 0x18FF21F3, frame, sizeof frame, raws, PC_MOST_READINGS, classes, PC_MOST_READINGS, thousandths, PC_MOST_READINGS, &count);
 }
-static void call_next_copies(void) {
-    refusal = ENTER(pc_next_copies, book, 1, 0, 0, places, PC_MOST_ROUTES, &count);
-}
 static void call_power_step(void) {
     power = PC_POWER_PRECHARGE;
     refusal = ENTER(pc_power_step, &power, seen);
@@ -124,14 +121,14 @@ static void call_sleep_watch(void) {
     refusal = ENTER(pc_sleep_watch, &last_wake, &asleep, 10000, 0);
 }
 static void call_spread(void) {
-    refusal = ENTER(pc_spread, book, 0, 0, places, PC_MOST_ROUTES, gateways, PC_MOST_ROUTES, &count);
+    refusal = ENTER(pc_spread, book, 0, 0, places, PC_MOST_ROUTES, &count);
 }
 
-/* A message with a checksum, and one chain of so many routes, all of gateway 1. */
+/* A message with a checksum, and one chain of so many routes. */
 static void make_text(int routes) {
     int length = sprintf(text, "M\t18FF21F3\nS\t203\t0\nS\t204\t16\nS\t504\t56\nS\t503\t60\n");
     for (int i = 0; i < routes; i++)
-        length += sprintf(text + length, "R\t1\t0\t%08X\t0\t%08X\n", (unsigned)i, (unsigned)i + 1);
+        length += sprintf(text + length, "R\t0\t%08X\t0\t%08X\n", (unsigned)i, (unsigned)i + 1);
 }
 
 static void say(const char *call, size_t bytes) {
@@ -154,7 +151,6 @@ int main(int argc, char **argv) {
         say("pc_fault_sum", touched(call_fault_sum));
         say("pc_frame_pack", touched(call_frame_pack));
         say("pc_frame_read", touched(call_frame_read));
-        say("pc_next_copies", touched(call_next_copies));
         say("pc_power_step", touched(call_power_step));
         say("pc_power_step_by", touched(call_power_step_by));
         say("pc_sleep_start", touched(call_sleep_start));

@@ -41,9 +41,9 @@ static void routes_case(void) {
     size_t bytes = 0;
     uint32_t count = hex(2), line;
     for (uint32_t i = 0; i < count; i++) {
-        uint32_t gateway = hex(2), from = hex(8), to = hex(8);
-        bytes += (size_t)sprintf(text + bytes, "R\t%" PRIu32 "\t%" PRIu32 "\t%08" PRIX32 "\t%" PRIu32 "\t%08" PRIX32 "\n", gateway,
-                                 PC_BUS(from), PC_IDENTIFIER(from), PC_BUS(to), PC_IDENTIFIER(to));
+        uint32_t from = hex(8), to = hex(8);
+        bytes += (size_t)sprintf(text + bytes, "R\t%" PRIu32 "\t%08" PRIX32 "\t%" PRIu32 "\t%08" PRIX32 "\n", PC_BUS(from),
+                                 PC_IDENTIFIER(from), PC_BUS(to), PC_IDENTIFIER(to));
     }
     uint32_t place = hex(8);
     end_of_line();
@@ -55,7 +55,7 @@ static void routes_case(void) {
     else if (refusal)
         print_refusal(refusal);
     else
-        print_spread(PC_BUS(place), PC_IDENTIFIER(place), PC_MOST_ROUTES, PC_MOST_ROUTES, "sound");
+        print_spread(PC_BUS(place), PC_IDENTIFIER(place), PC_MOST_ROUTES, "sound");
 }
 
 static void book_case(void) {

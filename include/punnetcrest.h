@@ -24,7 +24,7 @@
 #endif
 
 /* The version of the library. CHANGELOG.md says what each version asks of callers. */
-#define PC_VERSION "0.6.0"
+#define PC_VERSION "0.5.0"
 
 #ifdef __cplusplus
 extern "C" {
@@ -35,7 +35,7 @@ enum pc_refusal {
     PC_DONE = 0,
     PC_TEXT_TOO_LONG = 1,         /* the text has more than 32,768 bytes */
     PC_LINE_FORM = 2,             /* kind, count of fields, form of a number, or no newline at the end */
-    PC_OVER_LIMIT = 3,            /* identifier, bus, start or gateway over its limit, or a number that is no signal's */
+    PC_OVER_LIMIT = 3,            /* identifier, bus or start over its limit, or a number that is no signal's */
     PC_SIGNAL_WITHOUT_MESSAGE = 4,
     PC_MESSAGE_REPEATED = 5,
     PC_SIGNAL_REPEATED = 6,       /* in its message */
@@ -60,7 +60,7 @@ enum pc_refusal {
     PC_SHARE_OUT_OF_RANGE = 44,   /* a share under 50 or over 100 */
     PC_CLOCK_WENT_BACK = 51,      /* while awake, the time is 2^31 ms (24 days) or more past the last wake, round the circle */
     PC_PLACE_OVER_LIMIT = 61,     /* bus over 7, or identifier of 2^29 or more */
-    PC_ROOM_FOR_SPREAD = 62,      /* room for fewer entries than the spread has, or the copies are */
+    PC_ROOM_FOR_SPREAD = 62,      /* room for fewer places than the spread has */
     PC_ROOM_FOR_TEXT = 71,        /* room for fewer bytes than the book's text has */
     PC_NOT_A_POWER_STATE = 91,    /* this header's own: a state that is none of enum pc_power */
     PC_NOT_A_SLEEP_STATE = 92     /* this header's own: asleep is neither 0 nor 1 */
@@ -70,10 +70,9 @@ enum pc_refusal {
    named as the call pc_class is: in C++ the name alone would then mean the call and no longer the type. */
 enum pc_class_code { PC_VALUE = 0, PC_INVALID = 1, PC_ABSENT = 2, PC_ERROR = 3, PC_RESERVED = 4, PC_OUTSIDE = 5 };
 
-/* The words of a book. Whoever writes into one need not be careful: each call tests the tables it uses. What an older version
-   stored has fewer words, which no call can tell: read the text again (docs/EMBEDDING.md, The lent memory). */
+/* The words of a book. Whoever writes into one need not be careful: each call tests the tables it uses. */
 enum {
-    PC_BOOK_WORDS = 835,
+    PC_BOOK_WORDS = 771,
     PC_BOOK_MESSAGES = 0,         /* how many M */
     PC_BOOK_SIGNALS = 1,          /* how many S */
     PC_BOOK_ROUTES = 2,           /* how many R */
@@ -82,17 +81,15 @@ enum {
     PC_BOOK_NUMBERS = 131,        /* 256: of each signal */
     PC_BOOK_STARTS = 387,         /* 256: of each signal */
     PC_BOOK_FROM = 643,           /* 64: of each route, its from place */
-    PC_BOOK_TO = 707,             /* 64: of each route, its to place */
-    PC_BOOK_GATEWAYS = 771        /* 64: of each route, the gateway that carries it */
+    PC_BOOK_TO = 707              /* 64: of each route, its to place */
 };
 enum {
     PC_MOST_MESSAGES = 64,
     PC_MOST_SIGNALS = 256,
     PC_MOST_ROUTES = 64,          /* and places that a frame reaches */
-    PC_GATEWAYS = 16,             /* gateways are 0 to 15 */
     PC_MOST_READINGS = 64,        /* of one frame: no message has more signals */
     PC_MOST_TEXT = 32768,         /* of a text to read */
-    PC_MOST_WRITTEN = 4992,       /* of a text that is written back: 64 x 11 + 256 x 10 + 64 x 27 */
+    PC_MOST_WRITTEN = 4800,       /* of a text that is written back: 64 x 11 + 256 x 10 + 64 x 24 */
     PC_FRAME_BYTES = 8
 };
 
@@ -112,8 +109,8 @@ enum {
 uint32_t pc_book_read(const uint8_t *text, uint64_t text_length, uint32_t book[PC_BOOK_WORDS], uint32_t *line);
 
 /* Writes a book back as text, at the front of the room: each M line with its S lines, in the book's order, then the R lines
-   in theirs, each with its gateway; *count is its length in bytes, at most PC_MOST_WRITTEN. The rest of the room stays as it
-   was. The text reads back as the same book. Refusals 12, by all tables of the book, and 71. */
+   in theirs; *count is its length in bytes, at most PC_MOST_WRITTEN. The rest of the room stays as it was. The text reads
+   back as the same book. Refusals 12, by all tables of the book, and 71. */
 uint32_t pc_book_write(const uint32_t book[PC_BOOK_WORDS], uint8_t *text, uint64_t text_length, uint32_t *count);
 
 /* Classes one raw count of the signal with that number: *class_code is one of enum pc_class_code, *thousandths the
@@ -139,19 +136,10 @@ uint32_t pc_frame_read(const uint32_t book[PC_BOOK_WORDS], uint32_t identifier, 
 uint32_t pc_frame_pack(const uint32_t book[PC_BOOK_WORDS], uint32_t identifier, const uint32_t *values, uint64_t values_length,
                        uint8_t *frame, uint64_t frame_length);
 
-/* Gives every place that a frame from this place reaches, in the order of the spread, and beside each the gateway that made
-   that copy: the gateway of the last route of the chain that leads there. *count is how many there are, at most
-   PC_MOST_ROUTES; what either room has past them stays as it was. Refusals 12, 61, 62, where the room is the lesser of the two
-   lengths; PC_MOST_ROUTES is always enough. */
+/* Gives every place that a frame from this place reaches, in the order of the spread; *count is how many, at most
+   PC_MOST_ROUTES. Refusals 12, 61, 62. */
 uint32_t pc_spread(const uint32_t book[PC_BOOK_WORDS], uint32_t bus, uint32_t identifier, uint32_t *places,
-                   uint64_t places_length, uint8_t *gateways, uint64_t gateways_length, uint32_t *count);
-
-/* Gives the copies that one gateway makes of a frame that arrives at this place: where each of its routes that start there
-   leads, in the book's order. What the same gateway makes of these copies in turn is not among them: ask again from each
-   place (docs/EMBEDDING.md, Handing frames on). *count is how many there are; PC_MOST_ROUTES is always enough. Refusals 12,
-   3 (gateway over 15), 61, 62. */
-uint32_t pc_next_copies(const uint32_t book[PC_BOOK_WORDS], uint32_t gateway, uint32_t bus, uint32_t identifier,
-                        uint32_t *places, uint64_t places_length, uint32_t *count);
+                   uint64_t places_length, uint32_t *count);
 
 /* The fault sum over the raw counts of 1901 to 1927, in this order. Refusals 31, 32. */
 enum {

@@ -18,11 +18,6 @@ def tabbed(*fields):
     return "\t".join(str(field) for field in fields) + "\n"
 
 
-def entry_fields(entries):
-    """The entries of a spread, (place, gateway) each: the place in 8 hex digits, the gateway in decimal."""
-    return [field for place, gateway in entries for field in (h8(place), gateway)]
-
-
 def blob(text):
     """A text inside a stream: its length, a newline, its bytes, a newline."""
     return h8(len(text)).encode() + b"\n" + text + b"\n"

@@ -1,7 +1,7 @@
 """Books as people break them, for tools/check_test.py: a text, the line and refusal, what the words have to say, and the line as it was
 meant where that can be told."""
 
-from book_lines import GOOD, M, R, S, signals, with_gateways
+from book_vectors import GOOD, M, R, S, signals
 
 ROUTES = [R(0, i, 1, i) for i in range(70)]
 
@@ -10,11 +10,6 @@ def instead(old, new):
     """The good book with something else in the place of something."""
     assert GOOD.count(old) >= 1
     return GOOD.replace(old, new, 1).encode()
-
-
-def boxed(gateway):
-    """The good book with something before the values of its first R line."""
-    return instead("R\t0", f"R\t{gateway}\t0")
 
 
 # ---- refusal 2: the usual slips
@@ -62,29 +57,6 @@ SLIPS = [
     (instead("203", "100203"), 2, ["five digits"], None),
     (instead("203", "-203"), 2, ["`-203` is no signal number"], None),
     (instead("R\t0", "R\tA"), 4, ["`A` is no bus"], None),
-    # the gateway of an R line
-    (boxed("A"), 4, ["`A` is no gateway: that is a decimal number, 0 to 15. If it is a hex number, write 10."], None),
-    (boxed("0xF"), 4, ["If it is a hex number, write 15."], None),
-    (boxed("0Bh"), 4, ["If it is a hex number, write 11."], None),
-    (boxed("1A"), 4, ["`1A` is no gateway: that is a number of one to five decimal digits"], None),
-    (boxed("18FF21F3"), 4, ["`18FF21F3` is no gateway"], None),
-    (boxed("-1"), 4, ["`-1` is no gateway"], None),
-    (boxed("05"), 4, ["zeros in front"], "R\t5\t0\t18FF21F3\t1\t18FF21F3"),
-    (boxed("+1"), 4, ["without a sign"], "R\t1\t0\t18FF21F3\t1\t18FF21F3"),
-    (boxed("1O"), 4, ["letter O, I or l"], "R\t10\t0\t18FF21F3\t1\t18FF21F3"),
-    (boxed("GW3"), 4, ["A gateway is written as its number alone."], "R\t3\t0\t18FF21F3\t1\t18FF21F3"),
-    (boxed("gateway_12"), 4, ["A gateway is written as its number alone."], "R\t12\t0\t18FF21F3\t1\t18FF21F3"),
-    (boxed("100000"), 4, ["five digits"], None),
-    (boxed(""), 4, ["tab too many"], "R\t0\t18FF21F3\t1\t18FF21F3"),
-    (boxed("3 "), 4, ["spaces"], "R\t3\t0\t18FF21F3\t1\t18FF21F3"),
-    (boxed("3\t4"), 4, ["It has 7 fields and needs 5, or with its gateway 6.", "the gateway that carries it (0 to 15; 0 where it is left out)"], None),
-    (boxed("3\t4\t5"), 4, ["It has 8 fields and needs 5, or with its gateway 6."], None),
-    (instead("R\t0\t18FF21F3\t1\t18FF21F3", "R\t3\t0\t18FF21F3"), 4, ["It has 4 fields and needs 5, or with its gateway 6."], None),
-    (instead("R\t0\t18FF21F3\t1\t18FF21F3", "R\t3\t0\t18FF21F3\t1"), 4, ["with the gateway before them there are five. One is missing here."], None),
-    (instead("R\t0\t18FF21F3\t1\t18FF21F3", "R\t3\t0\t18FF21F3\t18FF21F3"), 4, ["One is missing here."], None),
-    (instead("R\t0\t18FF21F3\t1\t18FF21F3", "R\t18FF21F3\t1\t18FF21F3\t2"), 4, ["`18FF21F3` is no bus"], None),
-    (GOOD.replace("R\t", "R\tC\t").encode(), 4, ["write 12.", "Also with a gateway in hex: line 5."], None),
-    (GOOD.replace("F3\n", "F3\t7\n").replace("D0\n", "D0\t8\n").replace("M\t18FF21F3\t7", "M\t18FF21F3").encode(), 4, ["The gateway stands first", "Also with the gateway last: line 5."], "R\t7\t0\t18FF21F3\t1\t18FF21F3"),
     (instead("S\t203", "# current\nS\t203"), 2, ["no comments. Strike the line."], None),
     (instead("203\t0", "203\t0 # current"), 2, ["no comments: strike what stands behind"], "S\t203\t0"),
     (instead("S\t203", "\nS\t203"), 2, ["The line is empty"], None),
@@ -101,10 +73,6 @@ REFUSED = [
     (b"x" * 40000, 1, 0, ["Is it the file you meant?"]),
     ((GOOD + "M\t98FF21F3\n").encode(), 3, 6, ["not below 20000000", "without it this one is 18FF21F3"]),
     (R(8, 1, 0, 1).encode(), 3, 1, ["There is no bus 8: buses are 0 to 7."]),
-    (R(16, 0, 1, 1, 1).encode(), 3, 1, ["There is no gateway 16: gateways are 0 to 15."]),
-    (with_gateways(GOOD, lambda i: 15 + i).encode(), 3, 5, ["There is no gateway 16: gateways are 0 to 15."]),
-    (R(99999, 8, 2**31 + 1, 9, 1).encode(), 3, 1, ["no gateway 99999", "no bus 8", "no bus 9", "without it this one is 00000001"]),
-    (R(15, 8, 1, 0, 1).encode(), 3, 1, ["There is no bus 8: buses are 0 to 7."]),
     ((M() + S(211, 64)).encode(), 3, 2, ["There is no signal 211: table 2 has 201 to 210.", "1305 year", "The start 64 is over 63"]),
     ((M() + S(1401, 0)).encode(), 3, 2, ["there is no table 14 with signals"]),
     (S(203, 0).encode(), 4, 1, ["the nearest M line above it, and there is none"]),
@@ -118,16 +86,8 @@ REFUSED = [
     (("".join(M(i) for i in range(66))).encode(), 9, 65, ["It is M line 65 of 66, and a book has 64 at most.", "neither reads nor packs"]),
     ((signals(256) + M(1) + S(204, 0)).encode(), 9, 267, ["It is S line 257 of 257, and a book has 256 at most."]),
     ("".join(ROUTES[:66]).encode(), 9, 65, ["It is R line 65 of 66, and a book has 64 at most.", "Don't split them over several books", "not checked for loops"]),
-    (R(0, 1, 0, 1).encode(), 10, 1, ["from a place to itself", "It is carried by gateway 0. A line that names no gateway is gateway 0's."]),
-    (R(12, 0, 1, 0, 1).encode(), 10, 1, ["from a place to itself", "It is carried by gateway 12."]),
+    (R(0, 1, 0, 1).encode(), 10, 1, ["from a place to itself"]),
     ((GOOD + R(2, 0x18FF21D0, 0, 0x18FF21F3)).encode(), 10, 4, ["A frame that begins at bus 0, 18FF21F3 takes these routes in this order and is there again"]),
-    (with_gateways(GOOD + R(2, 0x18FF21D0, 0, 0x18FF21F3), lambda i: 3 + i).encode(), 10, 4, ["They are carried by gateways 3, 4 and 5, in this order."]),
-    (with_gateways(GOOD + R(2, 0x18FF21D0, 0, 0x18FF21F3), lambda i: 9).encode(), 10, 4, ["They are carried by gateway 9."]),
-    ((GOOD + R(7, 2, 0x18FF21D0, 0, 0x18FF21F3)).encode(), 10, 4, ["carried by gateways 0, 0 and 7, in this order. A line that names no gateway is gateway 0's."]),
     ((R(0, 1, 1, 1) + M(1) + R(0, 1, 1, 1)).encode(), 11, 1, ["Lines 1 and 3 are the same route"]),
-    ((R(4, 0, 1, 1, 1) + M(1) + R(4, 0, 1, 1, 1)).encode(), 11, 1, ["Lines 1 and 3 are the same route, so the frame would be sent twice. Strike one of the two."]),
-    ((R(4, 0, 1, 1, 1) + M(1) + R(5, 0, 1, 1, 1)).encode(), 11, 1, ["sent twice, by gateway 4 and by gateway 5", "double, whichever boxes carry them", "Strike the line of the gateway"]),
-    ((R(0, 1, 1, 1) + R(5, 0, 1, 1, 1)).encode(), 11, 1, ["by gateway 0 and by gateway 5", "A line that names no gateway is gateway 0's."]),
     ((R(0, 1, 1, 1) + R(0, 1, 2, 1) + R(1, 1, 3, 1) + R(2, 1, 3, 1)).encode(), 11, 1, ["Both lead from bus 0, 00000001 to bus 3, 00000001"]),
-    ((R(1, 0, 1, 1, 1) + R(2, 0, 1, 2, 1) + R(1, 1, 1, 3, 1) + R(3, 2, 1, 3, 1)).encode(), 11, 1, ["The one way is carried by gateway 1; the other way by gateways 2 and 3, in this order."]),
 ]

@@ -4,9 +4,9 @@ import os
 import random
 from concurrent.futures import ThreadPoolExecutor
 
-from book_lines import GOOD, M, R, S, signals
-from book_rules import read_book
+from book_vectors import GOOD, M, R, S, signals
 from check_words import REFUSED, TAKEN, check, shows_why
+from rules import read_book
 
 
 def together_answer(texts):
@@ -44,8 +44,7 @@ def random_books(chance):
     for _ in range(chance.randint(2, 4)):
         text = M(1) + S(203, 0)
         for _ in range(chance.randint(0, 5)):
-            gateway = chance.choice([[], [chance.randrange(16)]])
-            longer = text + R(*gateway, chance.randrange(2), chance.randrange(4), chance.randrange(2), chance.randrange(4))
+            longer = text + R(chance.randrange(2), chance.randrange(4), chance.randrange(2), chance.randrange(4))
             text = longer if read_book(longer.encode())[0][0] == "ok" else text
         yield text
 
@@ -57,10 +56,6 @@ def together(folder):
         [GOOD, M(1) + R(2, 0x18FF21D0, 0, 0x18FF21F3)],  # each taken, a loop together
         [M(7) + R(0, 1, 1, 1), R(5, 5, 6, 6) + R(0, 1, 1, 1)],  # a line that both have
         [R(0, 1, 1, 1) + R(0, 1, 2, 1), R(1, 1, 3, 1), M(1) + R(2, 1, 3, 1)],  # two ways over three books
-        [R(1, 0, 1, 1, 1), R(2, 0, 1, 1, 1)],  # the same by another gateway
-        [R(1, 0, 1, 1, 1), R(0, 1, 1, 1)],
-        [R(0, 0, 1, 1, 1), R(0, 1, 1, 1)],  # the same, named and not
-        [R(1, 0, 1, 1, 1) + R(3, 1, 1, 2, 1), R(2, 2, 1, 0, 1)],  # a loop by three gateways
         ["".join(routes[:40]), M(1) + "".join(routes[40:64])],  # 64 together
         ["".join(routes[:40]), M(1) + "".join(routes[40:65])],  # 65 together
         ["".join(routes[:64]), M(3) + R(1, 0, 0, 0)],  # the 65th closes a chain: 9 all the same

@@ -6,8 +6,7 @@ import subprocess
 import sys
 from pathlib import Path
 
-from book_rules import read_book
-from signal_rules import CATALOGUE
+from rules import CATALOGUE, read_book
 
 ROOT = Path(__file__).resolve().parent.parent
 TAKEN, REFUSED, UNREADABLE, FAILED = 0, 1, 2, 3
@@ -21,49 +20,29 @@ def check(folder, *names, given=b"", **more):
 
 # ---- the chains that are shown
 
-SHOWN = re.compile(r"(?m)^    (.+):(\d+):\tR\t(?:(\d+)\t)?(\d)\t(\w{8})\t(\d)\t(\w{8})$")
+SHOWN = re.compile(r"(?m)^    (.+):(\d+):\tR\t(\d)\t(\w{8})\t(\d)\t(\w{8})$")
 
 
 def chain_of(paragraph):
-    """[(file, line, start, end, gateway)] of the routes shown in a paragraph."""
-    return [(file, int(line), (bus, name), (to, under), box or "0") for file, line, box, bus, name, to, under in SHOWN.findall(paragraph)]
+    """[(file, line, start, end)] of the routes shown in a paragraph."""
+    return [(file, int(line), (bus, name), (to, under)) for file, line, bus, name, to, under in SHOWN.findall(paragraph)]
 
 
 def linked(chain):
     return all(one[3] == other[2] for one, other in zip(chain, chain[1:]))
 
 
-def boxes_of(words):
-    """The gateways that words name, in their order."""
-    return re.findall(r"\d+", words)
-
-
-def names_boxes(printed, chains):
-    """Whether the words below chains say which gateways carry them; those of a repeated route only where they are two."""
-    words = " ".join(printed.split())
-    wanted = [[route[4] for route in chain] for chain in chains]
-    if len(chains) == 1:
-        told = re.findall(r"(?:It is|They are) carried by gateways? ([\d, and]*\d)", words)
-    elif all(len(boxes) == 1 for boxes in wanted):
-        told = re.findall(r"by gateway (\d+) and by gateway (\d+)", words)
-        return [[box] for pair in told for box in pair] == (wanted if wanted[0] != wanted[1] else [])
-    else:
-        told = [told for pair in re.findall(r"The one way is carried by gateways? ([^;]+); the other way by gateways? ([\d, and]*\d)", words) for told in pair]
-    return [boxes_of(some) for some in told] == [boxes if len(set(boxes)) > 1 else boxes[:1] for boxes in wanted]
-
-
 def shows_why(printed, refusal, where):
-    """Whether a closed chain, or two different chains between the same two places, are shown, beginning at the verdict's line, with the
-    gateways that carry them."""
+    """Whether a closed chain, or two different chains between the same two places, are shown, beginning at the verdict's line."""
     shown = [chain_of(paragraph) for paragraph in printed.split("\n\n")]
     shown = [chain for chain in shown if chain]
     if not shown or shown[0][0][:2] != where:
         return False
     if refusal == 10:
         (chain,) = shown
-        return linked(chain) and chain[0][2] == chain[-1][3] and names_boxes(printed, shown)
+        return linked(chain) and chain[0][2] == chain[-1][3]
     one, other = shown if len(shown) == 2 else ([route] for route in shown[0])
-    return names_boxes(printed, [one, other]) and linked(one) and linked(other) and one != other and one[0][2] == other[0][2] and one[-1][3] == other[-1][3]
+    return linked(one) and linked(other) and one != other and one[0][2] == other[0][2] and one[-1][3] == other[-1][3]
 
 
 # ---- the advice

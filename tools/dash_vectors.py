@@ -15,9 +15,8 @@ import struct
 import sys
 
 from cases import h8, tabbed, write
-from catalogue import class_of_count
 from frame_books import edge_counts
-from signal_rules import CATALOGUE, dash
+from rules import CATALOGUE, class_of_count, dash
 
 MOST = 2**32 - 1
 SEARCHED = 2**16

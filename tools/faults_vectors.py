@@ -10,8 +10,7 @@ stand at 1, 2 and 3, one-bit faults set, emergency and agrees as 0 or 1; or `no`
 import random
 
 from cases import h2, h8, tabbed, write
-from monitor_rules import FAULT_ROWS, fault_sum
-from signal_rules import CATALOGUE
+from rules import CATALOGUE, FAULT_ROWS, fault_sum
 
 WIDTHS = [CATALOGUE[number].bits for number in FAULT_ROWS]
 QUIET, LOUD = [0] * 27, [2**bits - 1 for bits in WIDTHS]

@@ -1,7 +1,6 @@
 """Books for the vectors of reading and packing: worked messages first, then messages filled at random."""
 
-from book_rules import FIXED_STARTS, read_book
-from signal_rules import CATALOGUE
+from rules import CATALOGUE, FIXED_STARTS, read_book
 
 DOCUMENT_BOOK = b"M\t18FF21F3\nS\t203\t0\nS\t204\t16\n"
 

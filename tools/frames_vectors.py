@@ -10,11 +10,9 @@ its raw count, class word and thousandths (0 where there are none); or `no` and 
 
 import random
 
-from book_rules import read_book
 from cases import blob, h2, h8, tabbed, write
 from frame_books import CELLS, CELLS_BOOK, books, cell_counts, edge_counts, text_of
-from frame_rules import checksum, place_bits, read_frame, take_bits
-from signal_rules import CATALOGUE
+from rules import CATALOGUE, checksum, place_bits, read_book, read_frame, take_bits
 
 
 def stray_bytes(chance, count):

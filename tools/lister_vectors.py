@@ -16,14 +16,12 @@ import os
 import random
 import sys
 
-from book_rules import read_book
 from frame_books import DOCUMENT_BOOK, WORKED, crowded, edge_counts, text_of
-from frame_rules import checksum, listing, place_bits
-from signal_rules import CATALOGUE, double_bits
+from rules import CATALOGUE, checksum, double_bits, listing, place_bits, read_book
 
 BOOKS = {
-    "listing": DOCUMENT_BOOK + text_of({**WORKED, **crowded()}) + b"R\t0\t18FF21F3\t1\t18FF21F3\nR\t12\t1\t18FF21F3\t2\t18FF21F3\n",
-    "refused": DOCUMENT_BOOK + b"R\t0\t18FF21F3\t1\t18FF21F3\nR\t12\t1\t18FF21F3\t0\t18FF21F3\n",
+    "listing": DOCUMENT_BOOK + text_of({**WORKED, **crowded()}) + b"R\t0\t18FF21F3\t1\t18FF21F3\n",
+    "refused": DOCUMENT_BOOK + b"R\t0\t18FF21F3\t1\t18FF21F3\nR\t1\t18FF21F3\t0\t18FF21F3\n",
     "empty": b"",
 }
 

@@ -10,12 +10,9 @@ the eight bytes as 16 hex digits, byte 0 first; or `no` and the refusal.
 
 import random
 
-from book_rules import read_book
 from cases import blob, h2, h8, tabbed, write
-from catalogue import class_of_count
 from frame_books import CELLS, CELLS_BOOK, books, cell_counts, edge_counts, text_of
-from frame_rules import pack_frame, read_frame, take_bits
-from signal_rules import CATALOGUE
+from rules import CATALOGUE, class_of_count, pack_frame, read_book, read_frame, take_bits
 
 TOO_BIG = 2**32 - 1
 

@@ -13,7 +13,7 @@ import random
 from itertools import product
 
 from cases import h8, tabbed, write
-from monitor_rules import ON, PRECHARGE, START, power_step
+from rules import ON, PRECHARGE, START, power_step
 
 NEW = "N"
 STATES, RELAYS, CODES = range(7), (1, 2), range(4)

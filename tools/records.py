@@ -2,18 +2,15 @@
 
 A record is {letter: entries}: `M`, `S`, `R` the counts (one entry each), `I` message identifiers, `E` how many signals
 there are up to the end of each message, `N` signal numbers, `T` starts, `F` and `G` the places a route leads from and
-to, `C` the gateway that carries it. Entries past the counts are 0.
+to. Entries past the counts are 0.
 """
 
-from functools import lru_cache
-
-from book_rules import MOST_MESSAGES, MOST_ROUTES, MOST_SIGNALS, next_copies_call, read_book, spread_call
+from rules import MOST_MESSAGES, MOST_ROUTES, MOST_SIGNALS, read_book, spread_call
 
 SIZES = {
-    "M": 1, "S": 1, "R": 1, "I": MOST_MESSAGES, "E": MOST_MESSAGES, "N": MOST_SIGNALS, "T": MOST_SIGNALS,
-    "F": MOST_ROUTES, "G": MOST_ROUTES, "C": MOST_ROUTES,
+    "M": 1, "S": 1, "R": 1, "I": MOST_MESSAGES, "E": MOST_MESSAGES, "N": MOST_SIGNALS, "T": MOST_SIGNALS, "F": MOST_ROUTES, "G": MOST_ROUTES,
 }  # fmt: skip
-MESSAGE_COLUMNS, ROUTE_COLUMNS = "MSIENT", "RFGC"
+MESSAGE_COLUMNS, ROUTE_COLUMNS = "MSIENT", "RFG"
 
 
 def record_of(book):
@@ -29,9 +26,8 @@ def record_of(book):
         "E": ends,
         "N": [number for number, _ in placed],
         "T": [start for _, start in placed],
-        "F": [route.origin for route in book.routes],
-        "G": [route.end for route in book.routes],
-        "C": [route.gateway for route in book.routes],
+        "F": [origin for origin, _ in book.routes],
+        "G": [end for _, end in book.routes],
     }
     return {letter: entries + [0] * (SIZES[letter] - len(entries)) for letter, entries in columns.items()}
 
@@ -47,22 +43,16 @@ def messages_text(record):
 
 
 def routes_text(record):
-    """The R lines that the columns show, each with its gateway."""
-    shown = list(zip(record["C"], record["F"], record["G"]))[: record["R"][0]]
+    """The R lines that the columns show."""
+    pairs = list(zip(record["F"], record["G"]))[: record["R"][0]]
     name = lambda key: "%d\t%08X" % (key // 2**29, key % 2**29)
-    return "".join("R\t%d\t%s\t%s\n" % (gateway, name(origin), name(end)) for gateway, origin, end in shown).encode()
-
-
-@lru_cache(16)
-def read_once(text):
-    """What a text is read as, not anew for each call on one record."""
-    return read_book(text)
+    return "".join("R\t%s\t%s\n" % (name(origin), name(end)) for origin, end in pairs).encode()
 
 
 def taken_with(record, text, letters):
     """The book of this text, if it is taken and has the record's columns; else None. A taken book that has these
     columns can be written as this text, so no other text has to be tried."""
-    answer, book = read_once(text)
+    answer, book = read_book(text)
     same = all(record_of(book)[letter] == record[letter] for letter in letters)
     return book if answer[0] == "ok" and same else None
 
@@ -75,11 +65,6 @@ def route_book(record):
     return taken_with(record, routes_text(record), ROUTE_COLUMNS)
 
 
-def spread_by(record, bus, identifier, places_room, gateways_room):
+def spread_by(record, bus, identifier, room):
     book = route_book(record)
-    return spread_call(book, bus, identifier, places_room, gateways_room) if book else ("no", 12)
-
-
-def next_copies_by(record, gateway, bus, identifier, room):
-    book = route_book(record)
-    return next_copies_call(book, gateway, bus, identifier, room) if book else ("no", 12)
+    return spread_call(book, bus, identifier, room) if book else ("no", 12)

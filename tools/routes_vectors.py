@@ -3,15 +3,15 @@
 
     python3 tools/routes_vectors.py DIR
 
-A case is a line: count of routes (2 hex digits), for each its gateway (2 hex digits), its from and its to place (8 each), then the place
-whose spread is asked. A place is bus x 2^29 + identifier. The answer: `loop` or `doubling` with the index of the route that document 01
-names, from 0; or `sound`, the count of entries and the spread, for each entry its place (8 hex digits) and its gateway (decimal).
+A case is a line: count of routes (2 hex digits), for each its from and to place (8 hex digits each), then the place
+whose spread is asked. A place is bus x 2^29 + identifier. The answer: `loop` or `doubling` with the index of the route
+that document 01 names, from 0; or `sound`, the count of entries and the spread.
 """
 
 import random
 
-from cases import entry_fields, h2, h8, tabbed, write
-from route_rules import Route, place, spread, verdict_by_chains, verdict_by_counting
+from cases import h2, h8, tabbed, write
+from rules import place, spread, verdict_by_chains, verdict_by_counting
 
 FEW = 5  # so many routes are also judged by listing every chain
 
@@ -35,7 +35,7 @@ def first(routes):
 
 
 def worked():
-    """The tables that the demands name, each with the place whose spread is asked: routes as pairs of places."""
+    """The tables that the demands name, each with the place whose spread is asked."""
     end = 2**32 - 1
     yield [], 0
     yield [], end
@@ -125,35 +125,6 @@ def random_ones(chance):
         yield random_table(chance, 64, 32)
 
 
-# ---- gateways: each table is carried in ways of its own, and the verdict is the same
-
-
-def carried(pairs, gateway_of):
-    return [Route(gateway_of(i), origin, end) for i, (origin, end) in enumerate(pairs)]
-
-
-def by_gateways(tables, chance):
-    """Each table by gateway 0 alone, as one that names none; by sixteen in turn; by chance; and by the last one alone where the table is short."""
-    for pairs, start in tables:
-        yield carried(pairs, lambda i: 0), start
-        if pairs:
-            yield carried(pairs, lambda i: (i + 1) % 16), start
-        if len(pairs) > 1:
-            yield carried(pairs, lambda i: chance.randrange(16)), start
-        if 0 < len(pairs) <= FEW:
-            yield carried(pairs, lambda i: 15), start
-
-
-def once_each(tables, chance):
-    """Each table by few gateways, so that a box often makes several copies."""
-    for pairs, start in tables:
-        boxes = chance.sample(range(16), chance.randint(1, 4))
-        yield carried(pairs, lambda i: chance.choice(boxes)), start
-
-
-# ---- the answers
-
-
 def judged(routes):
     verdict = verdict_by_counting(routes)
     assert len(routes) > FEW or verdict == verdict_by_chains(routes), routes
@@ -165,17 +136,14 @@ def answer(routes, start):
     if verdict[0] != "sound":
         return tabbed(*verdict)
     entries = spread(routes, start)
-    return tabbed("sound", len(entries), *entry_fields(entries))
-
-
-def line_of(routes, start):
-    return h2(len(routes)) + "".join(h2(route.gateway) + h8(route.origin) + h8(route.end) for route in routes) + h8(start) + "\n"
+    return tabbed("sound", len(entries), *map(h8, entries))
 
 
 def main():
     chance = random.Random(3)
-    cases = [*by_gateways(worked(), chance), *by_gateways(long_ones(chance), chance), *once_each(random_ones(chance), chance)]
-    write("".join(line_of(*case) for case in cases), "".join(answer(*case) for case in cases))
+    cases = [*worked(), *long_ones(chance), *random_ones(chance)]
+    lines = [h2(len(routes)) + "".join(h8(a) + h8(b) for a, b in routes) + h8(start) + "\n" for routes, start in cases]
+    write("".join(lines), "".join(answer(routes, start) for routes, start in cases))
 
 
 if __name__ == "__main__":

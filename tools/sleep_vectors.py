@@ -10,7 +10,7 @@ A line is a letter and a time in 8 hex digits: `N` starts a new watch, awake at 
 import random
 
 from cases import h8, tabbed, write
-from monitor_rules import SleepWatch
+from rules import SleepWatch
 
 CIRCLE, HALF = 2**32, 2**31
 BEGINNINGS = [0, 1, 9999, 10000, 0x12345678, HALF - 1, HALF, CIRCLE - 10001, CIRCLE - 10000, CIRCLE - 9999, CIRCLE - 1]

@@ -1,22 +1,18 @@
 #!/usr/bin/env python3
-"""Calls for a spread and for the next copies of a gateway on a lent book record, sound and damaged, with 12, 3, 61 and 62, for the program
-`spread_vectors`.
+"""Calls for a spread on a lent book record, sound and damaged, with 12, 61 and 62, for the program `spread_vectors`.
 
     python3 tools/spread_vectors.py DIR
 
-The lines are the `X`, `S` and `N` lines of tools/record_stream.py, over the columns of routes alone. The record begins empty,
+The lines are the `X` and `S` lines of tools/record_vectors.py, over the columns of routes alone. The record begins empty,
 and a book comes as the entries in which the record before it differs.
 """
 
 import random
 
-from book_rules import read_book
 from cases import write
-from record_damages import DAMAGES
-from record_stream import CHAIN, FULL, MOST, PLAIN, Stream, carried, route_text
+from record_vectors import DAMAGES, MOST, PLAIN, Stream, route_text, spreads
 from records import ROUTE_COLUMNS, SIZES, record_of
-from route_calls import next_copies, spreads
-from route_rules import place
+from rules import place, read_book
 
 EMPTY = b""
 
@@ -35,19 +31,12 @@ class RouteStream(Stream):
                 if self.record[letter][index] != value:
                     self.set(letter, index, value)
 
-
-def every_call(stream):
-    """Calls that are answered or refused with 62, and calls that are refused with 61 or 3, unless 12 comes first."""
-    for room in (FULL, 1, 0):
-        stream.spread(0, 0x18FF21F3, room)
-    stream.spread(0, 0x18FF21F3, FULL, 1)
-    stream.spread(8, 0x18FF21F3, 0)
-    stream.spread(0, 2**29, FULL)
-    for gateway in (0, 5):
-        stream.copies(gateway, 0, 0x18FF21F3, FULL)
-        stream.copies(gateway, 1, 0x18FF21F3, 0)
-    stream.copies(16, 8, 0x18FF21F3, 0)
-    stream.copies(15, 8, 0x18FF21F3, 0)
+    def every_spread(self):
+        """Calls that are answered or refused with 62, and calls that are refused with 61, unless 12 comes first."""
+        for room in (64, 1, 0):
+            self.spread(0, 0x18FF21F3, room)
+        self.spread(8, 0x18FF21F3, 0)
+        self.spread(0, 2**29, 64)
 
 
 def on_routes(damage):
@@ -59,26 +48,24 @@ def damages(stream):
         stream.book(PLAIN)
         for entry in damage:
             stream.set(*entry)
-        every_call(stream)
+        stream.every_spread()
 
 
 def full_damages(stream):
-    """A full table of 64 routes in one chain, by all gateways, with each entry in turn set to the chain's ends, to 0 and beyond, to gateways and
-    to what is none."""
+    """A full table of 64 routes in one chain, with each entry in turn set to the chain's ends, to 0 and beyond."""
+    chain = [(i % 8, i, (i + 1) % 8, i + 1) for i in range(64)]
     for letter in ROUTE_COLUMNS:
         for index in range(0, SIZES[letter], 9):
-            for value in (0, 15, 16, 256, place(0, 64), 63, 64, 65, MOST):
-                stream.book(route_text(carried(CHAIN, lambda i: i % 16)))
+            for value in (0, place(0, 0), place(0, 64), 63, 64, 65, MOST):
+                stream.book(route_text(chain))
                 stream.set(letter, index, value)
-                stream.spread(0, 0, FULL)
-                stream.spread(0, 64, FULL - 1)
-                stream.copies(index % 16, index % 8, index, FULL)
+                stream.spread(0, 0, 64)
+                stream.spread(0, 64, 63)
 
 
 def main():
-    stream, chance = RouteStream(), random.Random(11)
-    spreads(stream, chance)
-    next_copies(stream, chance)
+    stream = RouteStream()
+    spreads(stream, random.Random(11))
     damages(stream)
     full_damages(stream)
     write(b"".join(stream.stdin), "".join(stream.stdout))

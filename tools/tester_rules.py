@@ -2,7 +2,7 @@
 
 Written from the paragraph alone: it collects all conditions that are lost, and takes the first."""
 
-from signal_rules import CATALOGUE
+from rules import CATALOGUE
 
 START, READY, FAULT = 0, 6, 7
 STATES = range(8)  # a step is named by how many conditions are met

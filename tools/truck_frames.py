@@ -8,9 +8,7 @@
 import os
 import sys
 
-from book_rules import read_book
-from frame_rules import listing, pack_frame
-from signal_rules import double_bits
+from rules import double_bits, listing, pack_frame, read_book
 
 EXAMPLES = os.path.join(os.path.dirname(__file__), "..", "examples")
 

@@ -3,20 +3,16 @@
 
     python3 tools/writer_vectors.py DIR
 
-The lines are the `B`, `X` and `W` lines of tools/record_stream.py.
+The lines are the `B`, `X` and `W` lines of tools/record_vectors.py.
 """
 
 import random
 
-from book_lines import longest_book
-from book_rules import FIXED_STARTS, read_book
 from cases import write
 from frame_books import WORKED, books, crowded, text_of
-from record_damages import DAMAGES
-from record_stream import CHAIN, MOST, PLAIN, STAR, Stream, carried, route_text
+from record_vectors import DAMAGES, MOST, PLAIN, Stream, route_text
 from records import SIZES
-from route_rules import place
-from signal_rules import CATALOGUE
+from rules import CATALOGUE, FIXED_STARTS, place, read_book
 from writing import MOST_WRITTEN, write_call
 
 FAR = 8192  # the largest room of a case
@@ -36,28 +32,30 @@ def rooms(stream):
 
 
 def longest():
-    """No text has more bytes."""
-    text = taken(longest_book().encode())
-    assert len(text) == MOST_WRITTEN == 4992
+    """Full tables, numbers of four digits and starts of two: no text has more bytes."""
+    narrow = [row.number for row in CATALOGUE.values() if row.bits == 1 and row.number > 999]
+    messages = {0x1FFFFFFF - i: [(narrow[(4 * i + k) % len(narrow)], 10 + (13 * k + i) % 54) for k in range(4)] for i in range(64)}
+    routes = [(i % 8, 0x10000000 + i, 7 - i % 8, 0x1FFFFFFF - i) for i in range(64)]
+    text = taken(text_of(messages) + route_text(routes))
+    assert len(text) == MOST_WRITTEN == 4800
     return text
 
 
 def shortest():
-    """Full tables, numbers of three digits, starts and gateways of one, as far as there are bits."""
+    """Full tables, numbers of three digits and starts of one, as far as there are bits."""
     narrow = sorted((row.bits, row.number) for row in CATALOGUE.values() if row.number < 1000 and row.number not in FIXED_STARTS)
     chosen, start = [], 0
     for bits, number in narrow[:4]:
         chosen.append((number, start))
         start += bits
     assert start <= 10
-    return taken(text_of({i: chosen for i in range(64)}) + route_text([(9, 0, i, 0, i + 1) for i in range(64)]))
+    return taken(text_of({i: chosen for i in range(64)}) + route_text([(0, i, 0, i + 1) for i in range(64)]))
 
 
 def mixed(chance):
-    """A book's lines with the R lines anywhere between, first, each behind an M line, and last but backwards; by gateways, some unnamed."""
+    """A book's lines with the R lines anywhere between, first, each behind an M line, and last but backwards."""
     messages = text_of(WORKED).splitlines(keepends=True)
-    pairs = [(i % 8, 0x18FF0000 + i, (i + 3) % 8, 0x18FF8000 + i * i) for i in range(24)]
-    routes = route_text([(i % 16, *pair) if i % 5 else pair for i, pair in enumerate(pairs)]).splitlines(keepends=True)
+    routes = route_text([(i % 8, 0x18FF0000 + i, (i + 3) % 8, 0x18FF8000 + i * i) for i in range(24)]).splitlines(keepends=True)
     anywhere = list(messages)
     indices = sorted(chance.randrange(len(messages) + 1) for _ in routes)
     for index, line in reversed(list(zip(indices, routes))):
@@ -66,19 +64,6 @@ def mixed(chance):
     behind = b"".join(line + (routes[heads.index(line)] if line in heads else b"") for line in messages)
     for text in (b"".join(anywhere), b"".join(routes + messages), behind, b"".join(messages + routes[::-1])):
         yield taken(text)
-
-
-def boxes():
-    """R lines by every gateway: named, unnamed, in part; where a digit is added; a full table of each."""
-    yield taken(route_text([(gateway, 0, 1, 1, gateway) for gateway in range(16)]))
-    yield taken(route_text([(0, i, 1, i) for i in range(5)]))
-    yield taken(route_text([(0, 0, i, 1, i) for i in range(5)]))
-    yield taken(route_text([(9, 0, 1, 1, 1), (0, 2, 1, 2), (10, 0, 3, 1, 3), (0, 4, 1, 4), (15, 0, 5, 1, 5), (0, 0, 6, 1, 6)]))
-    yield taken(b"M\t18FF21F3\n" + route_text([(15, 0, 1, 1, 1)]) + b"S\t203\t0\n" + route_text([(1, 1, 2, 1)]))
-    for gateway_of in (lambda i: i % 16, lambda i: 15, lambda i: 0):
-        yield taken(route_text(carried(CHAIN, gateway_of)))
-        yield taken(route_text(carried(STAR, gateway_of)))
-    yield taken(route_text([(i % 16, *route) if i % 2 else route for i, route in enumerate(STAR)]))
 
 
 def limits():
@@ -98,13 +83,13 @@ def parts():
     yield taken(b"M\t18FF21F3\nM\t18FF21F4\nS\t203\t0\nM\t18FF21F5\nM\t18FF21F6\nS\t204\t3\nS\t205\t12\nM\t18FF21F7\n")
     yield taken(b"".join(b"M\t%08X\n" % (0x18FF0000 + 257 * i) for i in range(64)))
     yield taken(b"R\t0\t18FF21F3\t1\t18FF21F3\n")
-    yield taken(route_text(CHAIN))
+    yield taken(route_text([(i % 8, i, (i + 1) % 8, i + 1) for i in range(64)]))
     yield taken(b"M\t18FF21F3\nS\t203\t0\nR\t0\t18FF21F3\t1\t18FF21F3\n")
     yield PLAIN
 
 
 def sound_books(stream, chance):
-    for text in (*parts(), *limits(), *boxes(), *mixed(chance), longest(), shortest(), text_of(crowded()), *(text for text, _ in books(chance))):
+    for text in (*parts(), *limits(), *mixed(chance), longest(), shortest(), text_of(crowded()), *(text for text, _ in books(chance))):
         stream.book(text)
         rooms(stream)
 
@@ -112,7 +97,7 @@ def sound_books(stream, chance):
 def refused_text(stream):
     """A text that is refused leaves the record of the empty book."""
     stream.book(PLAIN)
-    for text in (b"M\t18FF21F3", route_text([(0, 1, 0, 1)]), route_text([(16, 0, 1, 1, 1)]), route_text([(1, 0, 1, 1, 1), (2, 0, 1, 1, 1)])):
+    for text in (b"M\t18FF21F3", route_text([(0, 1, 0, 1)])):
         stream.book(text)
         rooms(stream)
 
@@ -133,7 +118,7 @@ def full_damages(stream):
     for letter, size in SIZES.items():
         for index in sorted({0, size // 2, size - 1}):
             kept = stream.record[letter][index]
-            for value in (0, 1, 15, 16, 63, 64, 65, 256, 257, 200, 203, 2**29, place(7, 2**29 - 1), MOST):
+            for value in (0, 1, 63, 64, 65, 257, 200, 203, 2**29, place(7, 2**29 - 1), MOST):
                 stream.set(letter, index, value)
                 stream.text(0)
                 stream.text(MOST_WRITTEN - 1)

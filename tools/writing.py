@@ -1,12 +1,12 @@
 """A book written back as text (document 02, P3): the text of a taken book, and the call on a lent record with 12 and 71.
 
-Each M line with its S lines, in book order, then the R lines in book order, each with its gateway (P7). A bus is one digit, an identifier
-8 digits 0-9 A-F, any other number is decimal without needless zeros.
+Each M line with its S lines, in book order, then the R lines in book order. A bus is one digit, an identifier 8 digits 0-9 A-F, any
+other number is decimal without needless zeros.
 """
 
 from records import message_book, route_book
 
-MOST_WRITTEN = 64 * len("M\t00000000\n") + 256 * len("S\t1927\t63\n") + 64 * len("R\t15\t0\t00000000\t0\t00000000\n")
+MOST_WRITTEN = 64 * len("M\t00000000\n") + 256 * len("S\t1927\t63\n") + 64 * len("R\t0\t00000000\t0\t00000000\n")
 
 
 def identifier_digits(identifier):
@@ -24,8 +24,8 @@ def lines_of(messages, routes):
         yield "M", identifier_digits(identifier)
         for number, start in placements:
             yield "S", str(number), str(start)
-    for gateway, origin, end in routes:
-        yield "R", str(gateway), *place_fields(origin), *place_fields(end)
+    for origin, end in routes:
+        yield "R", *place_fields(origin), *place_fields(end)
 
 
 def book_text(messages, routes):

@@ -13,10 +13,7 @@ __attribute__((naked)) static void mark(void) {
 }
 
 #define MARK(member) (__typeof__(((struct face *)0)->member))mark
-static const struct face marks = {
-    MARK(book_read), MARK(book_write), MARK(class_of), MARK(dash), MARK(frame_read), MARK(frame_pack), MARK(spread), MARK(next_copies), MARK(fault_sum),
-    MARK(power_step), MARK(power_step_by), MARK(sleep_watch),
-};
+static const struct face marks = { MARK(book_read), MARK(book_write), MARK(class_of), MARK(dash), MARK(frame_read), MARK(frame_pack), MARK(spread), MARK(fault_sum), MARK(power_step), MARK(power_step_by), MARK(sleep_watch) };
 
 /* The lowest address that the call touched. noipa: the compiler may not conclude that nobody reads `face` in here. */
 __attribute__((noipa)) static uint32_t touched(uint32_t (*call)(uint32_t), uint32_t turn, uint32_t paint) {
@@ -80,8 +77,6 @@ int main(void) {
         say(name, call_book_write, 1);
         sprintf(name, "spread-chain-%u", (unsigned)steps[i]);
         say(name, call_spread, 64);
-        sprintf(name, "next-copies-chain-%u", (unsigned)steps[i]);
-        say(name, call_next_copies, 64);
     }
     return 0;
 }

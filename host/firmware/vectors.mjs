@@ -6,10 +6,10 @@ import { bytes, bytesAt, calls, digits, endOfLine, lend, letter, nextIs, print, 
 const subject = process.argv[3];
 
 // ---- The header's numbers.
-const BOOK_WORDS = 835, FROM = 643, MOST_ROUTES = 64, FAULT_WORDS = 7, POWER_WORDS = 8, POWER_START = 0, FRAME_BYTES = 8;
+const BOOK_WORDS = 771, FROM = 643, MOST_ROUTES = 64, FAULT_WORDS = 7, POWER_WORDS = 8, POWER_START = 0, FRAME_BYTES = 8;
 const CLOSED_CHAIN = 10, DOUBLE_CHAIN = 11, FILLING = 42;
 const CLASSES = ['value', 'invalid', 'absent', 'error', 'reserved', 'outside'];
-const PLACES_IN_BOOK = { M: 0, S: 1, R: 2, I: 3, E: 67, N: 131, T: 387, F: FROM, G: 707, C: 771 };
+const PLACES_IN_BOOK = { M: 0, S: 1, R: 2, I: 3, E: 67, N: 131, T: 387, F: FROM, G: 707 };
 const busOf = place => place >>> 29, identifierOf = place => place & 0x1FFFFFFF;
 
 // ---- What is lent.
@@ -28,12 +28,11 @@ const readBook = () => {
   return refusal;
 };
 
-const eightDigits = place => place.toString(16).toUpperCase().padStart(8, '0');
-const printSpread = (bus, identifier, placesRoom, gatewaysRoom, word) => {
-  const refusal = calls.pc_spread(book, bus, identifier, list, BigInt(placesRoom), more, BigInt(gatewaysRoom), count);
+const printSpread = (bus, identifier, room, word) => {
+  const refusal = calls.pc_spread(book, bus, identifier, list, BigInt(room), count);
   if (refusal) return refused(refusal);
-  const many = words(count, 1)[0], gateways = bytesAt(more, many);
-  print(word, many, ...Array.from(words(list, many), (place, i) => [eightDigits(place), gateways[i]].join('\t')));
+  const many = words(count, 1)[0];
+  print(word, many, ...Array.from(words(list, many), place => place.toString(16).toUpperCase().padStart(8, '0')));
 };
 
 const cases = {
@@ -55,15 +54,15 @@ const cases = {
   },
   routes() {
     const many = digits(2), lines = [];
-    const place = key => [busOf(key), eightDigits(identifierOf(key))];
-    for (let i = 0; i < many; i++) lines.push(['R', digits(2), ...place(digits(8)), ...place(digits(8))].join('\t') + '\n');
+    const place = key => [busOf(key), identifierOf(key).toString(16).toUpperCase().padStart(8, '0')];
+    for (let i = 0; i < many; i++) lines.push(['R', ...place(digits(8)), ...place(digits(8))].join('\t') + '\n');
     const from = digits(8);
     endOfLine();
     const refusal = readText(Buffer.from(lines.join(''), 'latin1'));
     if (refusal === CLOSED_CHAIN) print('loop', words(line, 1)[0] - 1);
     else if (refusal === DOUBLE_CHAIN) print('doubling', words(line, 1)[0] - 1);
     else if (refusal) refused(refusal);
-    else printSpread(busOf(from), identifierOf(from), MOST_ROUTES, MOST_ROUTES, 'sound');
+    else printSpread(busOf(from), identifierOf(from), MOST_ROUTES, 'sound');
   },
   book() {
     const refusal = readBook();
@@ -109,14 +108,6 @@ const lentBook = {
     const many = words(count, 1)[0], thousandths = new BigInt64Array(calls.memory.buffer, readings, many);
     print('read', many, ...Array.from({ length: many }, (_, i) => [words(list, many)[i], CLASSES[bytesAt(more, many)[i]], thousandths[i]].join('\t')));
   },
-  N() {
-    const gateway = digits(8), bus = digits(8), identifier = digits(8), room = digits(2);
-    endOfLine();
-    const refusal = calls.pc_next_copies(book, gateway, bus, identifier, list, BigInt(room), count);
-    if (refusal) return refused(refusal);
-    const many = words(count, 1)[0];
-    print('copies', many, ...Array.from(words(list, many), eightDigits));
-  },
   P() {
     const identifier = digits(8), length = digits(2), many = digits(2);
     for (let i = 0; i < many; i++) words(list, 256)[i] = digits(8);
@@ -126,9 +117,9 @@ const lentBook = {
     else print('packed', Buffer.from(bytesAt(small, FRAME_BYTES)).toString('hex').toUpperCase());
   },
   S() {
-    const bus = digits(8), identifier = digits(8), placesRoom = digits(2), gatewaysRoom = digits(2);
+    const bus = digits(8), identifier = digits(8), room = digits(2);
     endOfLine();
-    printSpread(bus, identifier, placesRoom, gatewaysRoom, 'spread');
+    printSpread(bus, identifier, room, 'spread');
   },
   W() {
     const room = digits(8);

@@ -11,25 +11,6 @@ def place_words(place):
     return f"bus {place[0]}, {place[1]}"
 
 
-# ---- which box to open
-
-
-def box(route):
-    """The gateway that carries a route."""
-    return route.gateway or "0"
-
-
-def boxes(chain):
-    """The gateways that carry a chain's routes, in words."""
-    *most, last = [box(route) for route in chain]
-    return f"gateway {last}" if {*most, last} == {last} else f"gateways {', '.join(most)} and {last}, in this order"
-
-
-def unnamed(routes):
-    """A word on lines that name no gateway, where one does."""
-    return "" if all(route.gateway for route in routes) else " A line that names no gateway is gateway 0's."
-
-
 def words_on(routes, refusal, first):
     """The paragraphs for a verdict on these routes that names this one."""
     chains = chains_behind(routes, refusal, first)
@@ -42,13 +23,11 @@ def loop_words(chain):
     yield "\n".join(shown(route) for route in chain)
     if len(chain) == 1:
         yield "The route leads from a place to itself, so the frame would be sent again and again. Strike it, or mend the place it leads to."
-        yield f"It is carried by {boxes(chain)}.{unnamed(chain)}"
         return
     yield (
         f"A frame that begins at {place_words(chain[0].start)} takes these routes in this order and is there again: it would be sent again and "
         "again, and no controller would sleep. Strike or mend one of these lines, usually the one that leads backwards."
     )
-    yield f"They are carried by {boxes(chain)}.{unnamed(chain)}"
 
 
 def doubling_words(one, other):
@@ -62,7 +41,6 @@ def doubling_words(one, other):
         f"Both lead from {place_words(one[0].start)} to {place_words(one[-1].end)}, so the frame would arrive there twice. "
         "Strike a route that only one of the two ways has. Two places that both lead to a third are fine."
     )
-    yield f"The one way is carried by {boxes(one)}; the other way by {boxes(other)}.{unnamed([*one, *other])}"
     for mine in one:
         for theirs in other:
             if (mine.start, mine.end) == (theirs.start, theirs.end) and mine is not theirs:
@@ -72,16 +50,9 @@ def doubling_words(one, other):
 def repeated_words(one, other):
     if (one.file, one.line) == (other.file, other.line):
         return f"{one.book}:{one.line} counts twice, since the file is named twice. Name each file once."
-    twice = f"by gateway {box(one)} and by gateway {box(other)}: two routes between the same places double, whichever boxes carry them"
-    if one.file == other.file and box(one) == box(other):
-        return f"Lines {one.line} and {other.line} are the same route, so the frame would be sent twice. Strike one of the two.{unnamed([one, other])}"
     if one.file == other.file:
-        return (
-            f"Lines {one.line} and {other.line} are the same route, so the frame would be sent twice, {twice}. "
-            f"Strike the line of the gateway that should not hand this frame on.{unnamed([one, other])}"
-        )
-    mend = "Strike one of the two" if one.gateway and one.gateway == other.gateway else "Strike it in the book of the gateway that should not hand this frame on"
+        return f"Lines {one.line} and {other.line} are the same route, so the frame would be sent twice. Strike one of the two."
     return (
-        f"{one.book}:{one.line} and {other.book}:{other.line} are the same route in two files, and each counts, as a repeated line in one book "
-        f"does: the frame would be sent twice{', ' + twice if box(one) != box(other) else ''}. {mend}.{unnamed([one, other])}"
+        f"{one.book}:{one.line} and {other.book}:{other.line} are the same route in two files, and each counts, as a repeated line in one "
+        "book does: both gateways would send the frame. Strike it in the book of the gateway that should not hand this frame on."
     )

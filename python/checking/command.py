@@ -21,13 +21,12 @@ those of several gateways on one truck: their R lines as one table, in the
 order of the files. Give it all the books of a truck at once, since books
 that are each right by themselves can loop together.
 
-This book has a message, a signal in it from frame bit 0 on, and a route that
-gateway 3 carries from bus 0 to bus 1; one tab stands between fields
-(docs/BOOK.md has the rest):
+This book has a message, a signal in it from frame bit 0 on, and a route from
+bus 0 to bus 1; one tab stands between fields (docs/BOOK.md has the rest):
 
     M\t18FF21F3
     S\t203\t0
-    R\t3\t0\t18FF21F3\t1\t18FF21F3
+    R\t0\t18FF21F3\t1\t18FF21F3
 
 A book of the name - is read from standard input.
 

@@ -67,18 +67,6 @@ def decimal(what, field, found):
     return number
 
 
-def gateway(field, found):
-    """A gateway, which people write in hex too, or with a word before its number."""
-    if named := re.fullmatch(r"(?:g|gw|gateway)[_-]?(\d+)", field, re.IGNORECASE):
-        found.append(("a gateway's name", "A gateway is written as its number alone."))
-        return decimal("gateway", named[1], found)
-    digits = re.sub(r"^0x|h$", "", field, flags=re.IGNORECASE)
-    if not field.isdecimal() and re.fullmatch("0*[0-9A-Fa-f]", digits):
-        found.append(("a gateway in hex", f"`{seen(field)}` is no gateway: that is a decimal number, 0 to 15. If it is a hex number, write {int(digits, 16)}."))
-        return ""
-    return decimal("gateway", field, found)
-
-
 def start(field, found):
     """A start, which people write as byte and bit too."""
     if parts := re.fullmatch(r"(\d)[.:/](\d)", field):

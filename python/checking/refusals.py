@@ -19,7 +19,6 @@ SENTENCES = {
     11: "a frame would arrive twice",
 }
 MOST = {"M": 64, "S": 256, "R": 64}
-MOST_GATEWAY = 15
 LINES_NAMED = 8
 TOO_MANY_ROUTES = (
     f"Strike routes that nobody needs. Don't split them over several books to get below {MOST['R']}: routes that are not checked together are "
@@ -39,7 +38,7 @@ def list_of(numbers):
 
 
 def too_long(book, line, said):
-    yield "No book that can be taken has more than 4,992 bytes. Is it the file you meant?"
+    yield "No book that can be taken has more than 4,800 bytes. Is it the file you meant?"
 
 
 # ---- the form of a line
@@ -48,7 +47,6 @@ def too_long(book, line, said):
 UNSEEN = {"a byte order mark", "CR LF", "an empty line"}
 # Slips that tend to be on many lines.
 HABITS = {"CR LF", "spaces", "commas", "quotes", "tabs too many", "small letters", "0x", "look-alike characters", "a name", "zeros in front"}
-HABITS |= {"a gateway in hex", "a gateway's name", "the gateway last"}
 
 
 def ill_formed(book, line, said):
@@ -100,13 +98,11 @@ def over_limit(book, line, said):
         if start >= signals.FRAME_BITS:
             yield f"The start {start} is over 63, the last bit of a frame."
         return
-    places = said.places() if said.kind == "R" else ()
-    if said.kind == "R" and int(said.gateway() or 0) > MOST_GATEWAY:
-        yield f"There is no gateway {said.gateway()}: gateways are 0 to {MOST_GATEWAY}."
-    for bus, _ in places:
+    identifiers = said.fields if said.kind == "M" else said.fields[1::2]
+    for bus in said.fields[::2] if said.kind == "R" else ():
         if int(bus) > 7:
             yield f"There is no bus {bus}: buses are 0 to 7."
-    for identifier in [name for _, name in places] or said.fields:
+    for identifier in identifiers:
         if int(identifier, 16) >= 2**29:
             yield f"The identifier {identifier} is not below 20000000 (29 bits)." + flagged(identifier)
 

@@ -15,7 +15,6 @@ class Route(NamedTuple):
     file: tuple  # which file it is
     line: int
     text: bytes  # the line without its newline
-    gateway: str  # as it is written, or nothing where the line names none
     start: tuple  # bus and identifier, as they are written
     end: tuple
 
@@ -25,7 +24,7 @@ def routes_of(book):
     for number, line in enumerate(book.lines(), 1):
         said = said_by(line)
         if said and said.kind == "R":
-            yield Route(book.name, book.file, number, line, said.gateway(), *said.places())
+            yield Route(book.name, book.file, number, line, said.fields[:2], said.fields[2:])
 
 
 def reached(routes, begun):

@@ -5,15 +5,13 @@ import shlex
 import unicodedata
 from typing import NamedTuple
 
-from .fields import decimal, gateway, identifier, number_of_name, start
+from .fields import decimal, identifier, number_of_name, start
 from .texts import KINDS, characters
 
-MOST_GATEWAY = 15
 FORMS = {
     "M": "An M line has M and the message's identifier:\n\n    M\t18FF21F3",
     "S": "An S line has S, the signal's number and its start, which is the frame bit of its lowest bit (0 to 63: 8 x byte + bit):\n\n    S\t203\t16",
-    "R": "An R line has R, the gateway that carries it (0 to 15; 0 where it is left out), the bus and identifier that a frame comes with, and those "
-    "that it goes out with:\n\n    R\t3\t0\t18FF21F3\t1\t18FF21F3",
+    "R": "An R line has R, the bus and identifier that a frame comes with, and those that it goes out with:\n\n    R\t0\t18FF21F3\t1\t18FF21F3",
 }
 PARTED = "Fields are parted by exactly one tab, and a line has no space anywhere."
 SAVE = "Save it as plain text (UTF-8 or ASCII, without a byte order mark)"
@@ -94,28 +92,7 @@ def read_fields(kind, fields, found):
     if kind == "S":
         number = decimal("signal number", number_of_name(fields[0], found), found)
         return [number, start(fields[1], found)]
-    return [identifier(fields[0], found)] if kind == "M" else read_route(fields, found)
-
-
-def shaped(fields):
-    """D for a field that looks like a decimal number, I for one that looks like an identifier, else a question mark."""
-    forms = {"D": r"[0-9]{1,5}", "I": r"(0x)?[0-9A-Fa-f]{8}"}
-    return "".join(next((form for form, digits in forms.items() if re.fullmatch(digits, field)), "?") for field in fields)
-
-
-def read_route(fields, found):
-    """The four values of an R line, or the five of one with its gateway."""
-    if shaped(fields) == "DIDID":
-        found.append(("the gateway last", "The gateway stands first, before the bus and identifier that a frame comes with."))
-        if int(fields[-1]) > MOST_GATEWAY:  # it would be refused there too
-            return [""]
-        fields = [fields[-1], *fields[:-1]]
-    if shaped(fields) in ("DDID", "DDII"):
-        found.append(("a value missing", "Four values are bus, identifier, bus, identifier; with the gateway before them there are five. One is missing here."))
-        return [""]
-    *box, bus, name, to_bus, to_name = fields
-    places = [decimal("bus", bus, found), identifier(name, found), decimal("bus", to_bus, found), identifier(to_name, found)]
-    return [*(gateway(field, found) for field in box), *places]
+    return [identifier(field, found) if form == "I" else decimal("bus", field, found) for form, field in zip(KINDS[kind], fields)]
 
 
 def of_line(line):
@@ -133,9 +110,8 @@ def of_line(line):
         return Slips(found, "")
     if kind != fields[0]:
         found.append(("a small letter", f"The kind of line is a capital: {kind}."))
-    counts = [len(form) + 1 for form in KINDS[kind]]
-    if len(fields) not in counts:
-        found.append(("fields", f"It has {len(fields)} fields and needs {', or with its gateway '.join(map(str, counts))}."))
+    if len(fields) != len(KINDS[kind]) + 1:
+        found.append(("fields", f"It has {len(fields)} fields and needs {len(KINDS[kind]) + 1}."))
         return Slips(found, "")
     meant = read_fields(kind, fields[1:], found)
     return Slips(list(dict.fromkeys(found)), "\t".join([kind, *meant]) if all(meant) else "")

@@ -70,30 +70,22 @@ def visible(line):
     return line.decode() if said_by(line) else seen(characters(line))
 
 
-# ---- what a well-formed line says: I an identifier, D a decimal number; an R line has its two places, or its gateway and these
+# ---- what a well-formed line says: I an identifier, D a decimal number
 
-KINDS = {"M": ["I"], "S": ["DD"], "R": ["DIDI", "DDIDI"]}
+KINDS = {"M": "I", "S": "DD", "R": "DIDI"}
 FIELD = {"I": r"([0-9A-F]{8})", "D": r"(0|[1-9][0-9]{0,4})"}
-LINES = [(kind, re.compile(r"\t".join([kind, *(FIELD[field] for field in form)]))) for kind, forms in KINDS.items() for form in forms]
+LINES = {kind: re.compile(r"\t".join([kind, *(FIELD[field] for field in fields)])) for kind, fields in KINDS.items()}
 
 
 class Said(NamedTuple):
     kind: str
     fields: tuple  # as they are written
 
-    def gateway(self):
-        """The gateway that an R line names, as it is written, or nothing."""
-        return "".join(self.fields[:-4])
-
-    def places(self):
-        """The two places of an R line, bus and identifier of each."""
-        return self.fields[-4:-2], self.fields[-2:]
-
 
 def said_by(line):
     """What a well-formed line says, or None."""
     text = line.decode("latin-1")
-    for kind, form in LINES:
+    for kind, form in LINES.items():
         if found := form.fullmatch(text):
             return Said(kind, found.groups())
     return None

@@ -6,11 +6,11 @@ use native.Mathlib.Omega.{arith}
 use mathlib.Core.List.{List, map}
 use lib.ListN.{length, take, length-map}
 use Rattle.record.specs.Limits.{message_limit, signal_limit, route_limit}
-use Rattle.record.specs.Columns.{message_count_of, signal_count_of, route_count_of, ids_of, ends_of, numbers_of, starts_of, froms_of, tos_of, gateways_of}
+use Rattle.record.specs.Columns.{message_count_of, signal_count_of, route_count_of, ids_of, ends_of, numbers_of, starts_of, froms_of, tos_of}
 use Rattle.books.specs.Book.{Message, Placement, identifiers, numbers, all_placements}
-use Rattle.books.specs.Words.{placement_starts, ends_after, side_by_side, messages_of, messages_taken_spec, froms, tos, gateways, routes_of, routes_side_by_side, Stands}
+use Rattle.books.specs.Words.{placement_starts, ends_after, side_by_side, messages_of, messages_taken_spec, froms, tos, routes_of, routes_side_by_side, Stands}
 use Rattle.books.proofs.Columns.{Within, within, taken_stands, take_column, length_ends, ids_stand, ends_stand, numbers_stand, starts_stand}
-use Rattle.books.proofs.RouteColumns.{froms_are, tos_are, gateways_are, from_count, to_count, gateway_count, routes_side}
+use Rattle.books.proofs.RouteColumns.{froms_are, tos_are, from_count, to_count, routes_side}
 use Rattle.books.proofs.Sides.{side_back}
 use Rattle.reading.specs.Written.{message_lines, route_line, lines_text}
 use Rattle.route_tables.specs.Tables.{RoutesTaken}
@@ -92,37 +92,22 @@ module _ (w : List ℕ) (t : RoutesTaken w) where
   pub routes_counted : route_count_of w ≤ route_limit
   routes_counted = few_counted w t.stand
 
-  -- the columns as a caller has them
-  module _ {m : ℕ} (c : m ≡ route_count_of w) {fs ts gs : List ℕ} (f : fs ≡ froms_of w) (e : ts ≡ tos_of w) (g : gs ≡ gateways_of w)
-      {fs' ts' gs' : List ℕ} (f' : fs' ≡ take m fs) (e' : ts' ≡ take m ts) (g' : gs' ≡ take m gs) where
+  -- two columns as a caller has them
+  module _ {m : ℕ} (c : m ≡ route_count_of w) {fs ts : List ℕ} (f : fs ≡ froms_of w) (e : ts ≡ tos_of w) {fs' ts' : List ℕ} (f' : fs' ≡ take m fs) (e' : ts' ≡ take m ts) where
     own_froms : fs' ≡ froms (routes_of w)
     own_froms = f' ∙ lent c f ∙ froms_are w (routes_of w) (few_shown w) t.stand
 
     own_tos : ts' ≡ tos (routes_of w)
     own_tos = e' ∙ lent c e ∙ tos_are w (routes_of w) (few_shown w) t.stand
 
-    own_gateways : gs' ≡ gateways (routes_of w)
-    own_gateways = g' ∙ lent c g ∙ gateways_are w (routes_of w) (few_shown w) t.stand
-
-    -- are in step
-    from_level : length fs' ≡ route_count_of w
-    from_level = ap length own_froms ∙ from_count w (routes_of w) (few_shown w) t.stand
-
     pub routes_level : length ts' ≡ length fs'
-    routes_level = ap length own_tos ∙ to_count w (routes_of w) (few_shown w) t.stand ∙ sym from_level
+    routes_level = ap length own_tos ∙ to_count w (routes_of w) (few_shown w) t.stand ∙ sym (ap length own_froms ∙ from_count w (routes_of w) (few_shown w) t.stand)
 
-    pub gateways_level : length gs' ≡ length fs'
-    gateways_level = ap length own_gateways ∙ gateway_count w (routes_of w) (few_shown w) t.stand ∙ sym from_level
+    pub own_routes : route_lines fs' ts' ≡ map route_line (routes_of w)
+    own_routes = ap (map route_line) (ap (λ (l : List ℕ). routes_side_by_side l ts') own_froms ∙ ap (routes_side_by_side (froms (routes_of w))) own_tos ∙ routes_side (routes_of w))
 
-    -- and show the routes
-    pub own_routes : route_lines fs' ts' gs' ≡ map route_line (routes_of w)
-    own_routes =
-        ap (map route_line)
-        (ap (λ (l : List ℕ). routes_side_by_side l ts' gs') own_froms ∙ ap (λ (l : List ℕ). routes_side_by_side (froms (routes_of w)) l gs') own_tos ∙
-        ap (routes_side_by_side (froms (routes_of w)) (tos (routes_of w))) own_gateways ∙ routes_side (routes_of w))
-
-    pub routes_fit : {out : List ℕ} {at : ℕ} → LinesFit out at (map route_line (routes_of w)) → LinesFit out at (route_lines fs' ts' gs')
+    pub routes_fit : {out : List ℕ} {at : ℕ} → LinesFit out at (map route_line (routes_of w)) → LinesFit out at (route_lines fs' ts')
     routes_fit {out} {at} l = subst (LinesFit out at) (sym own_routes) l
 
-    pub routes_put : {out new : List ℕ} {at r : ℕ} → Put out at (lines_text (route_lines fs' ts' gs')) new r → Put out at (lines_text (map route_line (routes_of w))) new r
+    pub routes_put : {out new : List ℕ} {at r : ℕ} → Put out at (lines_text (route_lines fs' ts')) new r → Put out at (lines_text (map route_line (routes_of w))) new r
     routes_put p = put_as (ap lines_text own_routes) p

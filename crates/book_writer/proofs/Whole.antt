@@ -2,7 +2,7 @@
 -- are it. Assumes nothing.
 use mathlib.Core.Path.{◌≡◌, sym, ap, ◌∙◌, subst}
 use mathlib.Core.Bool.{Bool, true, false}
-use Prim.Native.Nat.{ℕ, suc, ◌+◌, ◌≤◌, ◌<◌}
+use Prim.Native.Nat.{ℕ, ◌+◌, ◌≤◌}
 use native.Mathlib.Nat.{zero-add}
 use native.Mathlib.Omega.{arith}
 use mathlib.Core.List.{List, [], ◌∷◌, ◌++◌, map}
@@ -12,14 +12,13 @@ use Rattle.line.specs.declared.Line.{Line}
 use Rattle.line.specs.declared.Line.TheVariants as line
 use Rattle.line.specs.Written.{Writable}
 use Rattle.books.specs.Book.{Placement, Route, all_placements}
-use Rattle.record.specs.Limits.{gateway_limit}
-use Rattle.books.specs.Words.{messages_of, gateways, routes_of, messages_taken_spec}
+use Rattle.books.specs.Words.{messages_of, routes_of, messages_taken_spec}
 use Rattle.books.proofs.Building.{good_built}
 use Rattle.books.proofs.Columns.{taken_stands}
 use Rattle.reading.specs.Written.{route_line, message_lines, book_lines, book_text, lines_text}
 use Rattle.reading.proofs.Texts.{AllWritable, nothing, also, messages_writable}
 use Rattle.chains.specs.Tells.{Tells}
-use Rattle.route_tables.specs.Tables.{AllGateways, RoutesTaken}
+use Rattle.route_tables.specs.Tables.{RoutesTaken}
 use Rattle.route_tables.proofs.Shown.{few_shown}
 use Rattle.printing.specs.Put.{Put}
 use Rattle.printing.proofs.Puts.{and_then}
@@ -34,20 +33,20 @@ pub all_told : (w : List ℕ) → messages_taken_spec w ≡ true → (r : Bool) 
 all_told w m true t = record { messages = m; routes = t }
 all_told w m false t = λ a. t a.routes
 
--- lines that have texts can be written, and those of routes that are carried by gateways
+-- lines that have texts can be written, and R lines can in any case
 digits_of : (l : Line) → Writable l → FewDigits l
 digits_of (line.Message i) w = tt
 digits_of (line.Signal n s) w = w
-digits_of (line.Route g a i b j) w = w.0
+digits_of (line.Route a i b j) w = tt
 digits_of line.IllFormed w = tt
 
 all_digits : {ls : List Line} → AllWritable ls → AllFewDigits ls
 all_digits AllWritable.nothing = AllFewDigits.nothing
 all_digits (AllWritable.also {l} w a) = AllFewDigits.also (digits_of l w) (all_digits a)
 
-route_digits : (rs : List Route) → AllGateways (gateways rs) → AllFewDigits (map route_line rs)
-route_digits [] g = AllFewDigits.nothing
-route_digits (r ∷ rs) g = AllFewDigits.also {l = route_line r} (let h : r.gateway < gateway_limit = g 0 in omega arith) (route_digits rs (λ k. g (suc k)))
+route_digits : (rs : List Route) → AllFewDigits (map route_line rs)
+route_digits [] = AllFewDigits.nothing
+route_digits (r ∷ rs) = AllFewDigits.also {l = route_line r} tt (route_digits rs)
 
 module _ (w : List ℕ) (t : TablesTaken w) where
   abbrev ps : List Placement
@@ -60,7 +59,7 @@ module _ (w : List ℕ) (t : TablesTaken w) where
   tail = lines_text (map route_line (routes_of w))
 
   -- no sum of lengths is too large
-  pub few_bytes : (length head ≤ 4288) × (length tail ≤ 2432)
+  pub few_bytes : (length head ≤ 4288) × (length tail ≤ 2048)
   few_bytes =
       let k = limits w t.messages in
       (omega (arith, messages_long (messages_of w), signals_few ps, k.few, k.room), omega (arith, routes_few (routes_of w), few_shown w))
@@ -79,7 +78,7 @@ module _ (w : List ℕ) (t : TablesTaken w) where
     module _ {mid : List ℕ} {next : ℕ} (p : Put room 0 head mid next) (level : length mid ≡ length room) where
       -- wherever they end no later than the text
       pub tail_fits : {at : ℕ} → at + length tail ≤ length (text_of w) → LinesFit mid at (map route_line (routes_of w))
-      tail_fits k = record { digits = route_digits (routes_of w) t.routes.carried; room = omega (arith, k, h, level) }
+      tail_fits k = record { digits = route_digits (routes_of w); room = omega (arith, k, h, level) }
 
       pub ends_there : next + length tail ≡ length (text_of w)
       ends_there = omega (arith, whole_long, p.now_at)

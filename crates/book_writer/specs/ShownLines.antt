@@ -15,9 +15,9 @@ signal_lines ns ss = map signal_line (side_by_side ns ss)
 abbrev pub shown_lines : List ℕ → List ℕ → List ℕ → List ℕ → List Line
 shown_lines is es ns ss = message_lines (shown 0 is es (side_by_side ns ss))
 
--- the R lines of routes whose places and gateways stand side by side
-abbrev pub route_lines : List ℕ → List ℕ → List ℕ → List Line
-route_lines fs ts gs = map route_line (routes_side_by_side fs ts gs)
+-- the R lines of routes whose places stand side by side
+abbrev pub route_lines : List ℕ → List ℕ → List Line
+route_lines fs ts = map route_line (routes_side_by_side fs ts)
 
 -- the columns are those of messages whose lines can be written, and there is room for them from the front on
 pub record MessagesFit (out is es ns ss : List ℕ) : Type 0 where

@@ -24,15 +24,15 @@ fn signals_length(numbers: &[u32], starts: &[u32]) -> u32
     sum
 }
 
-// Of the R lines of routes whose places and gateways stand side by side.
-fn routes_length(froms: &[u32], tos: &[u32], gateways: &[u32]) -> u32
-    requires { (length tos.now ≡ length froms.now) × (length gateways.now ≡ length froms.now) × (length froms.now ≤ route_limit) }
-    ensures { result ≡ length (lines_text (route_lines froms.now tos.now gateways.now)) }
+// Of the R lines of routes whose places stand side by side.
+fn routes_length(froms: &[u32], tos: &[u32]) -> u32
+    requires { (length tos.now ≡ length froms.now) × (length froms.now ≤ route_limit) }
+    ensures { result ≡ length (lines_text (route_lines froms.now tos.now)) }
 {
     let mut sum: u32 = 0;
     let mut i: usize = 0;
     while i < froms.len() {
-        sum += route_length(gateways[i], froms[i], tos[i]);
+        sum += route_length(froms[i], tos[i]);
         i += 1;
     }
     sum
@@ -60,7 +60,6 @@ fn route_lines_length(book: &[u32; BOOK_WORDS]) -> u32
     routes_length(
         first(record::froms(book), routes),
         first(record::tos(book), routes),
-        first(record::gateways(book), routes),
     )
 }
 

@@ -11,9 +11,9 @@ use lengths::text_length;
 use lines::{put_message_lines, put_route_lines};
 use record::{BOOK_WORDS, wide};
 
-// No text of a book is longer: 64 M lines of 11 bytes, 256 S lines of 10 and 64 R lines of 27. A room of this many bytes is always
+// No text of a book is longer: 64 M lines of 11 bytes, 256 S lines of 10 and 64 R lines of 24. A room of this many bytes is always
 // enough.
-pub const MOST_WRITTEN: usize = 4992;
+pub const MOST_WRITTEN: usize = 4800;
 
 // What came of a call for a book's text.
 #[derive(Drop)]

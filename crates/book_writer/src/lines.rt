@@ -49,15 +49,15 @@ fn put_messages(out: &mut [u8], ids: &[u32], ends: &[u32], numbers: &[u32], star
     next
 }
 
-// The R lines of routes whose places and gateways stand side by side.
-fn put_routes(out: &mut [u8], at: usize, froms: &[u32], tos: &[u32], gateways: &[u32]) -> usize
-    requires { (length tos.now ≡ length froms.now) × (length gateways.now ≡ length froms.now) × LinesFit out.old at (route_lines froms.now tos.now gateways.now) }
-    ensures { Put out.old at (lines_text (route_lines froms.now tos.now gateways.now)) out.new result }
+// The R lines of routes whose places stand side by side.
+fn put_routes(out: &mut [u8], at: usize, froms: &[u32], tos: &[u32]) -> usize
+    requires { (length tos.now ≡ length froms.now) × LinesFit out.old at (route_lines froms.now tos.now) }
+    ensures { Put out.old at (lines_text (route_lines froms.now tos.now)) out.new result }
 {
     let mut next: usize = at;
     let mut i: usize = 0;
     while i < froms.len() {
-        next = put_route(&mut *out, next, gateways[i], froms[i], tos[i]);
+        next = put_route(&mut *out, next, froms[i], tos[i]);
         i += 1;
     }
     next
@@ -90,6 +90,5 @@ pub fn put_route_lines(book: &[u32; BOOK_WORDS], out: &mut [u8], at: usize) -> u
         at,
         first(record::froms(book), routes),
         first(record::tos(book), routes),
-        first(record::gateways(book), routes),
     )
 }

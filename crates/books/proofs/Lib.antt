@@ -5,7 +5,6 @@ pub mod Building
 pub mod Meeting
 pub mod Sides
 pub mod Columns
-pub mod JoinedColumns
 pub mod RouteColumns
 pub mod RouteLines
 pub mod Parts

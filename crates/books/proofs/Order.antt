@@ -11,7 +11,7 @@ use borrow.Author.Tests.{eqb-true, eq-eqb, leb-true, le-leb}
 use Rattle.catalogue.specs.Find.{bits_of_spec, HasRow}
 use Rattle.catalogue.proofs.Found.{zero_bits, none_has_zero}
 use Rattle.books.specs.Book.{Placement, Message, Route, identifiers, numbers, all_placements, last_placements}
-use Rattle.books.specs.Lines.{is_in, unknown_or_over, misplaced, meets_earlier, message_refusal, after_refusal, signal_refusal, route_refusal, message_limit, signal_limit, route_limit, gateway_limit, bus_limit, identifier_limit, start_limit}
+use Rattle.books.specs.Lines.{is_in, unknown_or_over, misplaced, meets_earlier, message_refusal, after_refusal, signal_refusal, route_refusal, message_limit, signal_limit, route_limit, bus_limit, identifier_limit, start_limit}
 use Rattle.books.specs.Built.{Built}
 use Rattle.books.specs.Due.{MessageDue, SignalDue, RouteDue, LowestDue}
 use Rattle.books.proofs.Meeting.{bits_meet, shared_earlier}
@@ -153,39 +153,23 @@ module _ (ms : List Message) (p : Placement) where
   signal_lowest b = record { due = above (SignalDue ms p) _ (signal_due b); lowest = signal_least }
 
 -- ---- an `R` line
--- a gateway over its limit, or a place of which a part is
-any_over : (g a i b j : ℕ) → leb gateway_limit g || ((leb bus_limit a || leb identifier_limit i) || (leb bus_limit b || leb identifier_limit j)) ≡ true
-    → (gateway_limit ≤ g) ⊎ (((bus_limit ≤ a) ⊎ (identifier_limit ≤ i)) ⊎ ((bus_limit ≤ b) ⊎ (identifier_limit ≤ j)))
-any_over g a i b j e =
-    ⊎_elim (λ z. inl (leb-true _ _ z))
-    (λ z. inr (⊎_elim (λ y. inl (over_told a i y)) (λ y. inr (over_told b j y)) (either_true (leb bus_limit a || leb identifier_limit i) (leb bus_limit b || leb identifier_limit j) z)))
-    (either_true (leb gateway_limit g) ((leb bus_limit a || leb identifier_limit i) || (leb bus_limit b || leb identifier_limit j)) e)
-
-over_any : (g a i b j : ℕ) → (gateway_limit ≤ g) ⊎ (((bus_limit ≤ a) ⊎ (identifier_limit ≤ i)) ⊎ ((bus_limit ≤ b) ⊎ (identifier_limit ≤ j)))
-    → leb gateway_limit g || ((leb bus_limit a || leb identifier_limit i) || (leb bus_limit b || leb identifier_limit j)) ≡ true
-over_any g a i b j h =
-    true_either (leb gateway_limit g) ((leb bus_limit a || leb identifier_limit i) || (leb bus_limit b || leb identifier_limit j))
-    (⊎_elim (λ z. inl (le-leb _ _ z))
-    (λ z. inr (true_either (leb bus_limit a || leb identifier_limit i) (leb bus_limit b || leb identifier_limit j) (⊎_elim (λ y. inl (told_over a i y)) (λ y. inr (told_over b j y)) z)))
-    h)
-
-module _ (rs : List Route) (g a i b j : ℕ) where
+module _ (rs : List Route) (a i b j : ℕ) where
   abbrev r3 : Bool
-  r3 = leb gateway_limit g || ((leb bus_limit a || leb identifier_limit i) || (leb bus_limit b || leb identifier_limit j))
+  r3 = (leb bus_limit a || leb identifier_limit i) || (leb bus_limit b || leb identifier_limit j)
 
   abbrev r9 : Bool
   r9 = leb route_limit (length rs)
 
-  route_due : (k : ℕ) → route_refusal rs g a i b j ≡ suc k → RouteDue rs g a i b j (route_refusal rs g a i b j)
+  route_due : (k : ℕ) → route_refusal rs a i b j ≡ suc k → RouteDue rs a i b j (route_refusal rs a i b j)
   unfolding route_refusal
   route_due =
-      first (RouteDue rs g a i b j) r3 3 _ (λ e. RouteDue.over refl (any_over g a i b j e))
-      (first (RouteDue rs g a i b j) r9 9 0 (λ e. RouteDue.full refl (leb-true _ _ e)) (none (RouteDue rs g a i b j)))
+      first (RouteDue rs a i b j) r3 3 _ (λ e. RouteDue.over refl (⊎_elim (λ z. inl (over_told a i z)) (λ z. inr (over_told b j z)) (either_true (leb bus_limit a || leb identifier_limit i) (leb bus_limit b || leb identifier_limit j) e)))
+      (first (RouteDue rs a i b j) r9 9 0 (λ e. RouteDue.full refl (leb-true _ _ e)) (none (RouteDue rs a i b j)))
 
-  route_least : (n : ℕ) → RouteDue rs g a i b j n → UpTo (route_refusal rs g a i b j) n
+  route_least : (n : ℕ) → RouteDue rs a i b j n → UpTo (route_refusal rs a i b j) n
   unfolding route_refusal
-  route_least n (RouteDue.over e h) = here r3 2 _ n e (over_any g a i b j h)
+  route_least n (RouteDue.over e h) = here r3 2 _ n e (true_either (leb bus_limit a || leb identifier_limit i) (leb bus_limit b || leb identifier_limit j) (⊎_elim (λ z. inl (told_over a i z)) (λ z. inr (told_over b j z)) h))
   route_least n (RouteDue.full e h) = lower r3 2 _ n (omega arith) (here r9 8 0 n e (le-leb _ _ h))
 
-  pub route_lowest : LowestDue (RouteDue rs g a i b j) (route_refusal rs g a i b j)
-  route_lowest = record { due = above (RouteDue rs g a i b j) _ route_due; lowest = route_least }
+  pub route_lowest : LowestDue (RouteDue rs a i b j) (route_refusal rs a i b j)
+  route_lowest = record { due = above (RouteDue rs a i b j) _ route_due; lowest = route_least }

@@ -12,15 +12,14 @@ pub record Message : Type 0 where
   pub identifier : ℕ
   pub placements : List Placement
 
--- an `R` line: the gateway that carries it, from place, to place
+-- an `R` line: from place, to place
 pub record Route : Type 0 where
-  pub gateway : ℕ
   pub from : ℕ
   pub to : ℕ
 
--- a route, by its gateway and the places that it leads from and to: the one way in which a route is made
-abbrev pub route_by : ℕ → ℕ → ℕ → Route
-route_by g p q = record { gateway = g; from = p; to = q }
+-- a route, by the places that it leads from and to: the one way in which a route is made
+abbrev pub route_between : ℕ → ℕ → Route
+route_between p q = record { from = p; to = q }
 
 pub record Book : Type 0 where
   pub messages : List Message
@@ -64,8 +63,8 @@ last_placements (m ∷ n ∷ ms) = last_placements (n ∷ ms)
 abbrev pub placement : ℕ → ℕ → Placement
 placement n s = record { number = n; start = s }
 
-abbrev pub route : ℕ → ℕ → ℕ → ℕ → ℕ → Route
-route g a i b j = route_by g (place_key a i) (place_key b j)
+abbrev pub route : ℕ → ℕ → ℕ → ℕ → Route
+route a i b j = route_between (place_key a i) (place_key b j)
 
 -- the book with an `M`, an `S`, an `R` line more
 abbrev pub with_message : Book → ℕ → Book

@@ -2,7 +2,7 @@
 use Rattle.std.specs.Prelude.{◌≡◌, ◌⊎◌, ℕ, ◌≤◌, ◌<◌, true, List, length}
 use Rattle.catalogue.specs.Find.{HasRow}
 use Rattle.books.specs.Book.{Placement, Message, Route, identifiers, numbers, all_placements, last_placements}
-use Rattle.books.specs.Lines.{is_in, misplaced, message_limit, signal_limit, route_limit, gateway_limit, bus_limit, identifier_limit, start_limit}
+use Rattle.books.specs.Lines.{is_in, misplaced, message_limit, signal_limit, route_limit, bus_limit, identifier_limit, start_limit}
 use Rattle.books.specs.Belonging.{SharesEarlier}
 
 -- an `M` line
@@ -23,9 +23,9 @@ pub data SignalDue (ms : List Message) (p : Placement) (n : ℕ) : Type 0 where
   full : n ≡ 9 → signal_limit ≤ length (all_placements ms) → SignalDue ms p n
 
 -- an `R` line
-pub data RouteDue (rs : List Route) (g a i b j n : ℕ) : Type 0 where
-  over : n ≡ 3 → (gateway_limit ≤ g) ⊎ (((bus_limit ≤ a) ⊎ (identifier_limit ≤ i)) ⊎ ((bus_limit ≤ b) ⊎ (identifier_limit ≤ j))) → RouteDue rs g a i b j n
-  full : n ≡ 9 → route_limit ≤ length rs → RouteDue rs g a i b j n
+pub data RouteDue (rs : List Route) (a i b j n : ℕ) : Type 0 where
+  over : n ≡ 3 → ((bus_limit ≤ a) ⊎ (identifier_limit ≤ i)) ⊎ ((bus_limit ≤ b) ⊎ (identifier_limit ≤ j)) → RouteDue rs a i b j n
+  full : n ≡ 9 → route_limit ≤ length rs → RouteDue rs a i b j n
 
 -- "the lowest": a number above 0 is one that is due, and none that is due is lower
 pub record LowestDue (Due : ℕ → Type 0) (r : ℕ) : Type 0 where

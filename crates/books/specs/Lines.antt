@@ -1,6 +1,6 @@
 -- Why one more line is refused, by what the book holds already: the lowest of 3 to 9, and 0 where it is taken. Assumes nothing: these are definitions.
 use Rattle.std.specs.Prelude.{ℕ, ◌+◌, Bool, false, cond, ◌&&◌, ◌||◌, not, List, [], ◌∷◌, eqb, ltb, leb, length}
-pub use Rattle.record.specs.Limits.{message_limit, signal_limit, route_limit, gateway_limit, bus_limit, identifier_limit, start_limit}
+pub use Rattle.record.specs.Limits.{message_limit, signal_limit, route_limit, bus_limit, identifier_limit, start_limit}
 pub use Rattle.bits.specs.Frame.{frame_bits}
 use Rattle.catalogue.specs.Find.{bits_of_spec}
 use Rattle.books.specs.Book.{Placement, Message, Route, identifiers, numbers, all_placements, last_placements}
@@ -56,8 +56,8 @@ signal_refusal ms p =
     (after_refusal (last_placements ms) (length (all_placements ms)) p))
 
 -- an `R` line
-unfoldable pub route_refusal : List Route → ℕ → ℕ → ℕ → ℕ → ℕ → ℕ
-route_refusal rs g a i b j =
-    cond (leb gateway_limit g || ((leb bus_limit a || leb identifier_limit i) || (leb bus_limit b || leb identifier_limit j))) 3
+unfoldable pub route_refusal : List Route → ℕ → ℕ → ℕ → ℕ → ℕ
+route_refusal rs a i b j =
+    cond ((leb bus_limit a || leb identifier_limit i) || (leb bus_limit b || leb identifier_limit j)) 3
     (cond (leb route_limit (length rs)) 9
     0)

@@ -1,8 +1,8 @@
 -- How a book stands in its words: counts, then columns, each filled up with 0; and which words are those of a taken book.
 -- Assumes nothing: these are definitions.
 use Rattle.std.specs.Prelude.{◌≡◌, ℕ, ◌+◌, ◌-◌, Bool, true, false, ◌&&◌, List, [], ◌∷◌, ◌++◌, map, eqb, length, take, drop, replicate}
-use Rattle.record.specs.Columns.{message_count_of, signal_count_of, route_count_of, ids_of, ends_of, numbers_of, starts_of, froms_of, tos_of, gateways_of, message_columns_of, route_columns_of}
-use Rattle.books.specs.Book.{Placement, Message, Route, Book, identifiers, numbers, all_placements, placement, route_by}
+use Rattle.record.specs.Columns.{message_count_of, signal_count_of, route_count_of, ids_of, ends_of, numbers_of, starts_of, froms_of, tos_of, message_columns_of, route_columns_of}
+use Rattle.books.specs.Book.{Placement, Message, Route, Book, identifiers, numbers, all_placements, placement, route_between}
 use Rattle.books.specs.Lines.{message_limit, signal_limit, route_limit}
 use Rattle.books.specs.Good.{good}
 use Rattle.books.specs.Built.{Built}
@@ -35,15 +35,12 @@ start_column ms = column signal_limit (placement_starts (all_placements ms))
 unfoldable pub message_columns : List Message → List ℕ
 message_columns ms = id_column ms ++ (end_column ms ++ (number_column ms ++ start_column ms))
 
--- the places that routes lead from, those they lead to, and the gateways that carry them, and their columns
+-- the places that routes lead from, and those they lead to, and their columns
 abbrev pub froms : List Route → List ℕ
 froms rs = map (λ (r : Route). r.from) rs
 
 abbrev pub tos : List Route → List ℕ
 tos rs = map (λ (r : Route). r.to) rs
-
-abbrev pub gateways : List Route → List ℕ
-gateways rs = map (λ (r : Route). r.gateway) rs
 
 abbrev pub from_column : List Route → List ℕ
 from_column rs = column route_limit (froms rs)
@@ -51,20 +48,8 @@ from_column rs = column route_limit (froms rs)
 abbrev pub to_column : List Route → List ℕ
 to_column rs = column route_limit (tos rs)
 
-abbrev pub gateway_column : List Route → List ℕ
-gateway_column rs = column route_limit (gateways rs)
-
--- columns, one after the other
-unfoldable pub columns_joined : List (List ℕ) → List ℕ
-columns_joined [] = []
-columns_joined (c ∷ cs) = c ++ columns_joined cs
-
--- the columns of the routes
-abbrev pub route_column_list : List Route → List (List ℕ)
-route_column_list rs = from_column rs ∷ to_column rs ∷ gateway_column rs ∷ []
-
 unfoldable pub route_columns : List Route → List ℕ
-route_columns rs = columns_joined (route_column_list rs)
+route_columns rs = from_column rs ++ to_column rs
 
 unfoldable pub words_of : Book → List ℕ
 words_of b =
@@ -115,17 +100,15 @@ pub record RoutesStand (w : List ℕ) (rs : List Route) : Type 0 where
   pub count : route_count_of w ≡ length rs
   pub columns : route_columns_of w ≡ route_columns rs
 
--- the routes whose places and gateways stand side by side
-unfoldable pub routes_side_by_side : List ℕ → List ℕ → List ℕ → List Route
-routes_side_by_side [] ts gs = []
-routes_side_by_side (f ∷ fs) [] gs = []
-routes_side_by_side (f ∷ fs) (t ∷ ts) [] = []
-routes_side_by_side (f ∷ fs) (t ∷ ts) (g ∷ gs) = route_by g f t ∷ routes_side_by_side fs ts gs
+-- the routes whose places stand side by side
+unfoldable pub routes_side_by_side : List ℕ → List ℕ → List Route
+routes_side_by_side [] ts = []
+routes_side_by_side (f ∷ fs) [] = []
+routes_side_by_side (f ∷ fs) (t ∷ ts) = route_between f t ∷ routes_side_by_side fs ts
 
 -- the routes that words show: as many as are counted, by the columns
 unfoldable pub routes_of : List ℕ → List Route
-routes_of w =
-    routes_side_by_side (take (route_count_of w) (froms_of w)) (take (route_count_of w) (tos_of w)) (take (route_count_of w) (gateways_of w))
+routes_of w = routes_side_by_side (take (route_count_of w) (froms_of w)) (take (route_count_of w) (tos_of w))
 
 -- the book that words show
 abbrev pub book_of : List ℕ → Book

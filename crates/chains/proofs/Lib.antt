@@ -8,5 +8,4 @@ pub mod Routes
 pub mod ChainLists
 pub mod Longest
 pub mod Spreads
-pub mod Copies
 pub mod Along

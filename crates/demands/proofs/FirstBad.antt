@@ -27,14 +27,14 @@ least : (b : Book) (l : Line) (n : ℕ) → LineDue b l n → (0 < refusal_of b 
 unfolding refusal_of
 least b (line.Message i) n (message d) = (message_lowest b.messages i).lowest n d
 least b (line.Signal m s) n (signal d) = signal_least b.messages (placement m s) n d
-least b (line.Route g a i c j) n (route d) = (route_lowest b.routes g a i c j).lowest n d
+least b (line.Route a i c j) n (route d) = (route_lowest b.routes a i c j).lowest n d
 least b line.IllFormed n form = (omega arith, omega arith)
 
 deserves : (b : Book) (l : Line) → Built b.messages → 0 < refusal_of b l → LineDue b l (refusal_of b l)
 unfolding refusal_of
 deserves b (line.Message i) w h = message ((message_lowest b.messages i).due h)
 deserves b (line.Signal m s) w h = signal ((signal_lowest b.messages (placement m s) w).due h)
-deserves b (line.Route g a i c j) w h = route ((route_lowest b.routes g a i c j).due h)
+deserves b (line.Route a i c j) w h = route ((route_lowest b.routes a i c j).due h)
 deserves b line.IllFormed w h = form
 
 none_due : (b : Book) (l : Line) → refusal_of b l ≡ 0 → (n : ℕ) → LineDue b l n → ⊥

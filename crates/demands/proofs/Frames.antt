@@ -51,7 +51,7 @@ messages_with b (line.Message i) ls =
     ap (λ (ms : List Message). ms ++ m_messages ls) (grown_last b.messages (fresh i) (s_placements ls)) ∙
     append_assoc b.messages (with_all (fresh i) (s_placements ls) ∷ []) (m_messages ls)
 messages_with b (line.Signal n s) ls = refl
-messages_with b (line.Route g x i y j) ls = refl
+messages_with b (line.Route x i y j) ls = refl
 messages_with b line.IllFormed ls = refl
 
 -- the messages that the reader keeps are those that the text's M and S lines say

@@ -15,7 +15,6 @@ use Rattle.line.specs.declared.Line.TheVariants as line
 use Rattle.books.specs.Book.{Book, Route, no_book}
 use Rattle.books.proofs.RouteLines.{route_allowed}
 use Rattle.reading.specs.Reading.{passed, refusal_of, with_line, numbered_with, read_from, meanings, lines_read}
-use Rattle.books.specs.Words.{gateways}
 use Rattle.reading.specs.Taken.{froms, tos}
 use Rattle.reading.proofs.Passing.{went}
 use Rattle.demands.specs.Text.{line_route, r_routes, text_routes}
@@ -37,8 +36,8 @@ lines_in_limits n b at (l ∷ ls) e =
     by : (l : Line) → refusal_of b l ≡ 0 → AllInLimits (r_lines_in ls) → AllInLimits (r_lines_in (l ∷ ls))
     by (line.Message i) e h = h
     by (line.Signal m s) e h = h
-    by (line.Route g x i y j) e h =
-        let a = route_allowed b.routes g x i y j e in
+    by (line.Route x i y j) e h =
+        let a = route_allowed b.routes x i y j e in
         more (record { from = record { on_bus = a.from_bus; identified = a.from_identifier }; to = record { on_bus = a.to_bus; identified = a.to_identifier } }) h
     by line.IllFormed e h = h
 
@@ -56,9 +55,6 @@ from_at ls k = side_at (λ (r : Route). r.from) ls k
 
 to_at : (ls : List Line) (k : ℕ) → get_or (tos (r_routes ls)) k 0 ≡ place_key (r_line_at (r_lines_in ls) k).to_bus (r_line_at (r_lines_in ls) k).to_identifier
 to_at ls k = side_at (λ (r : Route). r.to) ls k
-
-pub gateway_at : (ls : List Line) (k : ℕ) → get_or (gateways (r_routes ls)) k 0 ≡ (r_line_at (r_lines_in ls) k).gateway
-gateway_at ls k = side_at (λ (r : Route). r.gateway) ls k
 
 lines_count : (ls : List Line) → length (r_routes ls) ≡ length (r_lines_in ls)
 unfolding r_routes

@@ -6,8 +6,6 @@ pub mod Refusals
 pub mod LowestLines
 pub mod Taken
 pub mod Spreading
-pub mod NextCopies
-pub mod OtherGateways
 pub mod Frames
 pub mod NoBook
 pub mod WritingBack

@@ -21,8 +21,8 @@ unfolding r_lines_from
 after n [] i h = absurd (omega arith)
 after n (line.Message m ∷ ls) i h = omega (arith, after (suc n) ls i h)
 after n (line.Signal m s ∷ ls) i h = omega (arith, after (suc n) ls i h)
-after n (line.Route g a b c d ∷ ls) zero h = omega arith
-after n (line.Route g a b c d ∷ ls) (suc i) h = omega (arith, after (suc n) ls i (omega arith))
+after n (line.Route a b c d ∷ ls) zero h = omega arith
+after n (line.Route a b c d ∷ ls) (suc i) h = omega (arith, after (suc n) ls i (omega arith))
 after n (line.IllFormed ∷ ls) i h = omega (arith, after (suc n) ls i h)
 
 pub rising : (n : ℕ) (ls : List Line) (i j : ℕ) → i < j → j < length (r_lines_from n ls) → get_or (r_lines_from n ls) i 0 < get_or (r_lines_from n ls) j 0
@@ -30,9 +30,9 @@ unfolding r_lines_from
 rising n [] i j h l = absurd (omega arith)
 rising n (line.Message m ∷ ls) i j h l = rising (suc n) ls i j h l
 rising n (line.Signal m s ∷ ls) i j h l = rising (suc n) ls i j h l
-rising n (line.Route g a b c d ∷ ls) i zero h l = absurd (omega arith)
-rising n (line.Route g a b c d ∷ ls) zero (suc j) h l = omega (arith, after (suc n) ls j (omega arith))
-rising n (line.Route g a b c d ∷ ls) (suc i) (suc j) h l = rising (suc n) ls i j (omega arith) (omega arith)
+rising n (line.Route a b c d ∷ ls) i zero h l = absurd (omega arith)
+rising n (line.Route a b c d ∷ ls) zero (suc j) h l = omega (arith, after (suc n) ls j (omega arith))
+rising n (line.Route a b c d ∷ ls) (suc i) (suc j) h l = rising (suc n) ls i j (omega arith) (omega arith)
 rising n (line.IllFormed ∷ ls) i j h l = rising (suc n) ls i j h l
 
 -- the line numbers that the reader keeps are those of the text's R lines, counted from 1
@@ -44,7 +44,7 @@ routes_with : (b : Book) (l : Line) (ls : List Line) → (with_line b l).routes 
 unfolding with_line r_routes r_lines_in
 routes_with b (line.Message i) ls = refl
 routes_with b (line.Signal n s) ls = refl
-routes_with b (line.Route g x i y j) ls = append_assoc b.routes (route g x i y j ∷ []) (r_routes ls)
+routes_with b (line.Route x i y j) ls = append_assoc b.routes (route x i y j ∷ []) (r_routes ls)
 routes_with b line.IllFormed ls = refl
 
 -- the routes that the reader keeps are those that the text's R lines say
@@ -58,7 +58,6 @@ later : (n : ℕ) (l : Line) (ls : List Line) {k p q : ℕ} → RouteAt (suc n) 
 later n l ls s = record {
   before = suc s.before;
   number = omega (arith, s.number);
-  gateway = s.gateway;
   bus = s.bus;
   identifier = s.identifier;
   to_bus = s.to_bus;
@@ -74,10 +73,9 @@ unfolding r_lines_from r_routes r_lines_in
 at_line n [] i h = absurd (omega arith)
 at_line n (line.Message m ∷ ls) i h = later n (line.Message m) ls (at_line (suc n) ls i h)
 at_line n (line.Signal m s ∷ ls) i h = later n (line.Signal m s) ls (at_line (suc n) ls i h)
-at_line n (line.Route g a b c d ∷ ls) zero h = record {
+at_line n (line.Route a b c d ∷ ls) zero h = record {
   before = 0;
   number = omega arith;
-  gateway = g;
   bus = a;
   identifier = b;
   to_bus = c;
@@ -86,7 +84,7 @@ at_line n (line.Route g a b c d ∷ ls) zero h = record {
   from = refl;
   to = refl;
 }
-at_line n (line.Route g a b c d ∷ ls) (suc i) h = later n (line.Route g a b c d) ls (at_line (suc n) ls i (omega arith))
+at_line n (line.Route a b c d ∷ ls) (suc i) h = later n (line.Route a b c d) ls (at_line (suc n) ls i (omega arith))
 at_line n (line.IllFormed ∷ ls) i h = later n line.IllFormed ls (at_line (suc n) ls i h)
 
 -- and the line number that it keeps for a route is that of the route's R line

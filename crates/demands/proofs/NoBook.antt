@@ -31,9 +31,7 @@ use Rattle.reading.proofs.Exact.{from_messages, messages_from}
 use Rattle.route_tables.proofs.FromTexts.{routes_from_text, text_to_routes}
 use Rattle.route_tables.specs.Tables.{OfTakenText}
 use Rattle.route_tables.proofs.OneText.{of_taken_text}
-use Rattle.next_copies.specs.Answers.{CopiedBy, CopiedAnswer}
-use Rattle.next_copies.specs.Answers as next
-use Rattle.routes.specs.Answers.{Rooms, SpreadBy, no_place, no_room, spreads, SpreadAnswer, not_a_book, by_routes}
+use Rattle.routes.specs.Answers.{SpreadBy, no_place, no_room, spreads, SpreadAnswer, not_a_book, by_routes}
 use Rattle.book_writer.specs.Answers.{WriteBy, WriteAnswer}
 use Rattle.book_writer.specs.Answers as writer
 use Rattle.demands.proofs.Taken.{left_tables}
@@ -113,41 +111,22 @@ pub list_12 : (figures : Figures) (w text lent : List ℕ) → (listed_number (l
 list_12 figures w text lent = by_test w 0 (λ e. omega arith) _ (refused_12 figures w text lent)
 
 -- the spread, whose tables are the routes
-module _ (w : List ℕ) (r : IsRecord w) (bus identifier : ℕ) (room-lent : Rooms) where
-  told_12 : {why n : ℕ} {after : Rooms} → SpreadAnswer w bus identifier room-lent why n after → why ≡ 12 → RoutesFrom w → ⊥
+module _ (w : List ℕ) (r : IsRecord w) (bus identifier : ℕ) (room-lent : List ℕ) where
+  told_12 : {why n : ℕ} {after : List ℕ} → SpreadAnswer w bus identifier room-lent why n after → why ≡ 12 → RoutesFrom w → ⊥
   told_12 (not_a_book x) e f = x (text_to_routes w f)
   told_12 (by_routes t b) e f = no_12 b e
     where
-      no_12 : {why n : ℕ} {after : Rooms} → SpreadBy (routes_of w) bus identifier room-lent why n after → why ≡ 12 → ⊥
+      no_12 : {why n : ℕ} {after : List ℕ} → SpreadBy (routes_of w) bus identifier room-lent why n after → why ≡ 12 → ⊥
       no_12 (no_place x) e = omega arith
       no_12 (no_room x l) e = omega arith
       no_12 (spreads x l) e = omega arith
 
-  is_12 : {why n : ℕ} {after : Rooms} → SpreadAnswer w bus identifier room-lent why n after → (RoutesFrom w → ⊥) → why ≡ 12
+  is_12 : {why n : ℕ} {after : List ℕ} → SpreadAnswer w bus identifier room-lent why n after → (RoutesFrom w → ⊥) → why ≡ 12
   is_12 (not_a_book x) without = refl
   is_12 (by_routes t b) without = absurd (without (routes_from_text w r t))
 
-  pub spread_12 : {why n : ℕ} {after : Rooms} → SpreadAnswer w bus identifier room-lent why n after → (why ≡ 12) ↔ (RoutesFrom w → ⊥)
+  pub spread_12 : {why n : ℕ} {after : List ℕ} → SpreadAnswer w bus identifier room-lent why n after → (why ≡ 12) ↔ (RoutesFrom w → ⊥)
   spread_12 a = (told_12 a, is_12 a)
-
--- the copies of one gateway, by the same tables
-module _ (w : List ℕ) (r : IsRecord w) (gateway bus identifier : ℕ) (room-lent : List ℕ) where
-  next_told : {why n : ℕ} {after : List ℕ} → CopiedAnswer w gateway bus identifier room-lent why n after → why ≡ 12 → RoutesFrom w → ⊥
-  next_told (next.no_book_law x) e f = x (text_to_routes w f)
-  next_told (next.by_the_routes t b) e f = no_12 b e
-    where
-      no_12 : {why n : ℕ} {after : List ℕ} → CopiedBy (routes_of w) gateway bus identifier room-lent why n after → why ≡ 12 → ⊥
-      no_12 (next.no_gateway l) e = omega arith
-      no_12 (next.no_start l x) e = omega arith
-      no_12 (next.no_space l x q) e = omega arith
-      no_12 (next.copies l x q) e = omega arith
-
-  next_is_12 : {why n : ℕ} {after : List ℕ} → CopiedAnswer w gateway bus identifier room-lent why n after → (RoutesFrom w → ⊥) → why ≡ 12
-  next_is_12 (next.no_book_law x) without = refl
-  next_is_12 (next.by_the_routes t b) without = absurd (without (routes_from_text w r t))
-
-  pub next_12 : {why n : ℕ} {after : List ℕ} → CopiedAnswer w gateway bus identifier room-lent why n after → (why ≡ 12) ↔ (RoutesFrom w → ⊥)
-  next_12 a = (next_told a, next_is_12 a)
 
 -- the writer, which uses all tables
 module _ (w : List ℕ) (room-lent : List ℕ) where

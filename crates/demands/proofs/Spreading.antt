@@ -1,17 +1,14 @@
 -- Demand 3: from any valid place, given room enough, the spread by the words that the reader left of a taken text lists every place that a
--- chain of its R lines reaches, each once, nothing else, and beside each the gateway of the last R line of the chain that reaches it; and it
--- is refused with 62 exactly where there is less room. Assumes nothing.
+-- chain of its R lines reaches, each once, nothing else; and it is refused with 62 exactly where there is less room. Assumes nothing.
 use mathlib.Core.Path.{◌≡◌, refl, sym, ap, ◌∙◌, subst}
-use mathlib.Core.Logic.{◌↔◌, ◌⊎◌, inl, inr, ⊎_elim}
-use Prim.Native.Nat.{ℕ, ◌≤◌, ◌<◌}
+use mathlib.Core.Logic.{◌↔◌}
+use Prim.Native.Nat.{ℕ, ◌≤◌}
 use native.Mathlib.Omega.{arith}
-use native.Mathlib.Decide.{dec_le}
-use mathlib.Core.List.{List, ◌++◌, Memᴰ}
+use mathlib.Core.List.{List, Memᴰ}
 use lib.ListN.{length, drop}
 use lib.Seq.{take-append_seam, drop-append_seam}
 use Rattle.record.specs.Place.{place_key}
 use Rattle.chains.specs.Chain.{Chain}
-use Rattle.chains.specs.Copies.{last_route}
 use Rattle.lists.proofs.Pigeons.{pigeons}
 use Rattle.answers.specs.Numbers.{taken}
 use Rattle.books.specs.Book.{Route}
@@ -19,21 +16,20 @@ use Rattle.books.specs.Words.{words_of, routes_of}
 use Rattle.books.proofs.RouteColumns.{shows_routes, words_routes}
 use Rattle.books.proofs.Building.{built_good}
 use Rattle.books.proofs.Columns.{within}
-use Rattle.reading.specs.Reading.{meanings}
 use Rattle.reading.specs.Taken.{froms, tos, SoundRoutes}
 use Rattle.reading.proofs.Passing.{read_built}
 use Rattle.reading.proofs.Counts.{text_routed}
 use Rattle.route_tables.specs.Tables.{RoutesTaken, LeftOf}
 use Rattle.route_tables.proofs.OneText.{text_routes_taken}
-use Rattle.routes.specs.Answers.{IsPlace, spread_along, gateways_along, Rooms, SpreadBy, no_place, no_room, spreads, SpreadAnswer, not_a_book, by_routes}
+use Rattle.routes.specs.Answers.{IsPlace, spread_along, SpreadBy, no_place, no_room, spreads, SpreadAnswer, not_a_book, by_routes}
 use Rattle.routes.specs.Listed.{Lists}
-use Rattle.routes.proofs.Listed.{spread_lists, gateways_count, gateway_of_last}
+use Rattle.routes.proofs.Listed.{spread_lists}
 use Rattle.book.specs.Answered.{Answered}
 use Rattle.demands.specs.Text.{text_routes}
 use Rattle.demands.specs.RLines.{text_rlines, ListsPlaces, AllInLimits}
 use Rattle.demands.specs.Spreads.{RoomEnough, RoomForFewer, Spreads}
 use Rattle.demands.proofs.LineNumbers.{routes_of_text}
-use Rattle.demands.proofs.Keys.{text_in_limits, many, gateway_at, keyed, unkeyed, ends}
+use Rattle.demands.proofs.Keys.{text_in_limits, many, keyed, unkeyed, ends}
 use Rattle.demands.proofs.Taken.{left}
 
 -- what lists the places that chains of routes reach lists those that chains of R lines reach
@@ -69,12 +65,6 @@ module _ (text : List ℕ) (limits : AllInLimits (text_rlines text)) (bus identi
     abbrev s : List ℕ
     s = spread_along (text_routes text) bus identifier
 
-    abbrev g : List ℕ
-    g = gateways_along (text_routes text) bus identifier
-
-    gs_many : length g ≡ length s
-    gs_many = gateways_count (text_routes text) sound bus identifier
-
     listed : Lists (froms (text_routes text)) (tos (text_routes text)) (place_key bus identifier) s
     listed = spread_lists (text_routes text) sound bus identifier
 
@@ -84,42 +74,32 @@ module _ (text : List ℕ) (limits : AllInLimits (text_rlines text)) (bus identi
         let more = pigeons s l listed.once (λ q m. let r = listed.only q m in reached q r.0 r.1 l h) in
         omega (arith, fewer, more)
 
-    module _ (room : Rooms) where
-      enough_spreads : {why n : ℕ} {after : Rooms} → RoomEnough (text_rlines text) bus identifier room → SpreadBy (text_routes text) bus identifier room why n after → Spreads (text_rlines text) bus identifier room why n after
+    module _ (room : List ℕ) where
+      enough_spreads : {why n : ℕ} {after : List ℕ} → RoomEnough (text_rlines text) bus identifier room → SpreadBy (text_routes text) bus identifier room why n after → Spreads (text_rlines text) bus identifier room why n after
       enough_spreads e (no_place x) = absurd (x p)
-      enough_spreads e (no_room x l) = absurd (omega (arith, as_long e.places e.lists, e.fits, e.gateways_fit))
+      enough_spreads e (no_room x l) = absurd (omega (arith, as_long e.places e.lists, e.fits))
       enough_spreads e (spreads x l) = record {
         not_refused = refl;
-        lists = subst (ListsPlaces (text_rlines text) bus identifier) (sym (take-append_seam s (drop (length s) room.places))) (lists_lines s listed);
-        made_by = λ k b j c h same w.
-            gateway_of_last (text_routes text) sound bus identifier room (spreads x l) refl k h c
-            (subst (Chain (froms (text_routes text)) (tos (text_routes text)) (place_key bus identifier) c) (sym same) (keyed text bus identifier c b j w)) ∙
-            gateway_at (meanings text) (last_route c);
-        rest = drop-append_seam s (drop (length s) room.places);
-        gateways_rest = ap (λ (n : ℕ). drop n (g ++ drop (length s) room.gateways)) (sym gs_many) ∙ drop-append_seam g (drop (length s) room.gateways);
+        lists = subst (ListsPlaces (text_rlines text) bus identifier) (sym (take-append_seam s (drop (length s) room))) (lists_lines s listed);
+        rest = drop-append_seam s (drop (length s) room);
       }
 
-      refused_short : {why n : ℕ} {after : Rooms} → why ≡ 62 → SpreadBy (text_routes text) bus identifier room why n after → RoomForFewer (text_rlines text) bus identifier room
+      refused_short : {why n : ℕ} {after : List ℕ} → why ≡ 62 → SpreadBy (text_routes text) bus identifier room why n after → RoomForFewer (text_rlines text) bus identifier room
       refused_short e (no_place x) = absurd (x p)
-      refused_short e (no_room x l) = record { places = s; lists = lists_lines s listed; short = which (dec_le (length s) (length room.places)) }
-        where
-          which : Dec (length s ≤ length room.places) → (length room.places < length s) ⊎ (length room.gateways < length s)
-          which (yes h) = inr (omega (arith, l))
-          which (no h) = inl (omega (arith, h))
+      refused_short e (no_room x l) = record { places = s; lists = lists_lines s listed; short = l }
       refused_short e (spreads x l) = absurd (omega arith)
 
-      short_refused : {why n : ℕ} {after : Rooms} → RoomForFewer (text_rlines text) bus identifier room → SpreadBy (text_routes text) bus identifier room why n after → why ≡ 62
+      short_refused : {why n : ℕ} {after : List ℕ} → RoomForFewer (text_rlines text) bus identifier room → SpreadBy (text_routes text) bus identifier room why n after → why ≡ 62
       short_refused t (no_place x) = absurd (x p)
       short_refused t (no_room x l) = refl
-      short_refused t (spreads x l) =
-          ⊎_elim (λ h. absurd (omega (arith, as_long t.places t.lists, h))) (λ h. absurd (omega (arith, as_long t.places t.lists, h))) t.short
+      short_refused t (spreads x l) = absurd (omega (arith, as_long t.places t.lists, t.short))
 
 -- by the words that the reader left
 module _ (text : List ℕ) {m s r : ℕ} {w : List ℕ} (a : Answered text (taken m s r) w) where
   abbrev was : LeftOf text w
   was = left text a
 
-  pub shows_text : routes_of w ≡ text_routes text
+  shows_text : routes_of w ≡ text_routes text
   shows_text =
       let t = was.taken in
       let l = within was.book.messages (built_good (read_built text t.read)) in
@@ -129,17 +109,17 @@ module _ (text : List ℕ) {m s r : ℕ} {w : List ℕ} (a : Answered text (take
   sound_text : SoundRoutes (text_routes text)
   sound_text = subst SoundRoutes (routes_of_text text was.taken.read) was.taken.sound
 
-  pub is_taken : RoutesTaken w
+  is_taken : RoutesTaken w
   is_taken = subst RoutesTaken (sym was.words) (text_routes_taken text was.book was.taken)
 
-  pub limits : AllInLimits (text_rlines text)
+  limits : AllInLimits (text_rlines text)
   limits = text_in_limits text was.taken.read
 
-  module _ (bus identifier : ℕ) (p : IsPlace bus identifier) (room : Rooms) {why n : ℕ} {after : Rooms} (x : SpreadAnswer w bus identifier room why n after) where
+  module _ (bus identifier : ℕ) (p : IsPlace bus identifier) (room : List ℕ) {why n : ℕ} {after : List ℕ} (x : SpreadAnswer w bus identifier room why n after) where
     by_text : SpreadBy (text_routes text) bus identifier room why n after
     by_text = from x
       where
-        from : {why n : ℕ} {after : Rooms} → SpreadAnswer w bus identifier room why n after → SpreadBy (text_routes text) bus identifier room why n after
+        from : {why n : ℕ} {after : List ℕ} → SpreadAnswer w bus identifier room why n after → SpreadBy (text_routes text) bus identifier room why n after
         from (not_a_book none) = absurd (none is_taken)
         from {why} {n} {after} (by_routes t b) = subst (λ (rs : List Route). SpreadBy rs bus identifier room why n after) shows_text b
 
@@ -152,7 +132,7 @@ module _ (text : List ℕ) {m s r : ℕ} {w : List ℕ} (a : Answered text (take
     refused_62 = (λ e. refused_short text limits bus identifier p sound_text room e by_text, λ t. short_refused text limits bus identifier p sound_text room t by_text)
 
   -- room for as many entries as there are R lines is always enough
-  pub routes_enough : (bus identifier : ℕ) → IsPlace bus identifier → (room : Rooms) → length (text_rlines text) ≤ length room.places → length (text_rlines text) ≤ length room.gateways → RoomEnough (text_rlines text) bus identifier room
-  routes_enough bus identifier p room h g =
+  pub routes_enough : (bus identifier : ℕ) → IsPlace bus identifier → (room : List ℕ) → length (text_rlines text) ≤ length room → RoomEnough (text_rlines text) bus identifier room
+  routes_enough bus identifier p room h =
       let l = lists_lines text limits bus identifier p _ (spread_lists (text_routes text) sound_text bus identifier) in
-      record { places = spread_along (text_routes text) bus identifier; lists = l; fits = omega (arith, l.few); gateways_fit = omega (arith, l.few) }
+      record { places = spread_along (text_routes text) bus identifier; lists = l; fits = omega (arith, l.few) }

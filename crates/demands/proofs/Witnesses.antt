@@ -1,6 +1,5 @@
--- What the reader answers to seven texts: document 01's book is taken with 1, 2 and 2 lines, with its sixth line it is refused with 10 on
--- line 4, a repeated R line with 11, whichever gateways carry it, two R lines from one place are taken, and so is a gateway 15, but not 16. So
--- no one verdict serves for everything. Assumes nothing.
+-- What the reader answers to four texts: document 01's book is taken with 1, 2 and 2 lines, with its sixth line it is refused with 10 on
+-- line 4, a repeated R line with 11, and two R lines from one place are taken. So no one verdict serves for everything. Assumes nothing.
 use mathlib.Core.Path.{◌≡◌, refl, ap}
 use mathlib.Core.Bool.{Bool, false}
 use Prim.Native.Nat.{ℕ, zero, suc, ◌<◌}
@@ -25,11 +24,10 @@ use Rattle.answers.specs.Numbers.{Said, taken, refused}
 use Rattle.books.specs.Book.{all_placements, last_placements, in_last}
 use Rattle.books.specs.Lines.{is_in, unknown_or_over, misplaced, meets, meets_earlier, message_refusal, signal_refusal, after_refusal, route_refusal}
 use Rattle.books.specs.Words.{words_of}
-use Rattle.reading.specs.Reading as outcome
 use Rattle.reading.specs.Reading.{passed, onward, read_from, refusal_of, with_line, numbered_with, meanings, lines_read}
-use Rattle.book.specs.Answered.{Answered, bad_line, closed_chain, two_chains, taken_with}
+use Rattle.book.specs.Answered.{Answered, closed_chain, two_chains, taken_with}
 use Rattle.book.proofs.Once.{answered_once}
-use Rattle.demands.specs.Examples.{first_text, loop_text, doubling_text, fork_text, first_book, loop_book, doubling_book, fork_book, boxes_text, boxes_book, chain_text, chain_book, sixteen_text}
+use Rattle.demands.specs.Examples.{first_text, loop_text, doubling_text, fork_text, first_book, loop_book, doubling_book, fork_book}
 use Rattle.demands.specs.Loops.{LinesPass, RefusedWith, IsTaken}
 
 -- the three places of the books: 18FF21F3 on buses 0 and 1, 18FF21D0 on bus 2
@@ -58,10 +56,10 @@ first_sound =
     let free = no_loop (a ∷ b ∷ []) (b ∷ c ∷ []) 2 (none_of_two (comes_back_spec (a ∷ b ∷ []) (b ∷ c ∷ [])) refl refl) (omega arith) in
     no_doubling (a ∷ b ∷ []) (b ∷ c ∷ []) free 2 (none_of_two (begins (a ∷ b ∷ []) (b ∷ c ∷ [])) refl refl) (omega arith)
 
--- the lines of six pass, and of the seventh the second does not
-reads : (lines_read first_text ≡ passed first_book (4 ∷ 5 ∷ [])) × (lines_read loop_text ≡ passed loop_book (4 ∷ 5 ∷ 6 ∷ [])) × (lines_read doubling_text ≡ passed doubling_book (1 ∷ 2 ∷ [])) × (lines_read fork_text ≡ passed fork_book (1 ∷ 2 ∷ [])) × (lines_read boxes_text ≡ passed boxes_book (1 ∷ 2 ∷ [])) × (lines_read chain_text ≡ passed chain_book (1 ∷ 2 ∷ [])) × (lines_read sixteen_text ≡ outcome.refused 3 2)
+-- the lines of all four pass
+reads : (lines_read first_text ≡ passed first_book (4 ∷ 5 ∷ [])) × (lines_read loop_text ≡ passed loop_book (4 ∷ 5 ∷ 6 ∷ [])) × (lines_read doubling_text ≡ passed doubling_book (1 ∷ 2 ∷ [])) × (lines_read fork_text ≡ passed fork_book (1 ∷ 2 ∷ []))
 unfolding lines_read read_from meanings lines lines_of split on_first meaning_of line_meaning of_fields of_kind of_message of_signal of_route identifier decimal numeral_from digit_value needless_zero refusal_of onward message_refusal signal_refusal after_refusal route_refusal with_line numbered_with is_in unknown_or_over misplaced meets meets_earlier bits_of_spec row_of rows last_placements all_placements in_last
-reads = (refl, refl, refl, refl, refl, refl, refl)
+reads = (refl, refl, refl, refl)
 
 -- "prints `ok 1 2 2`"
 pub ok_1_2_2 : Answered first_text (taken 1 2 2) (words_of first_book)
@@ -88,18 +86,6 @@ begins_two = (
 
 pub no_11_1 : Answered doubling_text (refused 11 1) empty_book
 no_11_1 = two_chains (record { short = omega arith; read = reads.2 }) free_twice begins_two
-
--- the same route by two gateways
-pub boxes_double : Answered boxes_text (refused 11 1) empty_book
-boxes_double = two_chains (record { short = omega arith; read = reads.4 }) free_twice begins_two
-
--- gateway 15 is taken, 16 is not
-pub ok_by_15 : Answered chain_text (taken 0 0 2) (words_of chain_book)
-unfolding all_placements
-ok_by_15 = taken_with (record { short = omega arith; at = 1 ∷ 2 ∷ []; read = reads.5; sound = first_sound })
-
-pub no_3_2 : Answered sixteen_text (refused 3 2) empty_book
-no_3_2 = bad_line (omega arith) reads.6
 
 -- two R lines from one place
 fork_sound : IsSound (a ∷ a ∷ []) (b ∷ c ∷ [])

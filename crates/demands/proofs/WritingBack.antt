@@ -1,5 +1,5 @@
 -- Document 02, P3, from the calls' answers on: what the writer leaves of a record is read as that record; what it leaves of the words of a
--- taken text has the text's lines with every gateway named, and is that text where its R lines stand last; it is written again the same; and no room of 4,992
+-- taken text has the text's lines, and is the text where its R lines stand last; it is written again the same; and no room of 4,800
 -- bytes is too small. Assumes nothing.
 use mathlib.Core.Path.{◌≡◌, refl, sym, ap, ◌∙◌, subst}
 use mathlib.Core.Logic.{◌↔◌}
@@ -28,9 +28,6 @@ use Rattle.book.proofs.Once.{answered_once}
 use Rattle.book_writer.specs.Answers.{text_of, TablesTaken, WriteBy, no_room, writes, WriteAnswer, not_a_book, by_tables}
 use Rattle.reading.proofs.Bound.{bound}
 use Rattle.rewriting.specs.LineKinds.{text_lines, RoutesLast}
-use Rattle.parts.specs.Joined.{text_of_lines}
-use Rattle.rewriting.specs.Naming.{NamesGateways, named_text}
-use Rattle.rewriting.proofs.Naming.{messages_named, routes_named}
 use Rattle.rewriting.proofs.Back as back
 use Rattle.demands.specs.WritingBack.{AtFront, SameLines, SameTables}
 use Rattle.demands.proofs.Taken.{left, left_tables}
@@ -76,7 +73,7 @@ module _ (w : List ℕ) (r : IsRecord w) where
   own_answer : TablesTaken w → Answered (text_of w) (taken (message_count_of w) (signal_count_of w) (route_count_of w)) w
   own_answer t =
       let s = taken_stands w t.messages in
-      let a = taken_with (has_text (book_of w) (good_built (messages_of w) s.1) (routed_shown w r t.routes.carried) t.routes.sound) in
+      let a = taken_with (has_text (book_of w) (good_built (messages_of w) s.1) (routed_shown w r) t.routes.sound) in
       rw (s.0.messages, s.0.signals, t.routes.stand.count) (subst (Answered (text_of w) _) (sym (stand_words w (book_of w) r s.0 t.routes.stand)) a)
 
   module _ (room : List ℕ) {n : ℕ} {after : List ℕ} (a : WriteAnswer w room 0 n after) where
@@ -95,12 +92,12 @@ module _ (w : List ℕ) (r : IsRecord w) where
         let d = subst (λ (x : List ℕ). WriteAnswer x other why m later) same c in
         subst (AtFront other why m later) (sym f.front) (written w other (tables_taken w room a) d (omega (arith, f.count)))
 
-  -- a room of 4,992 bytes is enough
+  -- a room of 4,800 bytes is enough
   pub most_enough : (room : List ℕ) {why n : ℕ} {after : List ℕ} → most_written ≤ length room → WriteAnswer w room why n after → why ≡ 71 → ⊥
   most_enough room h (not_a_book x) e = omega arith
   most_enough room h (by_tables t b) e =
       let s = taken_stands w t.messages in
-      omega (arith, (by_room w room b).0 e, bound (book_of w) (good_built (messages_of w) s.1) (routed_shown w r t.routes.carried))
+      omega (arith, (by_room w room b).0 e, bound (book_of w) (good_built (messages_of w) s.1) (routed_shown w r))
 
 -- ---- of the words that the reader left of a taken text
 module _ (b : Book) (text : List ℕ) (t : TakenWith text b) where
@@ -119,56 +116,25 @@ module _ (text : List ℕ) {m s r : ℕ} {w : List ℕ} (a : Answered text (take
   same_text : text_of w ≡ book_text l.book
   same_text = ap text_of l.words ∙ ap book_text (shown_again l.book text l.taken)
 
-  as_long : length (text_of w) ≡ length (named_text text)
+  as_long : length (text_of w) ≡ length text
   as_long = ap length same_text ∙ back.same_length text l.taken.read
 
   taken_tables : TablesTaken w
   taken_tables = left_tables text w l
 
-  -- a text that names every gateway is as long as with every gateway named, and the same
-  stays : NamesGateways text → named_text text ≡ text
-  stays n = back.names_stay text l.taken.read n
-
   module _ (room : List ℕ) {why n : ℕ} {after : List ℕ} (b : WriteAnswer w room why n after) where
-    -- 71 exactly where the room is smaller than the text that was read, with every gateway named; else it is written
-    pub refused_71 : (why ≡ 71) ↔ (length room < length (named_text text))
+    -- 71 exactly where the room is smaller than the text that was read; else it is written
+    pub refused_71 : (why ≡ 71) ↔ (length room < length text)
     refused_71 = let k = told_room w room taken_tables b in (λ e. omega (arith, k.0 e, as_long), λ h. k.1 (omega (arith, as_long)))
 
-    -- what is written has the lines of the text, with every gateway named
-    pub write_of_taken : length (named_text text) ≤ length room → AtFront room why n after (text_of w) × SameLines (named_text text) (take n after)
+    pub write_of_taken : length text ≤ length room → AtFront room why n after (text_of w) × SameLines text (take n after)
     write_of_taken h =
         let f = written w room taken_tables b (omega (arith, as_long)) in
         let e = f.front ∙ same_text in
-        let q = l.taken.read in (
-          f,
-          subst (SameLines (named_text text)) (sym e) (record {
-            of_messages = (back.same_lines text q).0 ∙ sym (messages_named text);
-            of_routes_law = (back.same_lines text q).1 ∙ sym (routes_named text);
-            in_order = back.in_order text q ∙ ap text_of_lines (back.named_parts text q);
-            long = back.same_length text q;
-          }),
-        )
+        let q = l.taken.read in
+        (f, subst (SameLines text) (sym e) (record { of_messages = (back.same_lines text q).0; of_routes = (back.same_lines text q).1; in_order = back.in_order text q; long = back.same_length text q }))
 
-    -- and names every gateway
-    pub written_names : length (named_text text) ≤ length room → NamesGateways (take n after)
-    written_names h = subst NamesGateways (sym ((write_of_taken h).0.front ∙ same_text)) (back.written_names text l.taken.read)
-
-    -- so of a text that names every gateway it has the same lines, and is as long
-    pub same_of_named : NamesGateways text → length text ≤ length room → AtFront room why n after (text_of w) × SameLines text (take n after)
-    same_of_named k h =
-        let x = write_of_taken (omega (arith, ap length (stays k))) in
-        (x.0, subst (λ (t : List ℕ). SameLines t (take n after)) (stays k) x.1)
-
-    -- "A book with its R lines last comes back byte for byte": with every gateway named
-    pub named_back : length (named_text text) ≤ length room → RoutesLast (text_lines text) → AtFront room why n after (named_text text)
-    named_back h last = subst (AtFront room why n after) (same_text ∙ back.named_back text l.taken.read last) (write_of_taken h).0
-
-    pub comes_back : NamesGateways text → length text ≤ length room → RoutesLast (text_lines text) → AtFront room why n after text
-    comes_back k h last = subst (AtFront room why n after) (stays k) (named_back (omega (arith, ap length (stays k))) last)
-
--- ---- FOUR VALUES OR FIVE: a text is taken exactly when it is taken with every gateway named, with the same counts and the same words
-pub taken_named : (text : List ℕ) {m s r : ℕ} {w : List ℕ} → Answered text (taken m s r) w → Answered (named_text text) (taken m s r) w
-taken_named text (taken_with t) = taken_with (back.taken_named text t)
-
-pub taken_unnamed : (text : List ℕ) {m s r : ℕ} {w : List ℕ} → Answered (named_text text) (taken m s r) w → Answered text (taken m s r) w
-taken_unnamed text (taken_with t) = taken_with (back.taken_unnamed text t)
+    -- "A book with its R lines last comes back byte for byte."
+    pub comes_back : length text ≤ length room → RoutesLast (text_lines text) → AtFront room why n after text
+    comes_back h last =
+        subst (AtFront room why n after) (same_text ∙ back.comes_back text l.taken.read last) (write_of_taken h).0

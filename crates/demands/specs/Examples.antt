@@ -1,6 +1,5 @@
--- Seven texts, in bytes, the text of each line above its bytes: document 01's book, the same with its sixth line, a repeated R line, the same
--- route by two gateways, two R lines from one place, a chain over the gateways 1 and 15, and a gateway 16. Assumes nothing: these are
--- definitions.
+-- Four texts, in bytes, the text of each line above its bytes: document 01's book, the same with its sixth line, a repeated R line, and two R
+-- lines from one place. Assumes nothing: these are definitions.
 use Rattle.std.specs.Prelude.{ℕ, List, [], ◌∷◌, ◌++◌}
 use Rattle.books.specs.Book.{Book, Message, placement, route}
 
@@ -32,22 +31,6 @@ example_r20 = 82 ∷ 9 ∷ 50 ∷ 9 ∷ 49 ∷ 56 ∷ 70 ∷ 70 ∷ 50 ∷ 49 �
 abbrev pub example_r02 : List ℕ
 example_r02 = 82 ∷ 9 ∷ 48 ∷ 9 ∷ 49 ∷ 56 ∷ 70 ∷ 70 ∷ 50 ∷ 49 ∷ 70 ∷ 51 ∷ 9 ∷ 50 ∷ 9 ∷ 49 ∷ 56 ∷ 70 ∷ 70 ∷ 50 ∷ 49 ∷ 68 ∷ 48 ∷ 10 ∷ []
 
--- R·5·0·18FF21F3·1·18FF21F3
-abbrev pub example_r01by5 : List ℕ
-example_r01by5 = 82 ∷ 9 ∷ 53 ∷ 9 ∷ 48 ∷ 9 ∷ 49 ∷ 56 ∷ 70 ∷ 70 ∷ 50 ∷ 49 ∷ 70 ∷ 51 ∷ 9 ∷ 49 ∷ 9 ∷ 49 ∷ 56 ∷ 70 ∷ 70 ∷ 50 ∷ 49 ∷ 70 ∷ 51 ∷ 10 ∷ []
-
--- R·1·0·18FF21F3·1·18FF21F3
-abbrev pub example_r01by1 : List ℕ
-example_r01by1 = 82 ∷ 9 ∷ 49 ∷ 9 ∷ 48 ∷ 9 ∷ 49 ∷ 56 ∷ 70 ∷ 70 ∷ 50 ∷ 49 ∷ 70 ∷ 51 ∷ 9 ∷ 49 ∷ 9 ∷ 49 ∷ 56 ∷ 70 ∷ 70 ∷ 50 ∷ 49 ∷ 70 ∷ 51 ∷ 10 ∷ []
-
--- R·15·1·18FF21F3·2·18FF21D0
-abbrev pub example_r12by15 : List ℕ
-example_r12by15 = 82 ∷ 9 ∷ 49 ∷ 53 ∷ 9 ∷ 49 ∷ 9 ∷ 49 ∷ 56 ∷ 70 ∷ 70 ∷ 50 ∷ 49 ∷ 70 ∷ 51 ∷ 9 ∷ 50 ∷ 9 ∷ 49 ∷ 56 ∷ 70 ∷ 70 ∷ 50 ∷ 49 ∷ 68 ∷ 48 ∷ 10 ∷ []
-
--- R·16·1·18FF21F3·2·18FF21D0
-abbrev pub example_r12by16 : List ℕ
-example_r12by16 = 82 ∷ 9 ∷ 49 ∷ 54 ∷ 9 ∷ 49 ∷ 9 ∷ 49 ∷ 56 ∷ 70 ∷ 70 ∷ 50 ∷ 49 ∷ 70 ∷ 51 ∷ 9 ∷ 50 ∷ 9 ∷ 49 ∷ 56 ∷ 70 ∷ 70 ∷ 50 ∷ 49 ∷ 68 ∷ 48 ∷ 10 ∷ []
-
 -- document 01's book
 abbrev pub first_text : List ℕ
 first_text = example_m ++ example_s203 ++ example_s204 ++ example_r01 ++ example_r12
@@ -60,18 +43,6 @@ loop_text = first_text ++ example_r20
 abbrev pub doubling_text : List ℕ
 doubling_text = example_r01 ++ example_r01
 
--- the same route by two gateways, of which one is named
-abbrev pub boxes_text : List ℕ
-boxes_text = example_r01 ++ example_r01by5
-
--- a chain over two gateways, the second of them the highest that may be
-abbrev pub chain_text : List ℕ
-chain_text = example_r01by1 ++ example_r12by15
-
--- and one above it
-abbrev pub sixteen_text : List ℕ
-sixteen_text = example_r01by1 ++ example_r12by16
-
 -- two R lines from one place
 abbrev pub fork_text : List ℕ
 fork_text = example_r01 ++ example_r02
@@ -81,23 +52,17 @@ abbrev pub one_message : List Message
 one_message = record { identifier = 419373555; placements = placement 203 0 ∷ placement 204 16 ∷ [] } ∷ []
 
 abbrev pub first_book : Book
-first_book = record { messages = one_message; routes = route 0 0 419373555 1 419373555 ∷ route 0 1 419373555 2 419373520 ∷ [] }
+first_book = record { messages = one_message; routes = route 0 419373555 1 419373555 ∷ route 1 419373555 2 419373520 ∷ [] }
 
 abbrev pub loop_book : Book
 loop_book =
     record {
       messages = one_message;
-      routes = route 0 0 419373555 1 419373555 ∷ route 0 1 419373555 2 419373520 ∷ route 0 2 419373520 0 419373555 ∷ [];
+      routes = route 0 419373555 1 419373555 ∷ route 1 419373555 2 419373520 ∷ route 2 419373520 0 419373555 ∷ [];
     }
 
 abbrev pub doubling_book : Book
-doubling_book = record { messages = []; routes = route 0 0 419373555 1 419373555 ∷ route 0 0 419373555 1 419373555 ∷ [] }
-
-abbrev pub boxes_book : Book
-boxes_book = record { messages = []; routes = route 0 0 419373555 1 419373555 ∷ route 5 0 419373555 1 419373555 ∷ [] }
-
-abbrev pub chain_book : Book
-chain_book = record { messages = []; routes = route 1 0 419373555 1 419373555 ∷ route 15 1 419373555 2 419373520 ∷ [] }
+doubling_book = record { messages = []; routes = route 0 419373555 1 419373555 ∷ route 0 419373555 1 419373555 ∷ [] }
 
 abbrev pub fork_book : Book
-fork_book = record { messages = []; routes = route 0 0 419373555 1 419373555 ∷ route 0 0 419373555 2 419373520 ∷ [] }
+fork_book = record { messages = []; routes = route 0 419373555 1 419373555 ∷ route 0 419373555 2 419373520 ∷ [] }

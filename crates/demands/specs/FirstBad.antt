@@ -13,7 +13,7 @@ pub data LineDue (b : Book) : Line → ℕ → Type 0 where
   form : LineDue b line.IllFormed 2
   message : {i n : ℕ} → MessageDue b.messages i n → LineDue b (line.Message i) n
   signal : {number start n : ℕ} → SignalDue b.messages (placement number start) n → LineDue b (line.Signal number start) n
-  route : {g a i c j n : ℕ} → RouteDue b.routes g a i c j n → LineDue b (line.Route g a i c j) n
+  route : {a i c j n : ℕ} → RouteDue b.routes a i c j n → LineDue b (line.Route a i c j) n
 
 -- lines that pass, each after those before it, and the book that they give
 pub data Pass : List Line → Book → Type 0 where

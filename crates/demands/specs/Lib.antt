@@ -4,7 +4,5 @@ pub mod Loops
 pub mod Examples
 pub mod FirstBad
 pub mod Spreads
-pub mod NextCopies
-pub mod OtherGateways
 pub mod WritingBack
 pub mod HighestCell

@@ -11,10 +11,8 @@ use Rattle.line.specs.declared.Line.TheVariants as line
 use Rattle.reading.specs.Reading.{meanings}
 use Rattle.routes.specs.Answers.{IsPlace}
 
--- "bus, identifier, bus, identifier: from place, to place", and the gateway before them, which is 0 where the line names none; no chain looks
--- at it
+-- "bus, identifier, bus, identifier: from place, to place"
 pub record RLine : Type 0 where
-  pub gateway : ℕ
   pub bus : ℕ
   pub identifier : ℕ
   pub to_bus : ℕ
@@ -35,7 +33,7 @@ unfoldable pub r_lines_in : List Line → List RLine
 r_lines_in [] = []
 r_lines_in (line.Message i ∷ ls) = r_lines_in ls
 r_lines_in (line.Signal n s ∷ ls) = r_lines_in ls
-r_lines_in (line.Route g a i b j ∷ ls) = record { gateway = g; bus = a; identifier = i; to_bus = b; to_identifier = j } ∷ r_lines_in ls
+r_lines_in (line.Route a i b j ∷ ls) = record { bus = a; identifier = i; to_bus = b; to_identifier = j } ∷ r_lines_in ls
 r_lines_in (line.IllFormed ∷ ls) = r_lines_in ls
 
 abbrev pub text_rlines : List ℕ → List RLine
@@ -43,7 +41,7 @@ text_rlines text = r_lines_in (meanings text)
 
 -- what stands where there is no such line
 abbrev pub no_line_spec : RLine
-no_line_spec = record { gateway = 0; bus = 0; identifier = 0; to_bus = 0; to_identifier = 0 }
+no_line_spec = record { bus = 0; identifier = 0; to_bus = 0; to_identifier = 0 }
 
 -- the k-th of them
 abbrev pub r_line_at : List RLine → ℕ → RLine

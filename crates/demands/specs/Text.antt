@@ -14,7 +14,7 @@ unfoldable pub s_placements : List Line → List Placement
 s_placements [] = []
 s_placements (line.Message i ∷ ls) = []
 s_placements (line.Signal n s ∷ ls) = placement n s ∷ s_placements ls
-s_placements (line.Route g a i b j ∷ ls) = s_placements ls
+s_placements (line.Route a i b j ∷ ls) = s_placements ls
 s_placements (line.IllFormed ∷ ls) = s_placements ls
 
 -- the messages that M lines say, in the order of the lines: each with the signals of the S lines between it and the next M line
@@ -22,12 +22,12 @@ unfoldable pub m_messages : List Line → List Message
 m_messages [] = []
 m_messages (line.Message i ∷ ls) = record { identifier = i; placements = s_placements ls } ∷ m_messages ls
 m_messages (line.Signal n s ∷ ls) = m_messages ls
-m_messages (line.Route g a i b j ∷ ls) = m_messages ls
+m_messages (line.Route a i b j ∷ ls) = m_messages ls
 m_messages (line.IllFormed ∷ ls) = m_messages ls
 
--- the route that an R line says: carried by its gateway, from the place of its first bus and identifier to that of its second
+-- the route that an R line says: from the place of its first bus and identifier to that of its second
 abbrev pub line_route : RLine → Route
-line_route l = route l.gateway l.bus l.identifier l.to_bus l.to_identifier
+line_route l = route l.bus l.identifier l.to_bus l.to_identifier
 
 -- the routes that R lines say, in the order of the lines
 unfoldable pub r_routes : List Line → List Route
@@ -44,12 +44,11 @@ text_routes text = r_routes (meanings text)
 pub record RouteAt (first : ℕ) (ls : List Line) (n p q : ℕ) : Type 0 where
   pub before : ℕ
   pub number : n ≡ before + first
-  pub gateway : ℕ
   pub bus : ℕ
   pub identifier : ℕ
   pub to_bus : ℕ
   pub to_identifier : ℕ
-  pub says : get_or ls before line.IllFormed ≡ line.Route gateway bus identifier to_bus to_identifier
+  pub says : get_or ls before line.IllFormed ≡ line.Route bus identifier to_bus to_identifier
   pub from : p ≡ place_key bus identifier
   pub to : q ≡ place_key to_bus to_identifier
 

@@ -1,6 +1,5 @@
 -- Document 02, P3: "Reading what was written gives the same tables. Reading a taken text and writing it gives the same lines, those of M
--- and S in their order and those of R in theirs, so the length is the same"; by P7 "for books that name every gateway, as the writer always
--- does". Assumes nothing: these are definitions.
+-- and S in their order and those of R in theirs, so the length is the same." Assumes nothing: these are definitions.
 use Rattle.std.specs.Prelude.{◌≡◌, ℕ, List, ◌++◌, length, take, drop}
 use Rattle.record.specs.Columns.{message_count_of, signal_count_of, route_count_of}
 use Rattle.parts.specs.Joined.{text_of_lines}
@@ -17,7 +16,7 @@ pub record AtFront (room : List ℕ) (why n : ℕ) (after text : List ℕ) : Typ
 -- the same lines: those of M and S, and those of R, each in their order; the first before the others, and nothing else
 pub record SameLines (text written : List ℕ) : Type 0 where
   pub of_messages : message_lines_of written ≡ message_lines_of text
-  pub of_routes_law : route_lines_of written ≡ route_lines_of text
+  pub of_routes : route_lines_of written ≡ route_lines_of text
   pub in_order : written ≡ text_of_lines (message_lines_of text ++ route_lines_of text)
   pub long : length written ≡ length text
 

@@ -1,8 +1,8 @@
 -- A number that is found before a byte is written there, and one that is written there is found. Assumes nothing.
 use mathlib.Core.Path.{◌≡◌, refl, sym, ap, ◌∙◌}
 use mathlib.Core.Bool.{Bool, true, false, cond}
-use mathlib.Core.List.{List, ◌∷◌, ◌++◌}
-use Prim.Native.Nat.{ℕ, ◌+◌, ◌<◌}
+use mathlib.Core.List.{List, [], ◌∷◌, ◌++◌}
+use Prim.Native.Nat.{ℕ, suc, ◌+◌, ◌<◌}
 use native.Mathlib.Numerals.{add-one}
 use native.Mathlib.Omega.{arith}
 use lib.Dec.{ltb}
@@ -63,3 +63,17 @@ module _ (form : List ℕ → Number) (stop : ℕ) where
     not_nothing e q =
         let x : Found n (length p) ≡ Nothing = field_found ∙ ap (number_before form stop) (sym e) ∙ sym q in
         absurd (let z : ◌≡◌ {A = ℕ} 0 1 = cc in omega arith)
+
+    drop_past : drop (length p + 1) (p ++ stop ∷ rest) ≡ rest
+    drop_past = rw add-one (past p)
+      where
+        past : (l : List ℕ) → drop (suc (length l)) (l ++ stop ∷ rest) ≡ rest
+        past [] = refl
+        past (b ∷ l) = past l
+
+    -- and what is after the field that is found is what was written after it
+    pub after_field : {text : List ℕ} (m k : ℕ) → text ≡ p ++ stop ∷ rest → Found m k ≡ number_before form stop text → drop (k + 1) text ≡ rest
+    after_field m k e q =
+        let x : Found m k ≡ Found n (length p) = q ∙ ap (number_before form stop) e ∙ sym field_found in
+        let y : k ≡ length p = cc in
+        rw (y, e) drop_past

@@ -16,7 +16,7 @@ use Rattle.verdict.proofs.Renaming.{Renames, judged_renamed}
 -- places and their numbers give each other their names
 module _ (fs ts numbers starts ends : List ℕ) (same : length fs ≡ length ts) (numbered : Numbered (ts ++ fs) numbers)
     (is-starts : starts ≡ take (length fs + length fs - length fs) (drop (length fs) numbers)) (is-ends : ends ≡ take (length fs - 0) (drop 0 numbers))
-    (start-count : length starts ≡ length fs + length fs - length fs) (end-count : length ends ≡ length fs - 0) where
+    (start_count : length starts ≡ length fs + length fs - length fs) (end-count : length ends ≡ length fs - 0) where
   abbrev n : ℕ
   n = length fs
 
@@ -42,23 +42,23 @@ module _ (fs ts numbers starts ends : List ℕ) (same : length fs ≡ length ts)
 
   pub low_numbers : n ≤ width → Numbers starts ends
   low_numbers few = record {
-    same = omega (arith, start-count, end-count);
-    from = record { few = omega (arith, start-count); low = λ j l. let k : j < n = omega (arith, start-count) in omega (arith, (start_at j k).within) };
+    same = omega (arith, start_count, end-count);
+    from = record { few = omega (arith, start_count); low = λ j l. let k : j < n = omega (arith, start_count) in omega (arith, (start_at j k).within) };
     to = record { low = λ j l. let k : j < n = omega (arith, end-count) in omega (arith, (end_at j k).within) };
   }
 
   renames_places : Renames fs ts starts ends (number_of (ts ++ fs))
   renames_places = record {
-    count = omega (arith, start-count);
+    count = omega (arith, start_count);
     from = λ j l. number_first (ts ++ fs) (n + j) _ (omega (arith, length-append ts fs)) (start_at j l) ∙ ap (number_of (ts ++ fs)) (from_at j);
     to = λ j l. number_first (ts ++ fs) j _ (omega (arith, length-append ts fs)) (end_at j l) ∙ ap (number_of (ts ++ fs)) (to_at j l);
   }
 
   renames_numbers : Renames starts ends fs ts (λ x. get_or (ts ++ fs) x 0)
   renames_numbers = record {
-    count = omega (arith, start-count);
-    from = λ j l. sym ((start_at j (omega (arith, start-count))).same ∙ from_at j);
-    to = λ j l. let k : j < n = omega (arith, start-count) in sym ((end_at j k).same ∙ to_at j k);
+    count = omega (arith, start_count);
+    from = λ j l. sym ((start_at j (omega (arith, start_count))).same ∙ from_at j);
+    to = λ j l. let k : j < n = omega (arith, start_count) in sym ((end_at j k).same ∙ to_at j k);
   }
 
   pub judged_places : (v : Verdict) → Judged starts ends v → Judged fs ts v

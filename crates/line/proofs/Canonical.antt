@@ -1,12 +1,11 @@
--- A well formed line, with its gateway named, is the text of its meaning. Assumes nothing.
-use mathlib.Core.Path.{◌≡◌, refl, sym, ap, ◌∙◌, subst}
+-- A well formed line's text is the text of its meaning. Assumes nothing.
+use mathlib.Core.Path.{◌≡◌, refl, sym, ap, ◌∙◌}
 use mathlib.Core.Logic.{◌⊎◌, inl, inr}
 use mathlib.Core.Bool.{Bool, true, false, cond}
 use mathlib.Core.List.{List, [], ◌∷◌}
 use Prim.Native.Nat.{ℕ}
 use lib.Dec.{eqb}
-use lib.ListN.{length}
-use borrow.Author.Tests.{eqb-true, eqb-false}
+use borrow.Author.Tests.{eqb-true}
 use Rattle.numerals.specs.declared.Number.{Number}
 use Rattle.numerals.specs.declared.Number.TheVariants.{Is, Not}
 use Rattle.numerals.specs.Numeral.{identifier, decimal}
@@ -18,9 +17,7 @@ use Rattle.parts.proofs.Joins.{join_split}
 use Rattle.line.specs.declared.Line.{Line}
 use Rattle.line.specs.declared.Line.TheVariants.{IllFormed}
 use Rattle.line.specs.Meaning.{message_of, signal_of, route_of, of_message, of_signal, of_route, of_kind, of_fields, line_meaning}
-use Rattle.line.specs.Named.{four_fields, four_values, gateway_named}
 use Rattle.line.specs.Written.{fields_of, line_text, Writable, Canonical}
-use Rattle.line.proofs.Named.{named_means, named_once}
 use Rattle.numerals.specs.Written.{DecimalWritten, IdentifierWritten}
 
 -- fields that say m are the fields of m
@@ -50,22 +47,20 @@ signal_said n s (Is x) (Is y) e f =
 signal_said n s (Is x) Not e f = inl refl
 signal_said n s Not y e f = inl refl
 
-route_said : (g a i b j : List ℕ) (v w x y z : Number) → decimal g ≡ v → decimal a ≡ w → identifier i ≡ x → decimal b ≡ y → identifier j ≡ z
-    → SaidOrIll ((82 ∷ []) ∷ g ∷ a ∷ i ∷ b ∷ j ∷ []) (route_of v w x y z)
+route_said : (a i b j : List ℕ) (w x y z : Number) → decimal a ≡ w → identifier i ≡ x → decimal b ≡ y → identifier j ≡ z
+    → SaidOrIll ((82 ∷ []) ∷ a ∷ i ∷ b ∷ j ∷ []) (route_of w x y z)
 unfolding SaidOrIll fields_of
-route_said g a i b j (Is v) (Is w) (Is x) (Is y) (Is z) o p q r s =
-    let c : DecimalWritten g v = decimal_written g v o in
+route_said a i b j (Is w) (Is x) (Is y) (Is z) p q r s =
     let h : DecimalWritten a w = decimal_written a w p in
     let k : IdentifierWritten i x = identifier_written i x q in
     let l : DecimalWritten b y = decimal_written b y r in
     let m : IdentifierWritten j z = identifier_written j z s in
     inr
-    (record { writable = (c.small, ((h.small, k.small), (l.small, m.small))); same = rw (c.text, h.text, k.text, l.text, m.text) })
-route_said g a i b j (Is v) (Is w) (Is x) (Is y) Not o p q r s = inl refl
-route_said g a i b j (Is v) (Is w) (Is x) Not z o p q r s = inl refl
-route_said g a i b j (Is v) (Is w) Not y z o p q r s = inl refl
-route_said g a i b j (Is v) Not x y z o p q r s = inl refl
-route_said g a i b j Not w x y z o p q r s = inl refl
+    (record { writable = ((h.small, k.small), (l.small, m.small)); same = rw (h.text, k.text, l.text, m.text) })
+route_said a i b j (Is w) (Is x) (Is y) Not p q r s = inl refl
+route_said a i b j (Is w) (Is x) Not z p q r s = inl refl
+route_said a i b j (Is w) Not y z p q r s = inl refl
+route_said a i b j Not x y z p q r s = inl refl
 
 of_message_law : (fs : List (List ℕ)) → SaidOrIll ((77 ∷ []) ∷ fs) (of_message fs)
 unfolding SaidOrIll of_message
@@ -80,45 +75,37 @@ of_signal_law (n ∷ []) = inl refl
 of_signal_law (n ∷ s ∷ []) = signal_said n s (decimal n) (decimal s) refl refl
 of_signal_law (n ∷ s ∷ x ∷ fs) = inl refl
 
--- where a gateway is named
-of_route_law : (fs : List (List ℕ)) → eqb (length fs) 4 ≡ false → SaidOrIll ((82 ∷ []) ∷ fs) (of_route fs)
+of_route_law : (fs : List (List ℕ)) → SaidOrIll ((82 ∷ []) ∷ fs) (of_route fs)
 unfolding SaidOrIll of_route
-of_route_law [] n = inl refl
-of_route_law (a ∷ []) n = inl refl
-of_route_law (a ∷ i ∷ []) n = inl refl
-of_route_law (a ∷ i ∷ b ∷ []) n = inl refl
-of_route_law (a ∷ i ∷ b ∷ j ∷ []) n = absurd (eqb-false 4 4 n refl)
-of_route_law (g ∷ a ∷ i ∷ b ∷ j ∷ []) n = route_said g a i b j (decimal g) (decimal a) (identifier i) (decimal b) (identifier j) refl refl refl refl refl
-of_route_law (g ∷ a ∷ i ∷ b ∷ j ∷ x ∷ fs) n = inl refl
+of_route_law [] = inl refl
+of_route_law (a ∷ []) = inl refl
+of_route_law (a ∷ i ∷ []) = inl refl
+of_route_law (a ∷ i ∷ b ∷ []) = inl refl
+of_route_law (a ∷ i ∷ b ∷ j ∷ []) = route_said a i b j (decimal a) (identifier i) (decimal b) (identifier j) refl refl refl refl
+of_route_law (a ∷ i ∷ b ∷ j ∷ x ∷ fs) = inl refl
 
-of_kind_law : (k : ℕ) (fs : List (List ℕ)) → four_fields ((k ∷ []) ∷ fs) ≡ false → SaidOrIll ((k ∷ []) ∷ fs) (of_kind k fs)
-unfolding of_kind four_fields
-of_kind_law k fs n = go (eqb k 77) (eqb k 83) (eqb k 82) refl refl refl n
+of_kind_law : (k : ℕ) (fs : List (List ℕ)) → SaidOrIll ((k ∷ []) ∷ fs) (of_kind k fs)
+unfolding of_kind
+of_kind_law k fs = go (eqb k 77) (eqb k 83) (eqb k 82) refl refl refl
   where
-    go : (m s r : Bool) → eqb k 77 ≡ m → eqb k 83 ≡ s → eqb k 82 ≡ r → cond r (eqb (length fs) 4) false ≡ false
+    go : (m s r : Bool) → eqb k 77 ≡ m → eqb k 83 ≡ s → eqb k 82 ≡ r
         → SaidOrIll ((k ∷ []) ∷ fs) (cond m (of_message fs) (cond s (of_signal fs) (cond r (of_route fs) IllFormed)))
-    go true s r p q t n = rw (eqb-true k 77 p) (of_message_law fs)
-    go false true r p q t n = rw (eqb-true k 83 q) (of_signal_law fs)
-    go false false true p q t n = rw (eqb-true k 82 t) (of_route_law fs n)
-    go false false false p q t n = ill ((k ∷ []) ∷ fs)
+    go true s r p q t = rw (eqb-true k 77 p) (of_message_law fs)
+    go false true r p q t = rw (eqb-true k 83 q) (of_signal_law fs)
+    go false false true p q t = rw (eqb-true k 82 t) (of_route_law fs)
+    go false false false p q t = ill ((k ∷ []) ∷ fs)
 
-of_fields_law : (fs : List (List ℕ)) → four_fields fs ≡ false → SaidOrIll fs (of_fields fs)
+of_fields_law : (fs : List (List ℕ)) → SaidOrIll fs (of_fields fs)
 unfolding SaidOrIll of_fields
-of_fields_law [] n = inl refl
-of_fields_law ([] ∷ fs) n = inl refl
-of_fields_law ((k ∷ []) ∷ fs) n = of_kind_law k fs n
-of_fields_law ((k ∷ b ∷ l) ∷ fs) n = inl refl
+of_fields_law [] = inl refl
+of_fields_law ([] ∷ fs) = inl refl
+of_fields_law ((k ∷ []) ∷ fs) = of_kind_law k fs
+of_fields_law ((k ∷ b ∷ l) ∷ fs) = inl refl
 
 pub canonical : (l : List ℕ) → (line_meaning l ≡ IllFormed) ⊎ Canonical l (line_meaning l)
-unfolding line_meaning line_text SaidOrIll four_values
-canonical l = go (of_fields_law (fields (gateway_named l)) (named_once l)) (named_means l)
+unfolding line_meaning line_text SaidOrIll
+canonical l = go (of_fields_law (fields l))
   where
-    go : SaidOrIll (fields (gateway_named l)) (of_fields (fields (gateway_named l))) → of_fields (fields (gateway_named l)) ≡ of_fields (fields l)
-        → (of_fields (fields l) ≡ IllFormed) ⊎ Canonical l (of_fields (fields l))
-    go (inl e) q = inl (sym q ∙ e)
-    go (inr s) q =
-        inr
-        (record {
-          writable = subst Writable q s.writable;
-          text = sym (join_split 9 (gateway_named l)) ∙ ap (join 9) s.same ∙ ap (λ (m : Line). join 9 (fields_of m)) q;
-        })
+    go : SaidOrIll (fields l) (of_fields (fields l)) → (of_fields (fields l) ≡ IllFormed) ⊎ Canonical l (of_fields (fields l))
+    go (inl e) = inl e
+    go (inr s) = inr (record { writable = s.writable; text = sym (join_split 9 l) ∙ ap (join 9) s.same })

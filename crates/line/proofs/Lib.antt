@@ -1,11 +1,8 @@
 pub mod ReadBack
-pub mod Named
 pub mod Canonical
 pub mod Examples
-pub mod Firsts
-pub mod LineLeft
+pub mod Starts
 pub mod ByKind
-pub mod Numbers
 pub mod Rooms
-pub mod Routes
+pub mod Firsts
 pub mod OneOutcome

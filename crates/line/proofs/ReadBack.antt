@@ -18,14 +18,14 @@ use Rattle.fields.proofs.Tabless.{identifier_free, decimal_free}
 kind_free : (s b : ℕ) → s < 48 → 48 ≤ b → Lacks s (b ∷ [])
 kind_free s b h l = let other : b ≡ s → ⊥ = λ e. omega arith in more other none
 
-pub fields_free : (s : ℕ) → s < 48 → (l : Line) → AllLack s (fields_of l)
+fields_free : (s : ℕ) → s < 48 → (l : Line) → AllLack s (fields_of l)
 unfolding fields_of
 fields_free s h (Message i) = part (kind_free s 77 h (omega arith)) (part (identifier_free s i h) no_part)
 fields_free s h (Signal n t) =
     part (kind_free s 83 h (omega arith)) (part (decimal_free s n h) (part (decimal_free s t h) no_part))
-fields_free s h (Route g a i b j) =
+fields_free s h (Route a i b j) =
     part (kind_free s 82 h (omega arith))
-    (part (decimal_free s g h) (part (decimal_free s a h) (part (identifier_free s i h) (part (decimal_free s b h) (part (identifier_free s j h) no_part)))))
+    (part (decimal_free s a h) (part (identifier_free s i h) (part (decimal_free s b h) (part (identifier_free s j h) no_part))))
 fields_free s h IllFormed = no_part
 
 -- so a line's text has no newline, and its tabs part its fields
@@ -37,7 +37,7 @@ fields_back : (l : Line) → Writable l → fields (line_text l) ≡ fields_of l
 unfolding line_text fields_of
 fields_back (Message i) w = split_join 9 (77 ∷ []) _ (fields_free 9 (omega arith) (Message i))
 fields_back (Signal n s) w = split_join 9 (83 ∷ []) _ (fields_free 9 (omega arith) (Signal n s))
-fields_back (Route g a i b j) w = split_join 9 (82 ∷ []) _ (fields_free 9 (omega arith) (Route g a i b j))
+fields_back (Route a i b j) w = split_join 9 (82 ∷ []) _ (fields_free 9 (omega arith) (Route a i b j))
 fields_back IllFormed w = absurd w
 
 -- the meaning of a line's fields
@@ -45,8 +45,8 @@ fields_say : (l : Line) → Writable l → of_fields (fields_of l) ≡ l
 unfolding fields_of of_fields of_kind of_message of_signal of_route
 fields_say (Message i) w = rw (identifier_read i w)
 fields_say (Signal n s) w = rw (decimal_read n w.0, decimal_read s w.1)
-fields_say (Route g a i b j) w =
-    rw (decimal_read g w.0, decimal_read a w.1.0.0, identifier_read i w.1.0.1, decimal_read b w.1.1.0, identifier_read j w.1.1.1)
+fields_say (Route a i b j) w =
+    rw (decimal_read a w.0.0, identifier_read i w.0.1, decimal_read b w.1.0, identifier_read j w.1.1)
 fields_say IllFormed w = absurd w
 
 pub read_back : (l : Line) → Writable l → line_meaning (line_text l) ≡ l

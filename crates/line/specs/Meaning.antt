@@ -27,13 +27,12 @@ signal_of (Is n) (Is s) = Signal n s
 signal_of (Is n) Not = IllFormed
 signal_of Not s = IllFormed
 
-abbrev pub route_of : Number → Number → Number → Number → Number → Line
-route_of (Is g) (Is a) (Is i) (Is b) (Is j) = Route g a i b j
-route_of (Is g) (Is a) (Is i) (Is b) Not = IllFormed
-route_of (Is g) (Is a) (Is i) Not j = IllFormed
-route_of (Is g) (Is a) Not b j = IllFormed
-route_of (Is g) Not i b j = IllFormed
-route_of Not a i b j = IllFormed
+abbrev pub route_of : Number → Number → Number → Number → Line
+route_of (Is a) (Is i) (Is b) (Is j) = Route a i b j
+route_of (Is a) (Is i) (Is b) Not = IllFormed
+route_of (Is a) (Is i) Not j = IllFormed
+route_of (Is a) Not b j = IllFormed
+route_of Not i b j = IllFormed
 
 -- `M` identifier
 unfoldable pub of_message : List (List ℕ) → Line
@@ -48,15 +47,14 @@ of_signal (n ∷ []) = IllFormed
 of_signal (n ∷ s ∷ []) = signal_of (decimal n) (decimal s)
 of_signal (n ∷ s ∷ x ∷ fs) = IllFormed
 
--- `R` gateway, bus, identifier, bus, identifier: the gateway, from place, to place; "a line without it is gateway 0"
+-- `R` bus, identifier, bus, identifier: from place, to place
 unfoldable pub of_route : List (List ℕ) → Line
 of_route [] = IllFormed
 of_route (a ∷ []) = IllFormed
 of_route (a ∷ i ∷ []) = IllFormed
 of_route (a ∷ i ∷ b ∷ []) = IllFormed
-of_route (a ∷ i ∷ b ∷ j ∷ []) = route_of (Is 0) (decimal a) (identifier i) (decimal b) (identifier j)
-of_route (g ∷ a ∷ i ∷ b ∷ j ∷ []) = route_of (decimal g) (decimal a) (identifier i) (decimal b) (identifier j)
-of_route (g ∷ a ∷ i ∷ b ∷ j ∷ x ∷ fs) = IllFormed
+of_route (a ∷ i ∷ b ∷ j ∷ []) = route_of (decimal a) (identifier i) (decimal b) (identifier j)
+of_route (a ∷ i ∷ b ∷ j ∷ x ∷ fs) = IllFormed
 
 -- by the kind, what the fields after it say
 unfoldable pub of_kind : ℕ → List (List ℕ) → Line

@@ -1,4 +1,4 @@
--- The text of a line, for reading it back: a route's always names its gateway. Assumes nothing.
+-- The text of a line, for reading it back. Assumes nothing.
 use Rattle.std.specs.Prelude.{ℕ, ◌<◌, List, [], ◌∷◌, ◌≡◌}
 use Rattle.numerals.specs.Written.{identifier_text, decimal_text, hexadecimal_limit, decimal_limit}
 use Rattle.parts.specs.Parts.{tab}
@@ -6,14 +6,13 @@ use Rattle.parts.specs.Joined.{join}
 use Rattle.line.specs.declared.Line.{Line}
 use Rattle.line.specs.declared.Line.TheVariants.{Message, Signal, Route, IllFormed}
 use Rattle.line.specs.Meaning.{letter_m, letter_s, letter_r}
-use Rattle.line.specs.Named.{gateway_named}
 
 -- the fields of a line: its kind, and its numbers
 unfoldable pub fields_of : Line → List (List ℕ)
 fields_of (Message i) = (letter_m ∷ []) ∷ identifier_text i ∷ []
 fields_of (Signal n s) = (letter_s ∷ []) ∷ decimal_text n ∷ decimal_text s ∷ []
-fields_of (Route g a i b j) =
-    (letter_r ∷ []) ∷ decimal_text g ∷ decimal_text a ∷ identifier_text i ∷ decimal_text b ∷ identifier_text j ∷ []
+fields_of (Route a i b j) =
+    (letter_r ∷ []) ∷ decimal_text a ∷ identifier_text i ∷ decimal_text b ∷ identifier_text j ∷ []
 fields_of IllFormed = []
 
 -- the text of a line: its fields, parted by one tab
@@ -24,11 +23,11 @@ line_text l = join tab (fields_of l)
 abbrev pub Writable : Line → Type 0
 Writable (Message i) = i < hexadecimal_limit
 Writable (Signal n s) = (n < decimal_limit) × (s < decimal_limit)
-Writable (Route g a i b j) =
-    (g < decimal_limit) × (((a < decimal_limit) × (i < hexadecimal_limit)) × ((b < decimal_limit) × (j < hexadecimal_limit)))
+Writable (Route a i b j) =
+    ((a < decimal_limit) × (i < hexadecimal_limit)) × ((b < decimal_limit) × (j < hexadecimal_limit))
 Writable IllFormed = ⊥
 
--- what a well formed line says can be written, and the line with its gateway named is that text
+-- what a well formed line says can be written, and the line is that text
 pub record Canonical (l : List ℕ) (m : Line) : Type 0 where
   pub writable : Writable m
-  pub text : gateway_named l ≡ line_text m
+  pub text : l ≡ line_text m

@@ -4,17 +4,17 @@
 ghost use Rattle.std.specs.Prelude.{◌≡◌};
 ghost use Rattle.line.specs.Meaning.{letter_m, letter_s, letter_r};
 ghost use Rattle.line.specs.LineAt.{first_line, line_at};
-ghost use Rattle.line.specs.First.{OfKind, OriginOf, ill_formed_spec};
+ghost use Rattle.line.specs.First.{OfKind, ill_formed_spec};
 
 use fields::{Front, decimal_before, identifier_before};
 use parts::{NEWLINE, TAB, find, part_after, part_from};
 
-// What a line says. A route's numbers: gateway, from bus, from identifier, to bus, to identifier.
+// What a line says. A route's numbers: from bus, from identifier, to bus, to identifier.
 #[derive(Drop)]
 pub enum Line {
     Message(u32),
     Signal(u32, u32),
-    Route(u32, u32, u32, u32, u32),
+    Route(u32, u32, u32, u32),
     IllFormed,
 }
 
@@ -23,13 +23,6 @@ pub enum Line {
 pub struct ReadLine {
     pub line: Line,
     pub next: usize,
-}
-
-// A route up to its to place: gateway, from bus, from identifier, and how many bytes they take with their tabs; or nothing of that form.
-#[derive(Drop)]
-enum Origin {
-    From(u32, u32, u32, usize),
-    Nowhere,
 }
 
 // A first line that is none of these.
@@ -78,38 +71,20 @@ fn signal(text: &[u8]) -> ReadLine
     }
 }
 
-// The values of an R line up to its to place: gateway, bus, identifier, or bus and identifier. An identifier has eight digits and a
-// decimal at most five, so the second value tells whether the first is the gateway or, where none is named, the bus.
-fn origin_of(fields: &[u8]) -> Origin
-    ensures { OriginOf fields.now result }
-{
-    let Front::Found(first, k) = decimal_before(fields, TAB) else {
-        return Origin::Nowhere;
-    };
-    let second = part_after(fields, k);
-    if let Front::Found(id, i) = identifier_before(second, TAB) {
-        return Origin::From(0, first, id, k + i + 2);
-    }
-    let Front::Found(bus, m) = decimal_before(second, TAB) else {
-        return Origin::Nowhere;
-    };
-    let third = part_after(second, m);
-    let Front::Found(id, i) = identifier_before(third, TAB) else {
-        return Origin::Nowhere;
-    };
-    Origin::From(first, bus, id, k + m + i + 3)
-}
-
-// `R` bus, identifier, bus, identifier: from place, to place; or the gateway before them
+// `R` bus, identifier, bus, identifier: from place, to place
 fn route(text: &[u8]) -> ReadLine
     requires { OfKind letter_r text.now }
     ensures { result ≡ first_line text.now }
 {
     let fields = part_from(text, 2);
-    let Origin::From(gateway, from_bus, from_id, k) = origin_of(fields) else {
+    let Front::Found(from_bus, k) = decimal_before(fields, TAB) else {
         return ill_formed(text);
     };
-    let to = part_from(fields, k);
+    let after_bus = part_after(fields, k);
+    let Front::Found(from_id, i) = identifier_before(after_bus, TAB) else {
+        return ill_formed(text);
+    };
+    let to = part_after(after_bus, i);
     let Front::Found(to_bus, m) = decimal_before(to, TAB) else {
         return ill_formed(text);
     };
@@ -118,8 +93,8 @@ fn route(text: &[u8]) -> ReadLine
         return ill_formed(text);
     };
     ReadLine {
-        line: Line::Route(gateway, from_bus, from_id, to_bus, to_id),
-        next: k + m + j + 4,
+        line: Line::Route(from_bus, from_id, to_bus, to_id),
+        next: k + i + m + j + 6,
     }
 }
 

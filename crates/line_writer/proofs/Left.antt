@@ -11,9 +11,9 @@ use Rattle.parts.specs.Joined.{text_of_lines}
 use Rattle.line.specs.declared.Line.{Line}
 use Rattle.printing.specs.Put.{Put}
 use Rattle.printing.proofs.Puts.{sets_append, put_length}
-use Rattle.reading.specs.Written.{signal_line, route_line, lines_text}
+use Rattle.reading.specs.Written.{signal_line, lines_text}
 use Rattle.numerals.specs.Written.{decimal_limit}
-use Rattle.books.specs.Book.{Route, placement}
+use Rattle.books.specs.Book.{placement}
 use Rattle.line_writer.specs.Fitting.{AllFewDigits, nothing, also, LinesFit}
 use Rattle.reading.proofs.LineLengths.{lines_text_append, both_long}
 
@@ -31,10 +31,6 @@ all_left f = record { rest = refl; ends = refl; size = refl; digits = f.digits; 
 -- the numbers of an S line
 pub signal_numbers_law : (n s : ℕ) → AllFewDigits (signal_line (placement n s) ∷ []) → (n < decimal_limit) × (s < decimal_limit)
 signal_numbers_law n s (also w nothing) = w
-
--- the gateway of an R line
-pub route_gateway : (r : Route) → AllFewDigits (route_line r ∷ []) → r.gateway < decimal_limit
-route_gateway r (also w nothing) = w
 
 -- parts of such lines
 first_digits : (xs left : List Line) → AllFewDigits (xs ++ left) → AllFewDigits xs

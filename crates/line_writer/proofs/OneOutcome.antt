@@ -17,7 +17,7 @@ use denote.Triple.Clauses.{AtExit}
 use Rattle.only.specs.Only.{Only}
 use Rattle.only.specs.Outcomes.{OneResult, result_is}
 use Rattle.line.specs.declared.Line.TheVariants.{Message}
-use Rattle.books.specs.Book.{placement, route_by}
+use Rattle.books.specs.Book.{placement, route_between}
 use Rattle.reading.specs.Written.{signal_line, route_line, lines_text}
 use Rattle.printing.proofs.OneOutcome.{one_put}
 use Rattle.reading.proofs.LineLengths.{message_long}
@@ -44,7 +44,7 @@ pub one_signal_length : (M : Type 1) → OneResult M signal-length.ended signal-
 one_signal_length M = result_is (λ c. length (lines_text (signal_line (placement c.arguments.0 c.arguments.1.0) ∷ []))) refl
 
 pub one_route_length : (M : Type 1) → OneResult M route-length.ended route-length.clauses
-one_route_length M = result_is (λ c. length (lines_text (route_line (route_by c.arguments.0 c.arguments.1.0 c.arguments.1.1.0) ∷ []))) refl
+one_route_length M = result_is (λ c. length (lines_text (route_line (route_between c.arguments.0 c.arguments.1.0) ∷ []))) refl
 
 module _ {M : Type 1} {𝓤 : Ura M} (𝓛 : Logic 𝓤) (mem : Memory → SProp 𝓤) (run : Routine → Fun 𝓤) (κs : Lfts 1) (out : MutBor (List ℕ)) (at : ℕ) where
   pub one_put_message : (i : ℕ) → Only 𝓤 (λ (x : ℕ × List ℕ). (put-message.clauses 𝓛 mem run κs (out, (at, (i, tt)))).ensures tt x.0 (at_last out x.1, (at, (i, tt))))
@@ -53,5 +53,5 @@ module _ {M : Type 1} {𝓤 : Ura M} (𝓛 : Logic 𝓤) (mem : Memory → SProp
   pub one_put_signal : (n s : ℕ) → Only 𝓤 (λ (x : ℕ × List ℕ). (put-signal.clauses 𝓛 mem run κs (out, (at, (n, (s, tt))))).ensures tt x.0 (at_last out x.1, (at, (n, (s, tt)))))
   one_put_signal n s = one_put 𝓤 _ out.now at (lines_text (signal_line (placement n s) ∷ [])) (λ x. refl)
 
-  pub one_put_route : (g p q : ℕ) → Only 𝓤 (λ (x : ℕ × List ℕ). (put-route.clauses 𝓛 mem run κs (out, (at, (g, (p, (q, tt)))))).ensures tt x.0 (at_last out x.1, (at, (g, (p, (q, tt))))))
-  one_put_route g p q = one_put 𝓤 _ out.now at (lines_text (route_line (route_by g p q) ∷ [])) (λ x. refl)
+  pub one_put_route : (p q : ℕ) → Only 𝓤 (λ (x : ℕ × List ℕ). (put-route.clauses 𝓛 mem run κs (out, (at, (p, (q, tt))))).ensures tt x.0 (at_last out x.1, (at, (p, (q, tt)))))
+  one_put_route p q = one_put 𝓤 _ out.now at (lines_text (route_line (route_between p q) ∷ [])) (λ x. refl)

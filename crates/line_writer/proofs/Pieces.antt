@@ -5,8 +5,8 @@ use Prim.Native.Nat.{ℕ, ◌%◌, ◌/◌}
 use Rattle.numerals.specs.Written.{identifier_text, decimal_text}
 use Rattle.line.specs.declared.Line.TheVariants.{Message}
 use Rattle.record.specs.Limits.{identifier_limit}
-use Rattle.books.specs.Book.{placement, route_by}
-use Rattle.reading.specs.Written.{signal_line, route_line, lines_text, place_text, places_text}
+use Rattle.books.specs.Book.{placement, route_between}
+use Rattle.reading.specs.Written.{signal_line, route_line, lines_text, place_text}
 use Rattle.printing.specs.Put.{Put}
 use Rattle.printing.proofs.Puts.{and_then, put_as}
 use Rattle.reading.proofs.LineLengths.{message_text_law, signal_text, route_text}
@@ -20,15 +20,11 @@ module _ {old a new : List ℕ} {at first next : ℕ} where
       → Put b second (identifier_text (place % identifier_limit)) new next → Put old at (place_text place) new next
   place_put place p t q = and_then p (and_then t q)
 
-  pub places_put : (p q : ℕ) {b : List ℕ} {second : ℕ} → Put old at (place_text p) a first → Put a first (9 ∷ []) b second
-      → Put b second (place_text q) new next → Put old at (places_text p q) new next
-  places_put p q f t g = and_then f (and_then t g)
-
   module _ {b c d : List ℕ} {after second end : ℕ} where
     pub signal_put : (n s : ℕ) → Put old at (83 ∷ 9 ∷ []) a first → Put a first (decimal_text n) b after → Put b after (9 ∷ []) c second
         → Put c second (decimal_text s) d end → Put d end (10 ∷ []) new next → Put old at (lines_text (signal_line (placement n s) ∷ [])) new next
     signal_put n s k p t q e = put_as (sym (signal_text n s)) (and_then k (and_then (and_then p (and_then t q)) e))
 
-    pub route_put : (g p q : ℕ) → Put old at (82 ∷ 9 ∷ []) a first → Put a first (decimal_text g) b after → Put b after (9 ∷ []) c second
-        → Put c second (places_text p q) d end → Put d end (10 ∷ []) new next → Put old at (lines_text (route_line (route_by g p q) ∷ [])) new next
-    route_put g p q k f t s e = put_as (sym (route_text g p q)) (and_then k (and_then (and_then f (and_then t s)) e))
+    pub route_put : (p q : ℕ) → Put old at (82 ∷ 9 ∷ []) a first → Put a first (place_text p) b after → Put b after (9 ∷ []) c second
+        → Put c second (place_text q) d end → Put d end (10 ∷ []) new next → Put old at (lines_text (route_line (route_between p q) ∷ [])) new next
+    route_put p q k f t g e = put_as (sym (route_text p q)) (and_then k (and_then (and_then f (and_then t g)) e))

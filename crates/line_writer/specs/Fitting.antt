@@ -6,12 +6,11 @@ use Rattle.line.specs.declared.Line.{Line}
 use Rattle.line.specs.declared.Line.TheVariants.{Message, Signal, Route, IllFormed}
 use Rattle.reading.specs.Written.{lines_text}
 
--- the numbers of an S line, and the gateway of an R line, have at most five digits; all others can be written whatever they are, as
--- words of 32 bits
+-- the numbers of an S line have at most five digits; those of the other lines can be written whatever they are, as words of 32 bits
 abbrev pub FewDigits : Line → Type 0
 FewDigits (Message i) = Unit {0}
 FewDigits (Signal n s) = (n < decimal_limit) × (s < decimal_limit)
-FewDigits (Route g a i b j) = g < decimal_limit
+FewDigits (Route a i b j) = Unit {0}
 FewDigits IllFormed = Unit {0}
 
 pub data AllFewDigits : List Line → Type 0 where
@@ -30,7 +29,3 @@ EveryMessageHas n = (i : ℕ) → n ≡ length (lines_text (Message i ∷ []))
 -- room for the two values of a place: a bus has one digit
 abbrev pub place_room : ℕ
 place_room = 10
-
--- and for those of two, with the tab between them
-abbrev pub places_room : ℕ
-places_room = 21

@@ -4,10 +4,10 @@
 ghost use Rattle.std.specs.Prelude.{◌≡◌, [], ◌∷◌, ◌+◌, ◌≤◌, length};
 ghost use Rattle.parts.specs.Parts.{tab};
 ghost use Rattle.line.specs.declared.Line.TheVariants.{Message};
-ghost use Rattle.books.specs.Book.{placement, route_by};
-ghost use Rattle.reading.specs.Written.{signal_line, route_line, lines_text, place_text, places_text};
+ghost use Rattle.books.specs.Book.{placement, route_between};
+ghost use Rattle.reading.specs.Written.{signal_line, route_line, lines_text, place_text};
 ghost use Rattle.printing.specs.Put.{Put};
-ghost use Rattle.line_writer.specs.Fitting.{EveryMessageHas, place_room, places_room, LinesFit};
+ghost use Rattle.line_writer.specs.Fitting.{EveryMessageHas, place_room, LinesFit};
 
 use parts::{NEWLINE, TAB};
 use printing::put_byte;
@@ -28,12 +28,11 @@ pub fn signal_length(number: u32, start: u32) -> u32
     (4 + decimal_width(number) + decimal_width(start)) as u32
 }
 
-// How many bytes an R line has, by the route's gateway and the places that it leads from and to.
-pub fn route_length(gateway: u32, from: u32, to: u32) -> u32
-    ensures { result ≡ length (lines_text (route_line (route_by gateway from to) ∷ [])) }
+// How many bytes an R line has, by the places that the route leads from and to.
+pub fn route_length(from: u32, to: u32) -> u32
+    ensures { result ≡ length (lines_text (route_line (route_between from to) ∷ [])) }
 {
-    let buses = decimal_width(from / IDENTIFIER_LIMIT) + decimal_width(to / IDENTIFIER_LIMIT);
-    (23 + decimal_width(gateway) + buses) as u32
+    (22 + decimal_width(from / IDENTIFIER_LIMIT) + decimal_width(to / IDENTIFIER_LIMIT)) as u32
 }
 
 // The letter of a line's kind, and a tab.
@@ -75,24 +74,14 @@ fn put_place(out: &mut [u8], at: usize, place: u32) -> usize
     put_identifier(&mut *out, second, place % IDENTIFIER_LIMIT)
 }
 
-// The four values of two places, from place and to place.
-fn put_places(out: &mut [u8], at: usize, from: u32, to: u32) -> usize
-    requires { at + places_room ≤ length out.old }
-    ensures { Put out.old at (places_text from to) out.new result }
-{
-    let after_from = put_place(&mut *out, at, from);
-    let second = put_byte(&mut *out, after_from, TAB);
-    put_place(&mut *out, second, to)
-}
-
-// The line of a route, by its gateway and the places that it leads from and to.
-pub fn put_route(out: &mut [u8], at: usize, gateway: u32, from: u32, to: u32) -> usize
-    requires { LinesFit out.old at (route_line (route_by gateway from to) ∷ []) }
-    ensures { Put out.old at (lines_text (route_line (route_by gateway from to) ∷ [])) out.new result }
+// The line of a route, by the places that it leads from and to.
+pub fn put_route(out: &mut [u8], at: usize, from: u32, to: u32) -> usize
+    requires { LinesFit out.old at (route_line (route_between from to) ∷ []) }
+    ensures { Put out.old at (lines_text (route_line (route_between from to) ∷ [])) out.new result }
 {
     let first = put_kind(&mut *out, at, b'R');
-    let after_first = put_decimal(&mut *out, first, gateway);
-    let places = put_byte(&mut *out, after_first, TAB);
-    let end = put_places(&mut *out, places, from, to);
+    let after_first = put_place(&mut *out, first, from);
+    let second = put_byte(&mut *out, after_first, TAB);
+    let end = put_place(&mut *out, second, to);
     put_byte(&mut *out, end, NEWLINE)
 }

@@ -14,7 +14,7 @@ use Rattle.listing.specs.declared.Listed.{Listed}
 use Rattle.listing.specs.declared.Listed.TheVariants.{Lines, NotABook}
 use Rattle.listing.specs.Printout.{printout}
 use Rattle.listing.specs.Listing.{lines_that_fit, listing_by, listing}
-use Rattle.listing.specs.Together.{whole_lines, unfinished, printouts, whole_listing, printed_by, left_by_spec, calls}
+use Rattle.listing.specs.Together.{whole_lines, unfinished, printouts, whole_listing, printed_by, left_by, calls}
 use Rattle.listing.proofs.Parted.{Parted, parted_nowhere, parted_again, parted_before, parted, all_printed, rest_left, parted_whole, listing_parts}
 
 -- ---- one call
@@ -24,22 +24,22 @@ module _ (figures : Figures) (words text lent : List ℕ) where
   front : take (length (lines_that_fit (printout figures (messages_of words)) (length lent) (lines text)).text) (listing_by figures (messages_of words) text lent).1 ≡ (lines_that_fit (printout figures (messages_of words)) (length lent) (lines text)).text
   front = take-append_seam (lines_that_fit (printout figures (messages_of words)) (length lent) (lines text)).text _
 
-  pub call_parts : Parted (printout figures (messages_of words)) text (printed_by (listing figures words text lent).0 (listing figures words text lent).1) (left_by_spec (listing figures words text lent).0 text)
+  pub call_parts : Parted (printout figures (messages_of words)) text (printed_by (listing figures words text lent).0 (listing figures words text lent).1) (left_by (listing figures words text lent).0 text)
   unfolding listing
   call_parts = go (messages_taken_spec words)
     where
-      go : (b : Bool) → let answer = cond {A = Listed × List ℕ} b (listing_by figures (messages_of words) text lent) (NotABook, lent) in Parted (printout figures (messages_of words)) text (printed_by answer.0 answer.1) (left_by_spec answer.0 text)
+      go : (b : Bool) → let answer = cond {A = Listed × List ℕ} b (listing_by figures (messages_of words) text lent) (NotABook, lent) in Parted (printout figures (messages_of words)) text (printed_by answer.0 answer.1) (left_by answer.0 text)
       go true = subst (λ (t : List ℕ). Parted (printout figures (messages_of words)) text t (drop (lines_that_fit (printout figures (messages_of words)) (length lent) (lines text)).used text)) (sym front) (listing_parts (printout figures (messages_of words)) (length lent) text).parts
       go false = parted_nowhere (printout figures (messages_of words)) text
 
   -- a call by a taken book stops only where the next whole line's printout does not fit what is left of its room
-  pub call_stops : messages_taken_spec words ≡ true → (l : List ℕ) (more : List (List ℕ)) → whole_lines (left_by_spec (listing figures words text lent).0 text) ≡ l ∷ more
+  pub call_stops : messages_taken_spec words ≡ true → (l : List ℕ) (more : List (List ℕ)) → whole_lines (left_by (listing figures words text lent).0 text) ≡ l ∷ more
       → length lent < length (printed_by (listing figures words text lent).0 (listing figures words text lent).1) + length (printout figures (messages_of words) l)
   unfolding listing
   call_stops t = go (messages_taken_spec words) t
     where
       go : (b : Bool) → b ≡ true → let answer = cond {A = Listed × List ℕ} b (listing_by figures (messages_of words) text lent) (NotABook, lent) in
-          (l : List ℕ) (more : List (List ℕ)) → whole_lines (left_by_spec answer.0 text) ≡ l ∷ more → length lent < length (printed_by answer.0 answer.1) + length (printout figures (messages_of words) l)
+          (l : List ℕ) (more : List (List ℕ)) → whole_lines (left_by answer.0 text) ≡ l ∷ more → length lent < length (printed_by answer.0 answer.1) + length (printout figures (messages_of words) l)
       go true e l more q = omega (arith, (listing_parts (printout figures (messages_of words)) (length lent) text).stops l more q, ap length front)
       go false e l more q = absurd (let z : ◌≡◌ {A = ℕ} 0 1 = cc in omega arith)
 
@@ -47,7 +47,7 @@ module _ (figures : Figures) (words text lent : List ℕ) where
   pub one_call : (used wrote : ℕ) (out : List ℕ) → ◌≡◌ {A = Listed × List ℕ} (Lines used wrote, out) (listing figures words text lent)
       → take wrote out ++ whole_listing (printout figures (messages_of words)) (drop used text) ≡ whole_listing (printout figures (messages_of words)) text
   one_call used wrote out e =
-      ap (λ (x : Listed × List ℕ). printed_by x.0 x.1 ++ whole_listing (printout figures (messages_of words)) (left_by_spec x.0 text)) e ∙ parted call_parts
+      ap (λ (x : Listed × List ℕ). printed_by x.0 x.1 ++ whole_listing (printout figures (messages_of words)) (left_by x.0 text)) e ∙ parted call_parts
 
 -- ---- successive calls
 
@@ -55,7 +55,7 @@ module _ (figures : Figures) (words : List ℕ) where
   calls_part : (rooms : List (List ℕ)) (text : List ℕ) → Parted (printout figures (messages_of words)) text (calls figures words rooms text).printed (calls figures words rooms text).left
   unfolding calls
   calls_part [] text = parted_nowhere (printout figures (messages_of words)) text
-  calls_part (lent ∷ rooms) text = parted_again (call_parts figures words text lent) (calls_part rooms (left_by_spec (listing figures words text lent).0 text))
+  calls_part (lent ∷ rooms) text = parted_again (call_parts figures words text lent) (calls_part rooms (left_by (listing figures words text lent).0 text))
 
   module _ (rooms : List (List ℕ)) (text : List ℕ) where
     pub calls_together : (calls figures words rooms text).printed ++ whole_listing (printout figures (messages_of words)) (calls figures words rooms text).left ≡ whole_listing (printout figures (messages_of words)) text
@@ -76,11 +76,11 @@ module _ (figures : Figures) (words : List ℕ) where
 -- ---- one call with room enough
 
 module _ (figures : Figures) (words text lent : List ℕ) (t : messages_taken_spec words ≡ true) (enough : length (whole_listing (printout figures (messages_of words)) text) ≤ length lent) where
-  pub leaves_none : whole_lines (left_by_spec (listing figures words text lent).0 text) ≡ []
+  pub leaves_none : whole_lines (left_by (listing figures words text lent).0 text) ≡ []
   unfolding printouts
-  leaves_none = go (whole_lines (left_by_spec (listing figures words text lent).0 text)) refl
+  leaves_none = go (whole_lines (left_by (listing figures words text lent).0 text)) refl
     where
-      go : (ls : List (List ℕ)) → whole_lines (left_by_spec (listing figures words text lent).0 text) ≡ ls → ls ≡ []
+      go : (ls : List (List ℕ)) → whole_lines (left_by (listing figures words text lent).0 text) ≡ ls → ls ≡ []
       go [] e = refl
       go (l ∷ ls) e =
           let printed = printed_by (listing figures words text lent).0 (listing figures words text lent).1 in

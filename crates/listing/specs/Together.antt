@@ -43,9 +43,9 @@ printed_by (Lines used wrote) out = take wrote out
 printed_by NotABook out = []
 
 -- and what it left of its text: the bytes that were not used
-abbrev pub left_by_spec : Listed → List ℕ → List ℕ
-left_by_spec (Lines used wrote) text = drop used text
-left_by_spec NotABook text = text
+abbrev pub left_by : Listed → List ℕ → List ℕ
+left_by (Lines used wrote) text = drop used text
+left_by NotABook text = text
 
 -- what calls printed, one after another, and what they left of the text
 pub record Called : Type 0 where
@@ -57,7 +57,7 @@ unfoldable pub calls : Figures → List ℕ → List (List ℕ) → List ℕ →
 calls figures words [] text = record { printed = []; left = text }
 calls figures words (lent ∷ rooms) text =
     let answer = listing figures words text lent in
-    let after = calls figures words rooms (left_by_spec answer.0 text) in
+    let after = calls figures words rooms (left_by answer.0 text) in
     record { printed = printed_by answer.0 answer.1 ++ after.printed; left = after.left }
 
 -- no printout under a taken book is longer: a line for each signal, of which a message has at most as many as a frame has bits

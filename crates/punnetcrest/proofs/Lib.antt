@@ -1,7 +1,6 @@
 pub mod BookNumbers
 pub mod ClassNumbers
 pub mod DashNumbers
-pub mod NextNumbers
 pub mod OneOutcome
 pub mod PowerBefore
 pub mod PowerNumbers

@@ -16,12 +16,10 @@ use denote.Ref.{MutBor, at_last}
 use Rattle.only.specs.Only.{Only, only_this}
 use Rattle.framing.proofs.CodedSlices.{coded_slices}
 use Rattle.power.specs.declared.Share.TheVariants.{Named, NoneGiven}
-use Rattle.routes.specs.Answers.{rooms}
 use Rattle.punnetcrest.specs.Booking.{BookRead}
 use Rattle.punnetcrest.specs.BookText.{WriteCall}
 use Rattle.punnetcrest.specs.Classing.{classed}
 use Rattle.punnetcrest.specs.Dashing.{dashed}
-use Rattle.punnetcrest.specs.NextCopying.{NextCopiesCall}
 use Rattle.punnetcrest.specs.Packing.{packed}
 use Rattle.punnetcrest.specs.Powering.{stepped}
 use Rattle.punnetcrest.specs.Sleeping.{started, watched}
@@ -29,14 +27,12 @@ use Rattle.punnetcrest.specs.Spreading.{SpreadCall}
 use Rattle.punnetcrest.specs.Summing.{faults_summed}
 use Rattle.punnetcrest.specs.Unpacking.{ReadingRoom, room_lent, unpacked}
 use Rattle.punnetcrest.proofs.BookNumbers.{read_outcome, read_there, read_alone}
-use Rattle.punnetcrest.proofs.NextNumbers.{copies_outcome, copies_there, copies_alone}
 use Rattle.punnetcrest.proofs.SpreadNumbers.{spread_outcome, spread_there, spread_alone}
 use Rattle.punnetcrest.proofs.WriteNumbers.{write_outcome, write_there, write_alone}
 use Rattle.punnetcrest.specs.contracts.book_text.pc_book_write as book-write
 use Rattle.punnetcrest.specs.contracts.booking.pc_book_read as book_read
 use Rattle.punnetcrest.specs.contracts.classing.pc_class as class-call
 use Rattle.punnetcrest.specs.contracts.dashing.pc_dash as dash-call
-use Rattle.punnetcrest.specs.contracts.next_copying.pc_next_copies as next-copies
 use Rattle.punnetcrest.specs.contracts.packing.pc_frame_pack as frame-pack
 use Rattle.punnetcrest.specs.contracts.powering.pc_power_step as power-step
 use Rattle.punnetcrest.specs.contracts.powering.pc_power_step_by as power-step-by
@@ -95,19 +91,6 @@ module _ {M : Type 1} {𝓤 : Ura M} (𝓛 : Logic 𝓤) (mem : Memory → SProp
   one_frame_pack κs book identifier values frame =
       only_this 𝓤 _ (coded× coded_ℕ (coded_list coded_ℕ)) (packed book.now identifier values.now frame.now) (λ x. refl)
 
-  pub one_next_copies : (κs : Lfts 3) (book : MutBor (List ℕ)) (gateway bus identifier : ℕ) (places : MutBor (List ℕ)) (count : MutBor ℕ)
-      → Only 𝓤 (λ (x : ℕ × (List ℕ × ℕ)). (next-copies.clauses 𝓛 mem run κs (book, (gateway, (bus, (identifier, (places, (count, tt))))))).ensures tt x.0
-      (book, (gateway, (bus, (identifier, (at_last places x.1.0, (at_last count x.1.1, tt)))))))
-  one_next_copies κs book gateway bus identifier places count =
-      record {
-        coded = coded× coded_ℕ (coded× (coded_list coded_ℕ) coded_ℕ);
-        outcome = copies_outcome book.now gateway bus identifier places.now count.now;
-        Says = λ x. NextCopiesCall book.now gateway bus identifier places.now count.now x.0 x.1.0 x.1.1;
-        says = λ x. refl;
-        there = copies_there book.now gateway bus identifier places.now count.now;
-        alone = copies_alone book.now gateway bus identifier places.now count.now;
-      }
-
   pub one_power_step : (κs : Lfts 2) (state : MutBor ℕ) (seen : MutBor (List ℕ))
       → Only 𝓤 (λ (x : ℕ × ℕ). (power-step.clauses 𝓛 mem run κs (state, (seen, tt))).ensures tt x.0 (at_last state x.1, (seen, tt)))
   one_power_step κs state seen = only_this 𝓤 _ (coded× coded_ℕ coded_ℕ) (stepped state.now seen.now NoneGiven) (λ x. refl)
@@ -124,16 +107,14 @@ module _ {M : Type 1} {𝓤 : Ura M} (𝓛 : Logic 𝓤) (mem : Memory → SProp
       → Only 𝓤 (λ (x : ℕ × (ℕ × ℕ)). (sleep-watch.clauses 𝓛 mem run κs (last, (asleep, (time, (wake, tt))))).ensures tt x.0 (at_last last x.1.0, (at_last asleep x.1.1, (time, (wake, tt)))))
   one_sleep_watch κs last asleep time wake = only_this 𝓤 _ (coded× coded_ℕ (coded× coded_ℕ coded_ℕ)) (watched last.now asleep.now time wake) (λ x. refl)
 
-  pub one_spread : (κs : Lfts 4) (book : MutBor (List ℕ)) (bus identifier : ℕ) (places gateways : MutBor (List ℕ)) (count : MutBor ℕ)
-      → Only 𝓤 (λ (x : ℕ × (List ℕ × (List ℕ × ℕ))). (spread.clauses 𝓛 mem run κs (book, (bus, (identifier, (places, (gateways, (count, tt))))))).ensures tt x.0
-      (book, (bus, (identifier, (at_last places x.1.0, (at_last gateways x.1.1.0, (at_last count x.1.1.1, tt)))))))
-  one_spread κs book bus identifier places gateways count =
-      let room = rooms places.now gateways.now in
+  pub one_spread : (κs : Lfts 3) (book : MutBor (List ℕ)) (bus identifier : ℕ) (places : MutBor (List ℕ)) (count : MutBor ℕ)
+      → Only 𝓤 (λ (x : ℕ × (List ℕ × ℕ)). (spread.clauses 𝓛 mem run κs (book, (bus, (identifier, (places, (count, tt)))))).ensures tt x.0 (book, (bus, (identifier, (at_last places x.1.0, (at_last count x.1.1, tt))))))
+  one_spread κs book bus identifier places count =
       record {
-        coded = coded× coded_ℕ (coded× (coded_list coded_ℕ) (coded× (coded_list coded_ℕ) coded_ℕ));
-        outcome = spread_outcome book.now bus identifier room count.now;
-        Says = λ x. SpreadCall book.now bus identifier room count.now x.0 (rooms x.1.0 x.1.1.0) x.1.1.1;
+        coded = coded× coded_ℕ (coded× (coded_list coded_ℕ) coded_ℕ);
+        outcome = spread_outcome book.now bus identifier places.now count.now;
+        Says = λ x. SpreadCall book.now bus identifier places.now count.now x.0 x.1.0 x.1.1;
         says = λ x. refl;
-        there = spread_there book.now bus identifier room count.now;
-        alone = spread_alone book.now bus identifier room count.now;
+        there = spread_there book.now bus identifier places.now count.now;
+        alone = spread_alone book.now bus identifier places.now count.now;
       }

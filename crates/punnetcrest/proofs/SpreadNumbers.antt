@@ -3,30 +3,28 @@ use Prim.Native.Nat.{ℕ}
 use mathlib.Core.Path.{◌≡◌, refl, ap, ◌∙◌, subst}
 use mathlib.Core.List.{List}
 use Rattle.routes.specs.declared.Sent.{Sent}
-use Rattle.routes.specs.Answers.{Rooms, rooms, SpreadAnswer, sent_number, place_count}
+use Rattle.routes.specs.Answers.{SpreadAnswer, sent_number, place_count}
 use Rattle.routes.proofs.Decided.{SpreadLeft, answered, answer_once}
 use Rattle.punnetcrest.specs.Counted.{count_left}
 use Rattle.punnetcrest.specs.Spreading.{SpreadCall}
 
-module _ (words : List ℕ) (bus identifier : ℕ) (room : Rooms) (count : ℕ) where
-  pub as_spread : {after : Rooms} {given told : Sent} → SpreadAnswer words bus identifier room (sent_number given) (place_count given) after → given ≡ told
+module _ (words : List ℕ) (bus identifier : ℕ) (room : List ℕ) (count : ℕ) where
+  pub as_spread : {after : List ℕ} {given told : Sent} → SpreadAnswer words bus identifier room (sent_number given) (place_count given) after → given ≡ told
       → SpreadCall words bus identifier room count (sent_number told) after (count_left (sent_number told) (place_count told) count)
   as_spread {after} {told = told} a t = record { written = place_count told; answer = subst (λ (s : Sent). SpreadAnswer words bus identifier room (sent_number s) (place_count s) after) t a; count_after = refl }
 
-  -- the one outcome: the number, the two rooms and the count
-  pub spread_outcome : ℕ × (List ℕ × (List ℕ × ℕ))
-  spread_outcome =
-      let there = (answered words bus identifier room).0 in
-      (sent_number there.0, (there.1.places, (there.1.gateways, count_left (sent_number there.0) (place_count there.0) count)))
+  -- the one outcome: the number, the room and the count
+  pub spread_outcome : ℕ × (List ℕ × ℕ)
+  spread_outcome = let there = (answered words bus identifier room).0 in (sent_number there.0, (there.1, count_left (sent_number there.0) (place_count there.0) count))
 
-  pub spread_there : SpreadCall words bus identifier room count spread_outcome.0 (rooms spread_outcome.1.0 spread_outcome.1.1.0) spread_outcome.1.1.1
+  pub spread_there : SpreadCall words bus identifier room count spread_outcome.0 spread_outcome.1.0 spread_outcome.1.1
   unfolding spread_outcome
   spread_there = as_spread (answered words bus identifier room).1 (λ i. (answered words bus identifier room).0.0)
 
-  pub spread_alone : (x : ℕ × (List ℕ × (List ℕ × ℕ))) → SpreadCall words bus identifier room count x.0 (rooms x.1.0 x.1.1.0) x.1.1.1 → x ≡ spread_outcome
+  pub spread_alone : (x : ℕ × (List ℕ × ℕ)) → SpreadCall words bus identifier room count x.0 x.1.0 x.1.1 → x ≡ spread_outcome
   unfolding spread_outcome
   spread_alone x h =
       let there = answered words bus identifier room in
       let e = answer_once words bus identifier room h.answer there.1 in
       let counted = h.count_after ∙ ap (λ (l : SpreadLeft). count_left l.0 l.1.0 count) e in
-      λ i. ((e i).0, ((e i).1.1.places, ((e i).1.1.gateways, counted i)))
+      λ i. ((e i).0, ((e i).1.1, counted i))

@@ -3,7 +3,6 @@ pub mod BookText
 pub mod Classing
 pub mod Counted
 pub mod Dashing
-pub mod NextCopying
 pub mod Packing
 pub mod Powering
 pub mod PoweringBefore

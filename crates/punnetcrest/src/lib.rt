@@ -8,7 +8,6 @@ mod book_text;
 mod booking;
 mod classing;
 mod dashing;
-mod next_copying;
 mod numbers;
 mod packing;
 mod powering;

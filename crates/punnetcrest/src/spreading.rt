@@ -1,22 +1,20 @@
-// The spread of a place, by the routes of a lent book, and the gateway that made each copy.
-ghost use Rattle.routes.specs.Answers.{rooms};
+// The spread of a place, by the routes of a lent book.
 ghost use Rattle.punnetcrest.specs.Spreading.{SpreadCall};
 
 use record::BOOK_WORDS;
 
-// Writes the places that a frame from this place reaches, beside each the gateway that made the copy there, and how many.
+// Writes the places that a frame from this place reaches, and how many.
 #[unsafe(no_mangle)]
 pub extern "C" fn pc_spread(
     book: &[u32; BOOK_WORDS],
     bus: u32,
     identifier: u32,
     places: &mut [u32],
-    gateways: &mut [u8],
     count: &mut u32,
 ) -> u32
-    ensures { SpreadCall book.now bus identifier (rooms places.old gateways.old) count.old result (rooms places.new gateways.new) count.new }
+    ensures { SpreadCall book.now bus identifier places.old count.old result places.new count.new }
 {
-    let answer = routes::spread(book, bus, identifier, places, gateways);
+    let answer = routes::spread(book, bus, identifier, places);
     match answer {
         routes::Sent::Places(n) => {
             *count = n;

@@ -1,5 +1,5 @@
--- No book's text is longer than 4,992 bytes: an M line has 11, an S line at most 10, an R line at most 27. Assumes nothing.
-use mathlib.Core.Path.{◌≡◌}
+-- No book's text is longer than 4,800 bytes: an M line has 11, an S line at most 10, an R line 24. Assumes nothing.
+use mathlib.Core.Path.{◌≡◌, refl}
 use mathlib.Core.Bool.{Bool, true, false, ◌||◌, not, cond, and-eq-true_iff}
 use Prim.Native.Nat.{ℕ, ◌+◌, ◌*◌, ◌≤◌, ◌<◌}
 use native.Mathlib.Omega.{arith}
@@ -18,7 +18,7 @@ use Rattle.books.proofs.Columns.{within}
 use Rattle.books.proofs.Known.{known_small}
 use Rattle.books.proofs.Tests.{both_false, neither}
 use Rattle.catalogue.specs.Find.{bits_of_spec}
-use Rattle.reading.specs.Written.{book_text, most_written, RoutesInLimits, no_route, route, Routed}
+use Rattle.reading.specs.Written.{book_text, most_written, BetweenPlaces, no_route, route, Routed}
 use Rattle.reading.proofs.LineLengths.{signal_long, route_long}
 use Rattle.reading.proofs.TextLengths.{signal_bytes, route_bytes, one_signal, one_route, signals_append, text_long}
 
@@ -70,12 +70,11 @@ from_short before (m ∷ ms) e =
       from_short (before ++ (m.identifier ∷ [])) ms b.1,
     )
 
--- the lines of routes within the limits have at most 27 bytes each
-routes_short : {rs : List Route} → RoutesInLimits rs → route_bytes rs ≤ 27 * length rs
+-- the lines of routes between places have 24 bytes each
+routes_short : {rs : List Route} → BetweenPlaces rs → route_bytes rs ≡ 24 * length rs
 unfolding text_of_lines
-routes_short no_route = omega arith
-routes_short (route {r} {rs} g f t p) =
-    omega (arith, one_route r rs, route_long r.gateway r.from r.to f t, two_digits r.gateway (omega arith), routes_short p)
+routes_short no_route = refl
+routes_short (route {r} {rs} f t p) = omega (arith, one_route r rs, route_long r.from r.to f t, routes_short p)
 
 pub bound : (b : Book) → Built b.messages → Routed b.routes → length (book_text b) ≤ most_written
 unfolding good
@@ -83,4 +82,4 @@ bound b h r =
     let g = built_good h in
     let k = within b.messages g in
     let a = (and-eq-true_iff (good_from [] b.messages) _).0 g in
-    omega (arith, text_long b, k.few, k.room, from_short [] b.messages a.0, routes_short r.limits, r.few)
+    omega (arith, text_long b, k.few, k.room, from_short [] b.messages a.0, routes_short r.places, r.few)

@@ -1,4 +1,4 @@
--- A line that is not refused is, with its gateway named, the text of what it says. So a taken text is of bytes, whatever numbers a list may hold: letters, digits,
+-- A line that is not refused is the text of what it says. So a taken text is of bytes, whatever numbers a list may hold: letters, digits,
 -- tabs and newlines, and can be written in a file. Assumes nothing.
 use mathlib.Core.Path.{◌≡◌, refl, subst, sym}
 use mathlib.Core.Bool.{Bool, true, false, cond}
@@ -8,18 +8,16 @@ use Prim.Native.Nat.{ℕ, zero, suc, ◌+◌, ◌/◌, ◌%◌, ◌^◌, ◌≤�
 use native.Mathlib.Nat.{one-le-pow, pow-succ', div-lt_iff_lt-mul, mod-lt}
 use native.Mathlib.Omega.{arith}
 use lib.Dec.{eqb, ltb}
-use lib.ListN.{length, get_or, take, drop}
+use lib.ListN.{length, get_or}
 use borrow.Author.Tests.{eqb-true}
 use Rattle.bits.specs.Frame.{Bytes}
 use Rattle.numerals.specs.Written.{digit_byte_spec, digits_of_spec, hexadecimal_limit, identifier_text, decimal_limit, decimal_text}
-use Rattle.numerals.specs.Numeral.{zero_byte}
 use Rattle.numerals.proofs.Decimals.{some_width}
 use Rattle.parts.specs.Parts.{tab, newline, on_first, split, lines_of, lines}
 use Rattle.parts.specs.Joined.{join}
 use Rattle.line.specs.declared.Line.{Line}
 use Rattle.line.specs.declared.Line.TheVariants as line
 use Rattle.line.specs.Meaning.{line_meaning, meaning_of}
-use Rattle.line.specs.Named.{four_values, gateway_named}
 use Rattle.line.specs.Written.{fields_of, line_text, Writable, Canonical}
 use Rattle.line.proofs.Canonical.{canonical}
 use Rattle.books.specs.Book.{Book, no_book}
@@ -86,10 +84,9 @@ fields_bytes : (l : Line) → Writable l → AllBytes (fields_of l)
 unfolding fields_of
 fields_bytes (line.Message i) w = part (letter_byte 77 (omega arith)) (part (identifier_bytes i w) no_part)
 fields_bytes (line.Signal n s) (x, y) = part (letter_byte 83 (omega arith)) (part (decimal_bytes n x) (part (decimal_bytes s y) no_part))
-fields_bytes (line.Route g a i b j) (v, ((x, y), (z, w))) =
+fields_bytes (line.Route a i b j) ((x, y), (z, w)) =
     part (letter_byte 82 (omega arith))
-    (part (decimal_bytes g v)
-    (part (decimal_bytes a x) (part (identifier_bytes i y) (part (decimal_bytes b z) (part (identifier_bytes j w) no_part)))))
+    (part (decimal_bytes a x) (part (identifier_bytes i y) (part (decimal_bytes b z) (part (identifier_bytes j w) no_part))))
 fields_bytes line.IllFormed w = absurd w
 
 line_bytes_law : (l : Line) → Writable l → OfBytes (line_text l)
@@ -101,7 +98,7 @@ pub ill_passes : {A : Type 0} (b : Book) → refusal_of b line.IllFormed ≡ 0 �
 unfolding refusal_of
 ill_passes b e = let z : ◌≡◌ {A = ℕ} 2 0 = e in absurd (omega arith)
 
--- so one that is not refused is, with its gateway named, the text of what it says
+-- so one that is not refused is the text of what it says
 pub says_itself : (b : Book) (l : List ℕ) → refusal_of b (line_meaning l) ≡ 0 → Canonical l (line_meaning l)
 says_itself b l e = by (canonical l)
   where
@@ -109,22 +106,8 @@ says_itself b l e = by (canonical l)
     by (inl ill) = ill_passes b (subst (λ (m : Line). refusal_of b m ≡ 0) ill e)
     by (inr c) = c
 
--- what has its gateway named is of bytes only where it was
-inner_bytes : (x y : ℕ) (l : List ℕ) → OfBytes (take 2 l ++ (x ∷ y ∷ drop 2 l)) → OfBytes l
-inner_bytes x y [] f = no_byte
-inner_bytes x y (a ∷ []) (byte h f) = byte h no_byte
-inner_bytes x y (a ∷ b ∷ l) (byte h (byte k (byte m (byte n f)))) = byte h (byte k f)
-
-named_bytes : (l : List ℕ) → OfBytes (gateway_named l) → OfBytes l
-unfolding gateway_named
-named_bytes l = go (four_values l)
-  where
-    go : (q : Bool) → OfBytes (cond q (take 2 l ++ (zero_byte ∷ tab ∷ drop 2 l)) l) → OfBytes l
-    go true f = inner_bytes zero_byte tab l f
-    go false f = f
-
 well_formed : (b : Book) (l : List ℕ) → refusal_of b (line_meaning l) ≡ 0 → OfBytes l
-well_formed b l e = let c = says_itself b l e in named_bytes l (subst OfBytes (sym c.text) (line_bytes_law (line_meaning l) c.writable))
+well_formed b l e = let c = says_itself b l e in subst OfBytes (sym c.text) (line_bytes_law (line_meaning l) c.writable)
 
 -- parts between newlines, all of them lines that pass
 parts_bytes : (n : ℕ) (b : Book) (at : List ℕ) (ps : List (List ℕ)) {c : Book} {to : List ℕ} → read_from n b at (map meaning_of (lines_of ps)) ≡ passed c to → AllBytes ps

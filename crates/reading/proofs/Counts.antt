@@ -8,13 +8,13 @@ use lib.ListN.{length}
 use Rattle.line.specs.declared.Line.{Line}
 use Rattle.line.specs.declared.Line.TheVariants as line
 use Rattle.record.specs.Place.{place_key, place_limit, key_fits}
-use Rattle.books.specs.Book.{Book, Message, Placement, Route, no_book, fresh, all_placements, route_by}
-use Rattle.books.specs.Lines.{route_refusal, gateway_limit}
+use Rattle.books.specs.Book.{Book, Message, Placement, Route, no_book, fresh, all_placements, route_between}
+use Rattle.books.specs.Lines.{route_refusal}
 use Rattle.books.proofs.RouteLines.{route_allowed}
 use Rattle.books.proofs.Ends.{count_last, length_more, one_more}
 use Rattle.books.proofs.Building.{signal_taken}
 use Rattle.reading.specs.Reading.{passed, refusal_of, with_line, numbered_with, read_from, meanings, lines_read}
-use Rattle.reading.specs.Written.{RoutesInLimits, no_route, route, Routed}
+use Rattle.reading.specs.Written.{BetweenPlaces, no_route, route, Routed}
 use Rattle.reading.specs.Taken.{m_lines, s_lines, r_lines_from, CountedOn}
 use Rattle.reading.proofs.Passing.{went, same_book, text_kept}
 
@@ -37,10 +37,10 @@ module _ (n : ℕ) (b : Book) (at : List ℕ) (ls : List Line) {c : Book} {to : 
         routes = k.routes;
         numbers = k.numbers;
       }
-  after (line.Route g x i y j) e k = record {
+  after (line.Route x i y j) e k = record {
     messages = k.messages;
     signals = k.signals;
-    routes = omega (arith, k.routes, length_more b.routes (route_by g (place_key x i) (place_key y j)), add-suc (length b.routes) (length (r_lines_from (suc n) ls)));
+    routes = omega (arith, k.routes, length_more b.routes (route_between (place_key x i) (place_key y j)), add-suc (length b.routes) (length (r_lines_from (suc n) ls)));
     numbers = k.numbers ∙ append_assoc at (n ∷ []) (r_lines_from (suc n) ls);
   }
   after line.IllFormed e k = let z : ◌≡◌ {A = ℕ} 2 0 = e in absurd (omega arith)
@@ -59,16 +59,16 @@ counted n b at (l ∷ ls) e =
     let w = went (refusal_of b l) n (read_from (suc n) (with_line b l) (numbered_with at n l) ls) e in
     after n b at ls l w.taken (counted (suc n) (with_line b l) (numbered_with at n l) ls w.after)
 
-limits_more : {rs : List Route} (r : Route) → RoutesInLimits rs → r.gateway < gateway_limit → r.from < place_limit → r.to < place_limit → RoutesInLimits (rs ++ (r ∷ []))
-limits_more r no_route g f t = route g f t no_route
-limits_more r (route h v u p) g f t = route h v u (limits_more r p g f t)
+places_more : {rs : List Route} (r : Route) → BetweenPlaces rs → r.from < place_limit → r.to < place_limit → BetweenPlaces (rs ++ (r ∷ []))
+places_more r no_route f t = route f t no_route
+places_more r (route g u p) f t = route g u (places_more r p f t)
 
-routed_route : (rs : List Route) (g x i y j : ℕ) → Routed rs → route_refusal rs g x i y j ≡ 0 → Routed (rs ++ (route_by g (place_key x i) (place_key y j) ∷ []))
-routed_route rs g x i y j h e =
-    let a = route_allowed rs g x i y j e in
+routed_route : (rs : List Route) (x i y j : ℕ) → Routed rs → route_refusal rs x i y j ≡ 0 → Routed (rs ++ (route_between (place_key x i) (place_key y j) ∷ []))
+routed_route rs x i y j h e =
+    let a = route_allowed rs x i y j e in
     record {
-      few = omega (arith, length_more rs (route_by g (place_key x i) (place_key y j)), a.few);
-      limits = limits_more (route_by g (place_key x i) (place_key y j)) h.limits a.gateway
+      few = omega (arith, length_more rs (route_between (place_key x i) (place_key y j)), a.few);
+      places = places_more (route_between (place_key x i) (place_key y j)) h.places
           (key_fits x i a.from_bus a.from_identifier) (key_fits y j a.to_bus a.to_identifier);
     }
 
@@ -76,7 +76,7 @@ routed_with : (b : Book) (l : Line) → Routed b.routes → refusal_of b l ≡ 0
 unfolding refusal_of with_line
 routed_with b (line.Message i) h e = h
 routed_with b (line.Signal n s) h e = h
-routed_with b (line.Route g x i y j) h e = routed_route b.routes g x i y j h e
+routed_with b (line.Route x i y j) h e = routed_route b.routes x i y j h e
 routed_with b line.IllFormed h e = h
 
 -- of a text
@@ -86,4 +86,4 @@ text_counted text e = counted 1 no_book [] (meanings text) e
 
 pub text_routed : (text : List ℕ) {c : Book} {to : List ℕ} → lines_read text ≡ passed c to → Routed c.routes
 text_routed text e =
-    text_kept (λ b ls. Routed b.routes) (λ b l ls r h. routed_with b l h r) text e (record { few = omega arith; limits = no_route })
+    text_kept (λ b ls. Routed b.routes) (λ b l ls r h. routed_with b l h r) text e (record { few = omega arith; places = no_route })

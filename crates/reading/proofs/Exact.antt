@@ -22,7 +22,7 @@ pub has_text : (b : Book) → Built b.messages → Routed b.routes → SoundRout
 has_text b h r s = record {
   short = omega (arith, bound b h r);
   at = _;
-  read = text_read b h r.limits r.few;
+  read = text_read b h r.places r.few;
   sound = s;
 }
 
@@ -40,7 +40,7 @@ from_messages w e =
     record {
       text = book_text b;
       book = b;
-      taken = has_text b (good_built (messages_of w) t.1) (record { few = omega arith; limits = no_route }) no_routes_sound;
+      taken = has_text b (good_built (messages_of w) t.1) (record { few = omega arith; places = no_route }) no_routes_sound;
       stand = t.0;
     }
 

@@ -15,8 +15,8 @@ use Rattle.line.specs.declared.Line.TheVariants.{Message}
 use Rattle.line.specs.Written.{line_text, fields_of}
 use Rattle.record.specs.Limits.{identifier_limit}
 use Rattle.record.specs.Place.{place_limit, key_place}
-use Rattle.books.specs.Book.{placement, route_by}
-use Rattle.reading.specs.Written.{signal_line, route_line, lines_text, place_text, places_text}
+use Rattle.books.specs.Book.{placement, route_between}
+use Rattle.reading.specs.Written.{signal_line, route_line, lines_text, place_text}
 
 -- ---- the lines' texts, piece by piece
 pub message_text_law : (i : ℕ) → lines_text (Message i ∷ []) ≡ 77 ∷ 9 ∷ (identifier_text i ++ 10 ∷ [])
@@ -27,23 +27,9 @@ pub signal_text : (n s : ℕ) → lines_text (signal_line (placement n s) ∷ []
 unfolding text_of_lines line_text fields_of join
 signal_text n s = refl
 
-pub route_text : (g p q : ℕ) → lines_text (route_line (route_by g p q) ∷ []) ≡ 82 ∷ 9 ∷ ((decimal_text g ++ 9 ∷ (place_text p ++ 9 ∷ place_text q)) ++ 10 ∷ [])
+pub route_text : (p q : ℕ) → lines_text (route_line (route_between p q) ∷ []) ≡ 82 ∷ 9 ∷ ((place_text p ++ 9 ∷ place_text q) ++ 10 ∷ [])
 unfolding text_of_lines line_text fields_of join
-route_text g p q =
-    ap (λ (l : List ℕ). 82 ∷ 9 ∷ ((decimal_text g ++ 9 ∷ l) ++ 10 ∷ []))
-    (sym (append_assoc (decimal_text (p / identifier_limit)) (9 ∷ identifier_text (p % identifier_limit)) (9 ∷ place_text q)))
-
--- its bytes: two of the kind, those of the gateway and its tab, those of the places and the tab between them, and the newline
-route_bytes_law : (g p q : ℕ) → length (lines_text (route_line (route_by g p q) ∷ [])) ≡ 5 + decimal_width_spec g + length (place_text p) + length (place_text q)
-route_bytes_law g p q =
-    omega (
-      arith,
-      ap length (route_text g p q),
-      length-append (decimal_text g ++ 9 ∷ (place_text p ++ 9 ∷ place_text q)) (10 ∷ []),
-      length-append (decimal_text g) (9 ∷ (place_text p ++ 9 ∷ place_text q)),
-      length-append (place_text p) (9 ∷ place_text q),
-      decimal_long g,
-    )
+route_text p q = ap (λ (l : List ℕ). 82 ∷ 9 ∷ (l ++ 10 ∷ [])) (sym (append_assoc (decimal_text (p / identifier_limit)) (9 ∷ identifier_text (p % identifier_limit)) (9 ∷ place_text q)))
 
 -- ---- and how long they are
 pub message_long : (i : ℕ) → length (lines_text (Message i ∷ [])) ≡ 11
@@ -75,16 +61,30 @@ place_bytes p =
 pub place_long : (p : ℕ) → p < place_limit → length (place_text p) ≡ 10
 place_long p h = omega (arith, place_bytes p, bus_digit p h)
 
-pub places_long : (p q : ℕ) → p < place_limit → q < place_limit → length (places_text p q) ≡ 21
-places_long p q h k = omega (arith, length-append (place_text p) (9 ∷ place_text q), place_long p h, place_long q k)
+-- whatever numbers the places are
+pub route_short : (p q : ℕ) → length (lines_text (route_line (route_between p q) ∷ [])) ≤ 32
+route_short p q =
+    omega (
+      arith,
+      ap length (route_text p q),
+      length-append (place_text p ++ 9 ∷ place_text q) (10 ∷ []),
+      length-append (place_text p) (9 ∷ place_text q),
+      place_bytes p,
+      place_bytes q,
+      width_few (p / identifier_limit),
+      width_few (q / identifier_limit),
+    )
 
--- whatever its numbers are
-pub route_short : (g p q : ℕ) → length (lines_text (route_line (route_by g p q) ∷ [])) ≤ 38
-route_short g p q =
-    omega (arith, route_bytes_law g p q, place_bytes p, place_bytes q, width_few g, width_few (p / identifier_limit), width_few (q / identifier_limit))
-
-pub route_long : (g p q : ℕ) → p < place_limit → q < place_limit → length (lines_text (route_line (route_by g p q) ∷ [])) ≡ 25 + decimal_width_spec g
-route_long g p q h k = omega (arith, route_bytes_law g p q, place_long p h, place_long q k)
+pub route_long : (p q : ℕ) → p < place_limit → q < place_limit → length (lines_text (route_line (route_between p q) ∷ [])) ≡ 24
+route_long p q h k =
+    omega (
+      arith,
+      ap length (route_text p q),
+      length-append (place_text p ++ 9 ∷ place_text q) (10 ∷ []),
+      length-append (place_text p) (9 ∷ place_text q),
+      place_long p h,
+      place_long q k,
+    )
 
 -- ---- lines after lines
 pub lines_text_append : (ls ms : List Line) → lines_text (ls ++ ms) ≡ lines_text ls ++ lines_text ms

@@ -47,7 +47,7 @@ pub built_with : (b : Book) (l : Line) → Built b.messages → refusal_of b l �
 unfolding refusal_of with_line
 built_with b (line.Message i) h e = message i h e
 built_with b (line.Signal n s) h e = signal (record { number = n; start = s }) h e
-built_with b (line.Route g x i y j) h e = h
+built_with b (line.Route x i y j) h e = h
 built_with b line.IllFormed h e = h
 
 -- the messages of a book that lines give are built line by line

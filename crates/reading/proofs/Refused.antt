@@ -9,7 +9,7 @@ use lib.ListN.{length}
 use Rattle.line.specs.declared.Line.{Line}
 use Rattle.line.specs.declared.Line.TheVariants as line
 use Rattle.books.specs.Book.{Book, Placement, no_book, identifiers, numbers, all_placements, last_placements}
-use Rattle.books.specs.Lines.{is_in, unknown_or_over, misplaced, meets_earlier, message_refusal, after_refusal, signal_refusal, route_refusal, identifier_limit, gateway_limit, bus_limit, message_limit, signal_limit, route_limit}
+use Rattle.books.specs.Lines.{is_in, unknown_or_over, misplaced, meets_earlier, message_refusal, after_refusal, signal_refusal, route_refusal, identifier_limit, bus_limit, message_limit, signal_limit, route_limit}
 use Rattle.reading.specs.Reading.{refused, onward, refusal_of, with_line, numbered_with, read_from, meanings, lines_read}
 
 module _ (P : ℕ → Type 0) where
@@ -37,8 +37,8 @@ module _ (P : ℕ → Type 0) where
         (or (misplaced p) 7 _ p7
         (or (meets_earlier (last_placements b.messages) p) 8 _ p8
         (or (leb signal_limit (length (all_placements b.messages))) 9 0 p9 none)))))
-    of_line b (line.Route g x i y j) =
-        or (leb gateway_limit g || ((leb bus_limit x || leb identifier_limit i) || (leb bus_limit y || leb identifier_limit j))) 3 _ p3 (or (leb route_limit (length b.routes)) 9 0 p9 none)
+    of_line b (line.Route x i y j) =
+        or ((leb bus_limit x || leb identifier_limit i) || (leb bus_limit y || leb identifier_limit j)) 3 _ p3 (or (leb route_limit (length b.routes)) 9 0 p9 none)
     of_line b line.IllFormed = or true 2 0 p2 none
 
     of_lines : (n : ℕ) (b : Book) (at : List ℕ) (ls : List Line) (why m : ℕ) → read_from n b at ls ≡ refused why m → P why

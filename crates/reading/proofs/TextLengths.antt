@@ -49,10 +49,10 @@ route_bytes rs = length (lines_text (map route_line rs))
 pub one_route : (r : Route) (rs : List Route) → route_bytes (r ∷ rs) ≡ length (lines_text (route_line r ∷ [])) + route_bytes rs
 one_route r rs = both_long (route_line r ∷ []) (map route_line rs)
 
-pub routes_few : (rs : List Route) → route_bytes rs ≤ 38 * length rs
+pub routes_few : (rs : List Route) → route_bytes rs ≤ 32 * length rs
 unfolding text_of_lines
 routes_few [] = omega arith
-routes_few (r ∷ rs) = omega (arith, one_route r rs, route_short r.gateway r.from r.to, routes_few rs)
+routes_few (r ∷ rs) = omega (arith, one_route r rs, route_short r.from r.to, routes_few rs)
 
 pub text_long : (b : Book) → length (book_text b) ≡ 11 * length b.messages + signal_bytes (all_placements b.messages) + route_bytes b.routes
 unfolding book_text book_lines

@@ -23,7 +23,7 @@ use Rattle.books.specs.Lines.{message_refusal, signal_refusal, unknown_or_over, 
 use Rattle.books.specs.Built.{Built, none, message, signal}
 use Rattle.books.proofs.Tests.{not_refused, both_false}
 use Rattle.reading.specs.Reading.{passed, read_from, meanings, lines_read}
-use Rattle.reading.specs.Written.{signal_line, route_line, message_lines, book_lines, book_text, RoutesInLimits, no_route, route, count_up}
+use Rattle.reading.specs.Written.{signal_line, route_line, message_lines, book_lines, book_text, BetweenPlaces, no_route, route, count_up}
 use Rattle.reading.proofs.Writes.{lines_message, lines_signal, book_read}
 
 -- lines that all have a text
@@ -67,19 +67,19 @@ messages_writable none = nothing
 messages_writable (message {ms} i b e) = subst AllWritable (sym (lines_message ms i)) (all_append (messages_writable b) (also (message_writable ms i e) nothing))
 messages_writable (signal {ms} p b e) = subst AllWritable (sym (lines_signal ms p e)) (all_append (messages_writable b) (also (signal_writable ms p e) nothing))
 
-routes_writable : {rs : List Route} → RoutesInLimits rs → AllWritable (map route_line rs)
+routes_writable : {rs : List Route} → BetweenPlaces rs → AllWritable (map route_line rs)
 routes_writable no_route = nothing
-routes_writable (route {r} g f t p) =
+routes_writable (route {r} f t p) =
     let a = key_place r.from f in
     let b = key_place r.to t in
-    also {l = route_line r} (omega arith, ((omega arith, omega arith), (omega arith, omega arith))) (routes_writable p)
+    also {l = route_line r} ((omega arith, omega arith), (omega arith, omega arith)) (routes_writable p)
 
-lines_writable : (b : Book) → Built b.messages → RoutesInLimits b.routes → AllWritable (book_lines b)
+lines_writable : (b : Book) → Built b.messages → BetweenPlaces b.routes → AllWritable (book_lines b)
 unfolding book_lines
 lines_writable b h p = all_append (messages_writable h) (routes_writable p)
 
 -- reading the text of a book gives that book
-pub text_read : (b : Book) → Built b.messages → RoutesInLimits b.routes → length b.routes ≤ route_limit
+pub text_read : (b : Book) → Built b.messages → BetweenPlaces b.routes → length b.routes ≤ route_limit
     → lines_read (book_text b) ≡ passed b (count_up (1 + length (message_lines b.messages)) (length b.routes))
 unfolding lines_read book_text
 text_read b h p l = ap (read_from 1 no_book []) (meanings_written (book_lines b) (lines_writable b h p)) ∙ book_read b h p l

@@ -6,16 +6,16 @@ use mathlib.Core.List.{List, [], ◌∷◌, ◌++◌, map, append_assoc, append-
 use lib.ListN.{length, length-append}
 use Rattle.line.specs.declared.Line.{Line}
 use Rattle.line.specs.declared.Line.TheVariants as line
-use Rattle.record.specs.Limits.{gateway_limit, identifier_limit}
+use Rattle.record.specs.Limits.{identifier_limit}
 use Rattle.record.specs.Place.{place_key, place_limit, key_place}
 use borrow.Author.Tests.{lt-leb}
-use Rattle.books.specs.Book.{Book, Message, Placement, Route, no_book, fresh, with_placement, in_last, route_by}
+use Rattle.books.specs.Book.{Book, Message, Placement, Route, no_book, fresh, with_placement, in_last, route_between}
 use Rattle.books.specs.Lines.{signal_refusal, route_refusal, unknown_or_over, route_limit}
 use Rattle.books.proofs.Tests.{not_refused, no_refusal, nor}
 use Rattle.books.specs.Built.{Built, none, message, signal}
 use Rattle.books.proofs.Ends.{map-append, in_last_law, Last, last}
 use Rattle.reading.specs.Reading.{passed, refusal_of, with_line, numbered_with, read_from}
-use Rattle.reading.specs.Written.{signal_line, route_line, message_lines, book_lines, RoutesInLimits, route, count_up}
+use Rattle.reading.specs.Written.{signal_line, route_line, message_lines, book_lines, BetweenPlaces, route, count_up}
 use Rattle.reading.proofs.Passing.{goes_on, read_append}
 
 lines_append : (ms ns : List Message) → message_lines (ms ++ ns) ≡ message_lines ms ++ message_lines ns
@@ -67,30 +67,30 @@ messages_read (signal {ms} p b e) =
     ap (read_from 1 no_book []) (lines_signal ms p e) ∙ read_append 1 no_book [] (message_lines ms) (signal_line p ∷ []) (messages_read b) ∙ goes_on _ _ _ e
 
 -- the line of a route passes, and gives the route
-route_taken : (before : List Route) (r : Route) → length before < route_limit → r.gateway < gateway_limit → r.from < place_limit → r.to < place_limit
-    → route_refusal before r.gateway (r.from / identifier_limit) (r.from % identifier_limit) (r.to / identifier_limit) (r.to % identifier_limit) ≡ 0
+route_taken : (before : List Route) (r : Route) → length before < route_limit → r.from < place_limit → r.to < place_limit
+    → route_refusal before (r.from / identifier_limit) (r.from % identifier_limit) (r.to / identifier_limit) (r.to % identifier_limit) ≡ 0
 unfolding route_refusal
-route_taken before r h g f t =
+route_taken before r h f t =
     let a = key_place r.from f in
     let b = key_place r.to t in
     no_refusal _ 3 _
-    (nor _ _ (lt-leb _ _ g) (nor _ _ (nor _ _ (lt-leb _ _ a.0) (lt-leb _ _ a.1)) (nor _ _ (lt-leb _ _ b.0) (lt-leb _ _ b.1))))
+    (nor _ _ (nor _ _ (lt-leb _ _ a.0) (lt-leb _ _ a.1)) (nor _ _ (lt-leb _ _ b.0) (lt-leb _ _ b.1)))
     (no_refusal _ 9 0 (lt-leb _ _ h) refl)
 
 route_back : (r : Route) → r.from < place_limit → r.to < place_limit
-    → route_by r.gateway (place_key (r.from / identifier_limit) (r.from % identifier_limit)) (place_key (r.to / identifier_limit) (r.to % identifier_limit)) ≡ r
+    → route_between (place_key (r.from / identifier_limit) (r.from % identifier_limit)) (place_key (r.to / identifier_limit) (r.to % identifier_limit)) ≡ r
 route_back r f t =
-    ap (λ (x : ℕ). route_by r.gateway x (place_key (r.to / identifier_limit) (r.to % identifier_limit))) (key_place r.from f).2 ∙ ap (route_by r.gateway r.from) (key_place r.to t).2
+    ap (λ (x : ℕ). route_between x (place_key (r.to / identifier_limit) (r.to % identifier_limit))) (key_place r.from f).2 ∙ ap (route_between r.from) (key_place r.to t).2
 
 abbrev with_routes : List Message → List Route → Book
 with_routes ms rs = record { messages = ms; routes = rs }
 
-routes_read : (n : ℕ) (ms : List Message) (before : List Route) (at : List ℕ) (rs : List Route) → RoutesInLimits rs → length before + length rs ≤ route_limit
+routes_read : (n : ℕ) (ms : List Message) (before : List Route) (at : List ℕ) (rs : List Route) → BetweenPlaces rs → length before + length rs ≤ route_limit
     → read_from n (with_routes ms before) at (map route_line rs) ≡ passed (with_routes ms (before ++ rs)) (at ++ count_up n (length rs))
 unfolding read_from refusal_of with_line numbered_with count_up
 routes_read n ms before at [] p h = let a = append-nil before in let b = append-nil at in (cc)
-routes_read n ms before at (r ∷ rs) (route g f t p) h =
-    goes_on _ n _ (route_taken before r (omega arith) g f t) ∙
+routes_read n ms before at (r ∷ rs) (route f t p) h =
+    goes_on _ n _ (route_taken before r (omega arith) f t) ∙
     ap (λ (x : Route). read_from (suc n) (with_routes ms (before ++ (x ∷ []))) (at ++ (n ∷ [])) (map route_line rs)) (route_back r f t) ∙
     routes_read (suc n) ms (before ++ (r ∷ [])) (at ++ (n ∷ [])) rs p (omega (arith, length-append before (r ∷ []))) ∙
     let a = append_assoc before (r ∷ []) rs in
@@ -98,7 +98,7 @@ routes_read n ms before at (r ∷ rs) (route g f t p) h =
     (cc)
 
 -- the lines of a book whose messages are built line by line and whose routes are few enough
-pub book_read : (b : Book) → Built b.messages → RoutesInLimits b.routes → length b.routes ≤ route_limit
+pub book_read : (b : Book) → Built b.messages → BetweenPlaces b.routes → length b.routes ≤ route_limit
     → read_from 1 no_book [] (book_lines b) ≡ passed b (count_up (1 + length (message_lines b.messages)) (length b.routes))
 unfolding book_lines
 book_read b h p l =

@@ -11,19 +11,19 @@ use Rattle.books.specs.Lines.{message_refusal, signal_refusal, route_refusal}
 unfoldable pub refusal_of : Book → Line → ℕ
 refusal_of b (line.Message i) = message_refusal b.messages i
 refusal_of b (line.Signal n s) = signal_refusal b.messages (placement n s)
-refusal_of b (line.Route g a i c j) = route_refusal b.routes g a i c j
+refusal_of b (line.Route a i c j) = route_refusal b.routes a i c j
 refusal_of b line.IllFormed = 2
 
 -- the book with one line more
 unfoldable pub with_line : Book → Line → Book
 with_line b (line.Message i) = with_message b i
 with_line b (line.Signal n s) = with_signal b (placement n s)
-with_line b (line.Route g a i c j) = with_route b (route g a i c j)
+with_line b (line.Route a i c j) = with_route b (route a i c j)
 with_line b line.IllFormed = b
 
 -- the line numbers of the book's routes, with those of one line more
 unfoldable pub numbered_with : List ℕ → ℕ → Line → List ℕ
-numbered_with at n (line.Route g a i c j) = at ++ (n ∷ [])
+numbered_with at n (line.Route a i c j) = at ++ (n ∷ [])
 numbered_with at n (line.Message i) = at
 numbered_with at n (line.Signal m s) = at
 numbered_with at n line.IllFormed = at

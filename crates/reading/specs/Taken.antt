@@ -41,14 +41,14 @@ unfoldable pub m_lines : List Line → ℕ
 m_lines [] = 0
 m_lines (line.Message i ∷ ls) = suc (m_lines ls)
 m_lines (line.Signal n s ∷ ls) = m_lines ls
-m_lines (line.Route g a i b j ∷ ls) = m_lines ls
+m_lines (line.Route a i b j ∷ ls) = m_lines ls
 m_lines (line.IllFormed ∷ ls) = m_lines ls
 
 unfoldable pub s_lines : List Line → ℕ
 s_lines [] = 0
 s_lines (line.Message i ∷ ls) = s_lines ls
 s_lines (line.Signal n s ∷ ls) = suc (s_lines ls)
-s_lines (line.Route g a i b j ∷ ls) = s_lines ls
+s_lines (line.Route a i b j ∷ ls) = s_lines ls
 s_lines (line.IllFormed ∷ ls) = s_lines ls
 
 -- the line numbers of the R lines, of lines from number n on
@@ -56,7 +56,7 @@ unfoldable pub r_lines_from : ℕ → List Line → List ℕ
 r_lines_from n [] = []
 r_lines_from n (line.Message i ∷ ls) = r_lines_from (suc n) ls
 r_lines_from n (line.Signal m s ∷ ls) = r_lines_from (suc n) ls
-r_lines_from n (line.Route g a i b j ∷ ls) = n ∷ r_lines_from (suc n) ls
+r_lines_from n (line.Route a i b j ∷ ls) = n ∷ r_lines_from (suc n) ls
 r_lines_from n (line.IllFormed ∷ ls) = r_lines_from (suc n) ls
 
 -- how many messages, signals and routes there are: as many as the text has M, S and R lines
@@ -72,7 +72,7 @@ pub record CountedOn (n : ℕ) (b : Book) (at : List ℕ) (ls : List Line) (c : 
   pub routes : length c.routes ≡ length b.routes + length (r_lines_from n ls)
   pub numbers : to ≡ at ++ r_lines_from n ls
 
--- routes that stand in the words, few enough, within the limits, and sound
+-- routes that stand in the words, few enough, between places, and sound
 pub record RoutesIn (w : List ℕ) : Type 0 where
   pub routes : List Route
   pub routed : Routed routes

@@ -1,6 +1,6 @@
 -- The text of a book: each M line with its S lines, in book order, then the R lines in book order. Assumes nothing: these are definitions.
 use Rattle.std.specs.Prelude.{ℕ, zero, suc, ◌+◌, ◌*◌, ◌<◌, ◌/◌, ◌%◌, ◌≤◌, List, [], ◌∷◌, ◌++◌, map, length}
-use Rattle.record.specs.Limits.{gateway_limit, identifier_limit}
+use Rattle.record.specs.Limits.{identifier_limit}
 use Rattle.record.specs.Place.{place_limit}
 use Rattle.numerals.specs.Written.{identifier_text, decimal_text}
 use Rattle.parts.specs.Parts.{tab}
@@ -14,18 +14,14 @@ use Rattle.books.specs.Lines.{message_limit, signal_limit, route_limit}
 abbrev pub signal_line : Placement → Line
 signal_line p = line.Signal p.number p.start
 
--- the line of a route: its gateway, always named, then the bus and the identifier of each of its places
+-- the line of a route, by the bus and the identifier of each of its places
 abbrev pub route_line : Route → Line
 route_line r =
-    line.Route r.gateway (r.from / identifier_limit) (r.from % identifier_limit) (r.to / identifier_limit) (r.to % identifier_limit)
+    line.Route (r.from / identifier_limit) (r.from % identifier_limit) (r.to / identifier_limit) (r.to % identifier_limit)
 
 -- the two values of a place in an R line, bus and identifier
 abbrev pub place_text : ℕ → List ℕ
 place_text place = decimal_text (place / identifier_limit) ++ tab ∷ identifier_text (place % identifier_limit)
-
--- the four of two places
-abbrev pub places_text : ℕ → ℕ → List ℕ
-places_text from to = place_text from ++ tab ∷ place_text to
 
 unfoldable pub message_lines : List Message → List Line
 message_lines [] = []
@@ -41,21 +37,21 @@ lines_text ls = text_of_lines (map line_text ls)
 unfoldable pub book_text : Book → List ℕ
 book_text b = lines_text (book_lines b)
 
--- no text of a book has more bytes: 64 M lines of 11, 256 S lines of 10 and 64 R lines of 27
+-- no text of a book has more bytes: 64 M lines of 11, 256 S lines of 10 and 64 R lines of 24
 abbrev pub most_written : ℕ
-most_written = message_limit * 11 + signal_limit * 10 + route_limit * 27
+most_written = message_limit * 11 + signal_limit * 10 + route_limit * 24
 
--- the gateways of routes are gateways, and their places are places: each has a bus and an identifier within their limits
-pub data RoutesInLimits : List Route → Type 0 where
-  no_route : RoutesInLimits []
-  route : {r : Route} {rs : List Route} → r.gateway < gateway_limit → r.from < place_limit → r.to < place_limit → RoutesInLimits rs → RoutesInLimits (r ∷ rs)
+-- the places of routes are places: each has a bus and an identifier within their limits
+pub data BetweenPlaces : List Route → Type 0 where
+  no_route : BetweenPlaces []
+  route : {r : Route} {rs : List Route} → r.from < place_limit → r.to < place_limit → BetweenPlaces rs → BetweenPlaces (r ∷ rs)
 
 -- the line numbers of k lines from n on
 unfoldable pub count_up : ℕ → ℕ → List ℕ
 count_up n zero = []
 count_up n (suc k) = n ∷ count_up (suc n) k
 
--- the routes of lines that pass: few enough, and within the limits
+-- the routes of lines that pass: few enough, and their places are places
 pub record Routed (rs : List Route) : Type 0 where
   pub few : length rs ≤ route_limit
-  pub limits : RoutesInLimits rs
+  pub places : BetweenPlaces rs

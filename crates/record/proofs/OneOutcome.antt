@@ -10,7 +10,7 @@ use lib.Seq.{length-take-le}
 use Rattle.only.specs.Outcomes.{OneResult, OneContent, OneOutcome, result_is, content_is, outcome_is}
 use Rattle.record.specs.Limits.{message_limit, signal_limit, route_limit}
 use Rattle.record.specs.Place.{place_key}
-use Rattle.record.specs.Columns.{book_words, ids_at, ends_at, numbers_at, starts_at, froms_at, tos_at, gateways_at, message_count_of, signal_count_of, route_count_of, ids_of, ends_of, numbers_of, starts_of, froms_of, tos_of, gateways_of, empty_book}
+use Rattle.record.specs.Columns.{book_words, ids_at, ends_at, numbers_at, starts_at, froms_at, tos_at, message_count_of, signal_count_of, route_count_of, ids_of, ends_of, numbers_of, starts_of, froms_of, tos_of, empty_book}
 use Rattle.record.specs.contracts.wide as wide
 use Rattle.record.specs.contracts.message_count as message-count
 use Rattle.record.specs.contracts.signal_count as signal-count
@@ -21,7 +21,6 @@ use Rattle.record.specs.contracts.numbers as numbers
 use Rattle.record.specs.contracts.starts as starts
 use Rattle.record.specs.contracts.froms as froms
 use Rattle.record.specs.contracts.tos as tos
-use Rattle.record.specs.contracts.gateways as gateways
 use Rattle.record.specs.contracts.first as first
 use Rattle.record.specs.contracts.clear as clear
 use Rattle.record.specs.contracts.place as place
@@ -63,9 +62,6 @@ module _ (M : Type 1) where
 
   pub one_tos : OneContent M tos.ended tos.clauses (λ c s. s) (λ c. Whole c.arguments.0.now)
   one_tos = content_is (λ c. tos_of c.arguments.0.now) (λ c. route_limit) (λ c. column_long c.arguments.0.now tos_at route_limit (omega arith)) refl
-
-  pub one_gateways : OneContent M gateways.ended gateways.clauses (λ c s. s) (λ c. Whole c.arguments.0.now)
-  one_gateways = content_is (λ c. gateways_of c.arguments.0.now) (λ c. route_limit) (λ c. column_long c.arguments.0.now gateways_at route_limit (omega arith)) refl
 
   pub one_first : OneContent M first.ended first.clauses (λ c s. s) (λ c. c.arguments.1.0 ≤ length c.arguments.0.now)
   one_first = content_is (λ c. take c.arguments.1.0 c.arguments.0.now) (λ c. c.arguments.1.0) (λ c. length-take-le c.arguments.1.0 c.arguments.0.now) refl

@@ -1,4 +1,4 @@
--- The words of a book: three counts, then seven columns, each at its greatest length; and the empty book.
+-- The words of a book: three counts, then six columns, each at its greatest length; and the empty book.
 -- Assumes nothing: these are definitions.
 use Rattle.std.specs.Prelude.{◌≡◌, ℕ, ◌+◌, ◌<◌, ◌^◌, List, length, get_or, take, drop, replicate}
 use Rattle.record.specs.Limits.{message_limit, signal_limit, route_limit}
@@ -32,18 +32,15 @@ froms_at = starts_at + signal_limit
 abbrev pub tos_at : ℕ
 tos_at = froms_at + route_limit
 
-abbrev pub gateways_at : ℕ
-gateways_at = tos_at + route_limit
-
 -- how many words a book has, and how many of them are the columns of the messages and signals, and those of the routes
 abbrev pub book_words : ℕ
-book_words = gateways_at + route_limit
+book_words = tos_at + route_limit
 
 abbrev pub message_words : ℕ
 message_words = message_limit + (message_limit + (signal_limit + signal_limit))
 
 abbrev pub route_words : ℕ
-route_words = route_limit + (route_limit + route_limit)
+route_words = route_limit + route_limit
 
 -- ---- what the words say
 
@@ -71,15 +68,12 @@ numbers_of w = take signal_limit (drop numbers_at w)
 abbrev pub starts_of : List ℕ → List ℕ
 starts_of w = take signal_limit (drop starts_at w)
 
--- for each route the place it leads from, the place it leads to, and the gateway that carries it
+-- for each route the place it leads from and the place it leads to
 abbrev pub froms_of : List ℕ → List ℕ
 froms_of w = take route_limit (drop froms_at w)
 
 abbrev pub tos_of : List ℕ → List ℕ
 tos_of w = take route_limit (drop tos_at w)
-
-abbrev pub gateways_of : List ℕ → List ℕ
-gateways_of w = take route_limit (drop gateways_at w)
 
 -- the columns of the messages and signals, one after the other, and those of the routes
 abbrev pub message_columns_of : List ℕ → List ℕ

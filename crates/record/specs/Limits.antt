@@ -15,10 +15,6 @@ route_limit = 64
 abbrev pub bus_limit : ℕ
 bus_limit = 8
 
--- gateways are 0 to 15
-abbrev pub gateway_limit : ℕ
-gateway_limit = 16
-
 -- identifiers are below 2^29
 abbrev pub identifier_limit : ℕ
 identifier_limit = 536870912

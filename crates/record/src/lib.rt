@@ -4,7 +4,7 @@
 ghost use Rattle.std.specs.Prelude.{◌≡◌, ◌<◌, ◌≤◌, length, take};
 ghost use Rattle.record.specs.Limits.{message_limit, signal_limit, route_limit, bus_limit, identifier_limit};
 ghost use Rattle.record.specs.Place.{place_key};
-ghost use Rattle.record.specs.Columns.{message_count_of, signal_count_of, route_count_of, ids_of, ends_of, numbers_of, starts_of, froms_of, tos_of, gateways_of, empty_book};
+ghost use Rattle.record.specs.Columns.{message_count_of, signal_count_of, route_count_of, ids_of, ends_of, numbers_of, starts_of, froms_of, tos_of, empty_book};
 
 // How much a book holds, and how far its numbers go.
 pub const MESSAGES: usize = 64;
@@ -14,8 +14,6 @@ pub const SIGNALS: usize = 256;
 pub const ROUTES: usize = 64;
 
 pub const BUSES: u32 = 8;
-
-pub const GATEWAY_LIMIT: u32 = 16;
 
 pub const IDENTIFIER_LIMIT: u32 = 536870912;
 
@@ -33,7 +31,7 @@ pub const COUNTER: u32 = 504;
 pub const COUNTER_START: u32 = 56;
 
 // The words: three counts, then the columns, each at its greatest length.
-pub const BOOK_WORDS: usize = 835;
+pub const BOOK_WORDS: usize = 771;
 
 pub const MESSAGE_COUNT: usize = 0;
 
@@ -64,10 +62,6 @@ pub const FROMS_END: usize = 707;
 pub const TOS: usize = 707;
 
 pub const TOS_END: usize = 771;
-
-pub const GATEWAYS: usize = 771;
-
-pub const GATEWAYS_END: usize = 835;
 
 // A count or an end as the size that it is.
 pub fn wide(word: u32) -> usize
@@ -141,14 +135,6 @@ pub fn tos(book: &[u32; BOOK_WORDS]) -> &[u32]
 {
     let words: &[u32] = book;
     &words[TOS..TOS_END]
-}
-
-// The gateways that carry the routes, in step with their places.
-pub fn gateways(book: &[u32; BOOK_WORDS]) -> &[u32]
-    ensures { (result.now ≡ gateways_of book.now) × (length result.now ≡ route_limit) }
-{
-    let words: &[u32] = book;
-    &words[GATEWAYS..GATEWAYS_END]
 }
 
 // The first `count` entries of a column.

@@ -7,15 +7,14 @@ ghost use Rattle.record.specs.Columns.{book_words};
 use libc::STDIN_FILENO;
 use numerals::identifier_or_0;
 use record::{
-    BOOK_WORDS, ENDS, FROMS, GATEWAYS, IDS, MESSAGE_COUNT, NUMBERS, ROUTE_COUNT, SIGNAL_COUNT,
-    STARTS, TOS,
+    BOOK_WORDS, ENDS, FROMS, IDS, MESSAGE_COUNT, NUMBERS, ROUTE_COUNT, SIGNAL_COUNT, STARTS, TOS,
 };
 
 // The number that two digits 0-9 A-F write; 0 where they write none.
-pub fn short_hex(high: u8, low: u8) -> u32
+pub fn short_hex(high: u8, low: u8) -> usize
     ensures { result ≡ or_zero (numeral_from 16 0 (high ∷ low ∷ [])) }
 {
-    identifier_or_0(&[b'0', b'0', b'0', b'0', b'0', b'0', high, low])
+    identifier_or_0(&[b'0', b'0', b'0', b'0', b'0', b'0', high, low]) as usize
 }
 
 // Where the column of a letter begins.
@@ -31,8 +30,7 @@ fn column(letter: u8) -> usize
         b'N' => NUMBERS,
         b'T' => STARTS,
         b'F' => FROMS,
-        b'G' => TOS,
-        _ => GATEWAYS,
+        _ => TOS,
     }
 }
 
@@ -40,7 +38,7 @@ fn column(letter: u8) -> usize
 pub fn set_entry(book: &mut [u32; BOOK_WORDS]) {
     let mut line = [0u8; 12];
     io::read_full(STDIN_FILENO, &mut line);
-    let index = short_hex(line[1], line[2]) as usize;
+    let index = short_hex(line[1], line[2]);
     let value = identifier_or_0(&line[3..11]);
     let start = column(line[0]);
     if index < BOOK_WORDS - start {

@@ -1,5 +1,5 @@
 -- WHAT A BOOK HAS OF LINES THAT PASS: each is an M or S line or an R line, ended by a newline; those of M and S are, byte for byte, the
--- lines of the book's messages, those of R, each with its gateway named, the lines of its routes. Assumes nothing.
+-- lines of the book's messages, those of R the lines of its routes. Assumes nothing.
 use mathlib.Core.Path.{◌≡◌, refl, sym, ap, ◌∙◌, subst}
 use mathlib.Core.Bool.{Bool}
 use mathlib.Core.List.{List, [], ◌∷◌, ◌++◌, map, map-append, append_assoc, append-nil}
@@ -13,7 +13,6 @@ use Rattle.parts.specs.Joined.{join}
 use Rattle.line.specs.declared.Line.{Line}
 use Rattle.line.specs.declared.Line.TheVariants as line
 use Rattle.line.specs.Meaning.{line_meaning, meaning_of}
-use Rattle.line.specs.Named.{gateway_named}
 use Rattle.line.specs.Written.{fields_of, line_text}
 use Rattle.books.specs.Book.{Book, Route, no_book, placement, route}
 use Rattle.books.specs.Lines.{route_refusal, bus_limit}
@@ -24,7 +23,6 @@ use Rattle.reading.proofs.Passing.{went, same_book}
 use Rattle.reading.proofs.Bytes.{ill_passes, says_itself}
 use Rattle.reading.proofs.Writes.{lines_message, lines_signal}
 use Rattle.rewriting.specs.LineKinds.{line_bytes, text_lines, is_mor_sline, is_rline, message_lines_of, route_lines_of, MSAndRLines, no_line, m_or_s_line, r_line}
-use Rattle.rewriting.proofs.Naming.{r_named, m_or_s_named, those_r_named, those_m_or_s_named}
 
 -- the lines of a book's messages, and those of its routes, as bytes
 abbrev pub message_texts : Book → List (List ℕ)
@@ -57,9 +55,9 @@ place_numbers x i h l =
     let k = key_place (place_key x i) (key_fits x i h l) in
     says_both (place_key x i / identifier_limit) (place_key x i % identifier_limit) x i k.1 l k.2
 
-same_route_line : (rs : List Route) (g x i y j : ℕ) → route_refusal rs g x i y j ≡ 0 → route_line (route g x i y j) ≡ line.Route g x i y j
-same_route_line rs g x i y j e =
-    let a = route_allowed rs g x i y j e in
+same_route_line : (rs : List Route) (x i y j : ℕ) → route_refusal rs x i y j ≡ 0 → route_line (route x i y j) ≡ line.Route x i y j
+same_route_line rs x i y j e =
+    let a = route_allowed rs x i y j e in
     let p = place_numbers x i a.from_bus a.from_identifier in
     let q = place_numbers y j a.to_bus a.to_identifier in
     rw (p.0, p.1, q.0, q.1)
@@ -78,10 +76,10 @@ grown_with b (line.Signal n s) e = record {
   messages = ap (map line_text) (lines_signal b.messages (placement n s) e) ∙ texts_more (message_lines b.messages) (line.Signal n s);
   routes = sym (append-nil (route_texts b));
 }
-grown_with b (line.Route g x i y j) e = record {
+grown_with b (line.Route x i y j) e = record {
   messages = sym (append-nil (message_texts b));
-  routes = ap (map line_text) (map-append route_line b.routes (route g x i y j ∷ [])) ∙ texts_more (map route_line b.routes) (route_line (route g x i y j))
-      ∙ ap (λ (l : Line). route_texts b ++ (line_text l ∷ [])) (same_route_line b.routes g x i y j e);
+  routes = ap (map line_text) (map-append route_line b.routes (route x i y j ∷ [])) ∙ texts_more (map route_line b.routes) (route_line (route x i y j))
+      ∙ ap (λ (l : Line). route_texts b ++ (line_text l ∷ [])) (same_route_line b.routes x i y j e);
 }
 grown_with b line.IllFormed e = ill_passes b e
 
@@ -89,26 +87,21 @@ kind_with : (b : Book) (l : Line) {ts : List TextLine} → refusal_of b l ≡ 0 
 unfolding line_text fields_of join is_mor_sline is_rline
 kind_with b (line.Message i) e k = m_or_s_line refl k
 kind_with b (line.Signal n s) e k = m_or_s_line refl k
-kind_with b (line.Route g x i y j) e k = r_line refl k
+kind_with b (line.Route x i y j) e k = r_line refl k
 kind_with b line.IllFormed e k = ill_passes b e
 
--- naming the gateway left the kind of a line as it was
-unnamed_kind : (l : List ℕ) {ts : List TextLine} → MSAndRLines (ended (gateway_named l) ∷ ts) → MSAndRLines (ended l ∷ ts)
-unnamed_kind l (m_or_s_line e k) = m_or_s_line (sym (m_or_s_named l) ∙ e) k
-unnamed_kind l (r_line e k) = r_line (sym (r_named l) ∙ e) k
-
--- ---- all lines, each with its gateway named
+-- ---- all lines
 record Read (b c : Book) (ts : List TextLine) : Type 0 where
   pub kinds : MSAndRLines ts
-  pub grown : Grown b c (map gateway_named (map line_bytes ts))
+  pub grown : Grown b c (map line_bytes ts)
 
 read_on : (b : Book) (l : List ℕ) (ts : List TextLine) {c : Book} → refusal_of b (line_meaning l) ≡ 0
     → Read (with_line b (line_meaning l)) c ts → Read b c (ended l ∷ ts)
 read_on b l ts {c} e r =
     let w = says_itself b l e in
     record {
-      kinds = unnamed_kind l (subst (λ (x : List ℕ). MSAndRLines (ended x ∷ ts)) (sym w.text) (kind_with b (line_meaning l) e r.kinds));
-      grown = grown_on (gateway_named l) (map gateway_named (map line_bytes ts))
+      kinds = subst (λ (x : List ℕ). MSAndRLines (ended x ∷ ts)) (sym w.text) (kind_with b (line_meaning l) e r.kinds);
+      grown = grown_on l (map line_bytes ts)
           (subst (λ (x : List ℕ). Grown b (with_line b (line_meaning l)) (x ∷ [])) (sym w.text) (grown_with b (line_meaning l) e)) r.grown;
     }
 
@@ -137,11 +130,11 @@ module _ (text : List ℕ) {b : Book} {at : List ℕ} (e : lines_read text ≡ p
   pub every_line : MSAndRLines (lines text)
   every_line = read.kinds
 
-  -- the book's messages have the M and S lines, its routes the R lines, each with its gateway named
+  -- the book's messages have the M and S lines, its routes the R lines
   pub message_lines_law : message_texts b ≡ message_lines_of text
   unfolding message_lines_of text_lines message_lines
-  message_lines_law = read.grown.messages ∙ those_m_or_s_named (map line_bytes (lines text))
+  message_lines_law = read.grown.messages
 
-  pub route_lines_law : route_texts b ≡ map gateway_named (route_lines_of text)
+  pub route_lines_law : route_texts b ≡ route_lines_of text
   unfolding route_lines_of text_lines
-  route_lines_law = read.grown.routes ∙ those_r_named (map line_bytes (lines text))
+  route_lines_law = read.grown.routes

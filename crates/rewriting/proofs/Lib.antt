@@ -1,4 +1,3 @@
-pub mod Naming
 pub mod Growing
 pub mod Parted
 pub mod Orders

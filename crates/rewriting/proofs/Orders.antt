@@ -10,16 +10,13 @@ use Rattle.parts.specs.Joined.{join}
 use Rattle.line.specs.declared.Line.{Line}
 use Rattle.line.specs.declared.Line.TheVariants as line
 use Rattle.line.specs.Meaning.{line_meaning, meaning_of}
-use Rattle.line.specs.Named.{gateway_named}
 use Rattle.line.specs.Written.{fields_of, line_text}
-use Rattle.line.proofs.Named.{named_means}
 use Rattle.books.specs.Book.{Book, Message, Route, no_book}
 use Rattle.reading.specs.Reading.{passed, refusal_of, with_line, numbered_with, read_from, meanings, lines_read}
 use Rattle.reading.proofs.Passing.{went, goes_on, same_book}
 use Rattle.reading.proofs.Bytes.{says_itself}
 use Rattle.reading.proofs.Writes.{only_messages}
 use Rattle.rewriting.specs.LineKinds.{line_bytes, text_lines, is_mor_sline, is_rline, message_lines_of, route_lines_of, MSAndRLines, no_line, m_or_s_line, r_line}
-use Rattle.rewriting.proofs.Naming.{r_named, m_or_s_named}
 use Rattle.rewriting.proofs.Growing.{every_line, message_lines_law, route_lines_law}
 use Rattle.rewriting.proofs.Parted.{m_or_s_only, r_only}
 
@@ -29,27 +26,27 @@ data OfMessage : Line → Type 0 where
   an_s : {n s : ℕ} → OfMessage (line.Signal n s)
 
 data OfRoute : Line → Type 0 where
-  an_r : {g x i y j : ℕ} → OfRoute (line.Route g x i y j)
+  an_r : {x i y j : ℕ} → OfRoute (line.Route x i y j)
 
 of_message_law : (m : Line) → is_mor_sline (line_text m) ≡ true → OfMessage m
 unfolding line_text fields_of join is_mor_sline
 of_message_law (line.Message i) k = an_m
 of_message_law (line.Signal n s) k = an_s
-of_message_law (line.Route g x i y j) k = absurd (true≢false (sym k))
+of_message_law (line.Route x i y j) k = absurd (true≢false (sym k))
 of_message_law line.IllFormed k = absurd (true≢false (sym k))
 
 of_route_law : (m : Line) → is_rline (line_text m) ≡ true → OfRoute m
 unfolding line_text fields_of join is_rline
 of_route_law (line.Message i) k = absurd (true≢false (sym k))
 of_route_law (line.Signal n s) k = absurd (true≢false (sym k))
-of_route_law (line.Route g x i y j) k = an_r
+of_route_law (line.Route x i y j) k = an_r
 of_route_law line.IllFormed k = absurd (true≢false (sym k))
 
 says_message : (b : Book) (l : List ℕ) → refusal_of b (line_meaning l) ≡ 0 → is_mor_sline l ≡ true → OfMessage (line_meaning l)
-says_message b l e k = of_message_law (line_meaning l) (ap is_mor_sline (sym (says_itself b l e).text) ∙ m_or_s_named l ∙ k)
+says_message b l e k = of_message_law (line_meaning l) (ap is_mor_sline (sym (says_itself b l e).text) ∙ k)
 
 says_route : (b : Book) (l : List ℕ) → refusal_of b (line_meaning l) ≡ 0 → is_rline l ≡ true → OfRoute (line_meaning l)
-says_route b l e k = of_route_law (line_meaning l) (ap is_rline (sym (says_itself b l e).text) ∙ r_named l ∙ k)
+says_route b l e k = of_route_law (line_meaning l) (ap is_rline (sym (says_itself b l e).text) ∙ k)
 
 -- ---- M and S lines ask the messages alone, R lines the routes alone
 abbrev only_routes : List Route → Book
@@ -90,17 +87,6 @@ messages_after ls to e p = subst (λ (ms : List Message). MessagesPass ms ls to)
 
 routes_after : (ls : List (List ℕ)) (to : List Route) {x y : List Route} → x ≡ y → RoutesPass x ls to → RoutesPass y ls to
 routes_after ls to e p = subst (λ (rs : List Route). RoutesPass rs ls to) e p
-
--- what R lines ask is what they ask with their gateways named
-routes_named : (rs : List Route) (ls : List (List ℕ)) (to : List Route) → RoutesPass rs ls to → RoutesPass rs (map gateway_named ls) to
-routes_named rs [] to p = p
-routes_named rs (l ∷ ls) to p = rw (named_means l) (p.0, routes_named (with_line (only_routes rs) (line_meaning l)).routes ls to p.1)
-
-routes_unnamed : (rs : List Route) (ls : List (List ℕ)) (to : List Route) → RoutesPass rs (map gateway_named ls) to → RoutesPass rs ls to
-routes_unnamed rs [] to p = p
-routes_unnamed rs (l ∷ ls) to p =
-    let q = rw (named_means l) at p in
-    (q.0, routes_unnamed (with_line (only_routes rs) (line_meaning l)).routes ls to q.1)
 
 -- both, of lines in some order
 record BothPass (b : Book) (ls : List (List ℕ)) (c : Book) : Type 0 where
@@ -165,21 +151,17 @@ together n b at {c = c} (r_line {l} {ls} k ks) h =
 
 -- ---- of a text
 module _ (text other : List ℕ) {b : Book} {at : List ℕ} (e : lines_read text ≡ passed b at) where
-  -- ONLY THE ORDER between the two kinds may differ, and whether a gateway 0 is named: another text of the book has the same M and S
-  -- lines, and the same R lines with their gateways named
-  pub only_order : {to : List ℕ} → lines_read other ≡ passed b to
-      → (message_lines_of other ≡ message_lines_of text) × (map gateway_named (route_lines_of other) ≡ map gateway_named (route_lines_of text))
+  -- ONLY THE ORDER between the two kinds may differ: another text of the book has the same M and S lines, and the same R lines
+  pub only_order : {to : List ℕ} → lines_read other ≡ passed b to → (message_lines_of other ≡ message_lines_of text) × (route_lines_of other ≡ route_lines_of text)
   only_order f = (sym (message_lines_law other f) ∙ message_lines_law text e, sym (route_lines_law other f) ∙ route_lines_law text e)
 
-  -- EVERY ORDER between them comes in: a text with the same M and S lines and the same R lines, named or not, and no others, is read as
-  -- the same book
-  pub any_order : MSAndRLines (lines other) → message_lines_of other ≡ message_lines_of text
-      → map gateway_named (route_lines_of other) ≡ map gateway_named (route_lines_of text)
+  -- EVERY ORDER between them comes in: a text with the same M and S lines and the same R lines, and no others, is read as the same book
+  pub any_order : MSAndRLines (lines other) → message_lines_of other ≡ message_lines_of text → route_lines_of other ≡ route_lines_of text
       → (to : List ℕ) × (lines_read other ≡ passed b to)
   unfolding lines_read meanings message_lines_of route_lines_of text_lines PassesTo
   any_order k m r =
       let h = apart 1 no_book [] (every_line text e) e in
       together 1 no_book [] k (record {
         messages = subst (λ (x : List (List ℕ)). MessagesPass [] x b.messages) (sym m) h.messages;
-        routes = routes_unnamed [] (those is_rline (map line_bytes (lines other))) b.routes (subst (λ (x : List (List ℕ)). RoutesPass [] x b.routes) (sym r) (routes_named [] (those is_rline (map line_bytes (lines text))) b.routes h.routes));
+        routes = subst (λ (x : List (List ℕ)). RoutesPass [] x b.routes) (sym r) h.routes;
       })

@@ -1,2 +1,1 @@
 pub mod LineKinds
-pub mod Naming

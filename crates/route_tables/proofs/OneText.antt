@@ -55,7 +55,7 @@ of_taken_text w r m t =
       text = book_text b;
       left = record {
         book = b;
-        taken = has_text b (good_built (messages_of w) s.1) (routed_shown w r t.carried) t.sound;
+        taken = has_text b (good_built (messages_of w) s.1) (routed_shown w r) t.sound;
         words = stand_words w b r s.0 t.stand;
       };
     }

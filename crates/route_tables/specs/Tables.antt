@@ -1,20 +1,14 @@
 -- Refusal 12 for the route tables: when they are those of a taken book; and a record that is, word for word, that of a taken text.
 -- Assumes nothing: these are definitions.
-use Rattle.std.specs.Prelude.{◌≡◌, ℕ, ◌<◌, List, get_or}
+use Rattle.std.specs.Prelude.{◌≡◌, ℕ, List}
 use Rattle.books.specs.Book.{Book}
-use Rattle.record.specs.Limits.{gateway_limit}
-use Rattle.books.specs.Words.{gateways, words_of, RoutesStand, routes_of}
+use Rattle.books.specs.Words.{words_of, RoutesStand, routes_of}
 use Rattle.reading.specs.Taken.{SoundRoutes, TakenWith}
 
--- each of some numbers is that of a gateway, 0 to 15
-abbrev pub AllGateways : List ℕ → Type 0
-AllGateways gs = (k : ℕ) → get_or gs k 0 < gateway_limit
-
 -- the route tables are those of a taken book: the words stand as the routes that they show would, with 0 in every entry past their
--- count, each of these is carried by a gateway, and they have no closed chain, and no two different chains that join the same two places
+-- count, and these have no closed chain, and no two different chains that join the same two places
 pub record RoutesTaken (w : List ℕ) : Type 0 where
   pub stand : RoutesStand w (routes_of w)
-  pub carried : AllGateways (gateways (routes_of w))
   pub sound : SoundRoutes (routes_of w)
 
 -- the words are those of the book with which a text is taken

@@ -10,11 +10,11 @@ use Rattle.books.specs.Book.{Route}
 use Rattle.books.specs.Words.{routes_of}
 use Rattle.route_tables.specs.Tables.{RoutesTaken}
 use Rattle.route_tables.proofs.Decided.{taken_or_not}
-use Rattle.routes.specs.Answers.{sent_number, place_count, IsPlace, spread_along, gateways_along, Rooms, rooms, room_in, SpreadBy, no_place, no_room, spreads, SpreadAnswer, not_a_book, by_routes}
+use Rattle.routes.specs.Answers.{sent_number, place_count, IsPlace, spread_along, SpreadBy, no_place, no_room, spreads, SpreadAnswer, not_a_book, by_routes}
 use Rattle.routes.specs.declared.Sent.{Sent}
 use Rattle.routes.specs.declared.Sent.TheVariants as sent
 
-pub place_or_not : (bus identifier : ℕ) → Dec (IsPlace bus identifier)
+place_or_not : (bus identifier : ℕ) → Dec (IsPlace bus identifier)
 place_or_not bus identifier = go (dec_le bus_limit bus) (dec_le identifier_limit identifier)
   where
     go : Dec (bus_limit ≤ bus) → Dec (identifier_limit ≤ identifier) → Dec (IsPlace bus identifier)
@@ -41,25 +41,25 @@ sent_once sent.NoRoom sent.NotABook e f = absurd (omega arith)
 sent_once sent.NoRoom sent.NoSuchPlace e f = absurd (omega arith)
 sent_once sent.NoRoom sent.NoRoom e f = refl
 
--- the answer, its count and the rooms after it
+-- the answer, its count and the room after it
 abbrev pub SpreadLeft : Type 0
-SpreadLeft = ℕ × (ℕ × Rooms)
+SpreadLeft = ℕ × (ℕ × List ℕ)
 
-module _ (rs : List Route) (bus identifier : ℕ) (room : Rooms) where
+module _ (rs : List Route) (bus identifier : ℕ) (room : List ℕ) where
   abbrev s : List ℕ
   s = spread_along rs bus identifier
 
   -- by a table there is an answer
-  by_table : (x : Sent × Rooms) × SpreadBy rs bus identifier room (sent_number x.0) (place_count x.0) x.1
-  by_table = go (place_or_not bus identifier) (dec_le (length s) (room_in room))
+  by_table : (x : Sent × List ℕ) × SpreadBy rs bus identifier room (sent_number x.0) (place_count x.0) x.1
+  by_table = go (place_or_not bus identifier) (dec_le (length s) (length room))
     where
-      go : Dec (IsPlace bus identifier) → Dec (length s ≤ room_in room) → (x : Sent × Rooms) × SpreadBy rs bus identifier room (sent_number x.0) (place_count x.0) x.1
+      go : Dec (IsPlace bus identifier) → Dec (length s ≤ length room) → (x : Sent × List ℕ) × SpreadBy rs bus identifier room (sent_number x.0) (place_count x.0) x.1
       go (no n) r = ((sent.NoSuchPlace, room), no_place n)
       go (yes p) (no n) = ((sent.NoRoom, room), no_room p (omega arith))
-      go (yes p) (yes l) = ((sent.Places (length s), rooms (s ++ drop (length s) room.places) (gateways_along rs bus identifier ++ drop (length s) room.gateways)), spreads p l)
+      go (yes p) (yes l) = ((sent.Places (length s), s ++ drop (length s) room), spreads p l)
 
   -- and no other
-  by_table_once : {y n : ℕ} {a : Rooms} {z m : ℕ} {b : Rooms} → SpreadBy rs bus identifier room y n a → SpreadBy rs bus identifier room z m b → ◌≡◌ {A = SpreadLeft} (y, (n, a)) (z, (m, b))
+  by_table_once : {y n : ℕ} {a : List ℕ} {z m : ℕ} {b : List ℕ} → SpreadBy rs bus identifier room y n a → SpreadBy rs bus identifier room z m b → ◌≡◌ {A = SpreadLeft} (y, (n, a)) (z, (m, b))
   by_table_once (no_place x) (no_place y) = refl
   by_table_once (no_place x) (no_room p l) = absurd (x p)
   by_table_once (no_place x) (spreads p l) = absurd (x p)
@@ -70,22 +70,22 @@ module _ (rs : List Route) (bus identifier : ℕ) (room : Rooms) where
   by_table_once (spreads p l) (no_room q m) = absurd (omega arith)
   by_table_once (spreads p l) (spreads q m) = refl
 
-module _ (w : List ℕ) (bus identifier : ℕ) (room : Rooms) where
-  pub answered : (x : Sent × Rooms) × SpreadAnswer w bus identifier room (sent_number x.0) (place_count x.0) x.1
+module _ (w : List ℕ) (bus identifier : ℕ) (room : List ℕ) where
+  pub answered : (x : Sent × List ℕ) × SpreadAnswer w bus identifier room (sent_number x.0) (place_count x.0) x.1
   answered = go (taken_or_not w)
     where
-      go : Dec (RoutesTaken w) → (x : Sent × Rooms) × SpreadAnswer w bus identifier room (sent_number x.0) (place_count x.0) x.1
+      go : Dec (RoutesTaken w) → (x : Sent × List ℕ) × SpreadAnswer w bus identifier room (sent_number x.0) (place_count x.0) x.1
       go (no n) = ((sent.NotABook, room), not_a_book n)
       go (yes t) = let b = by_table (routes_of w) bus identifier room in (b.0, by_routes t b.1)
 
-  pub answer_once : {y n : ℕ} {a : Rooms} {z m : ℕ} {b : Rooms} → SpreadAnswer w bus identifier room y n a → SpreadAnswer w bus identifier room z m b → ◌≡◌ {A = SpreadLeft} (y, (n, a)) (z, (m, b))
+  pub answer_once : {y n : ℕ} {a : List ℕ} {z m : ℕ} {b : List ℕ} → SpreadAnswer w bus identifier room y n a → SpreadAnswer w bus identifier room z m b → ◌≡◌ {A = SpreadLeft} (y, (n, a)) (z, (m, b))
   answer_once (not_a_book x) (not_a_book y) = refl
   answer_once (not_a_book x) (by_routes t b) = absurd (x t)
   answer_once (by_routes t a) (not_a_book y) = absurd (y t)
   answer_once (by_routes t a) (by_routes u b) = by_table_once (routes_of w) bus identifier room a b
 
 -- so the call leaves one outcome
-pub same_sent : {r q : Sent} {a b : Rooms} → ◌≡◌ {A = SpreadLeft} (sent_number r, (place_count r, a)) (sent_number q, (place_count q, b)) → ◌≡◌ {A = Sent × Rooms} (r, a) (q, b)
+pub same_sent : {r q : Sent} {a b : List ℕ} → ◌≡◌ {A = SpreadLeft} (sent_number r, (place_count r, a)) (sent_number q, (place_count q, b)) → ◌≡◌ {A = Sent × List ℕ} (r, a) (q, b)
 same_sent {r} {q} {a} {b} e =
     let x : r ≡ q = sent_once r q (ap (λ (l : SpreadLeft). l.0) e) (ap (λ (l : SpreadLeft). l.1.0) e) in
     let y : a ≡ b = ap (λ (l : SpreadLeft). l.1.1) e in

@@ -15,24 +15,21 @@ set_front (x ∷ s) [] i h k = absurd (omega arith)
 set_front (x ∷ s) (y ∷ l) zero h k = refl
 set_front (x ∷ s) (y ∷ l) (suc i) h k = ap (λ (t : List ℕ). x ∷ t) (set_front s l i (le_of_suc-le-suc h) (le_of_suc-le-suc k))
 
--- of n entries the first i stand at the front
-pub record FrontWritten (s l : List ℕ) (n i : ℕ) (l' : List ℕ) : Type 0 where
+-- the first i entries are copied
+pub record Copied (s l : List ℕ) (n i : ℕ) (l' : List ℕ) : Type 0 where
   pub within : i ≤ n
   pub long : length l' ≡ length l
   pub front : l' ≡ take i s ++ drop i l
 
-pub front_none : (s l : List ℕ) (n : ℕ) → FrontWritten s l n 0 l
-front_none s l n = record { within = omega arith; long = refl; front = refl }
-
-pub front_more : (s l : List ℕ) (n i : ℕ) (l' : List ℕ) → FrontWritten s l n i l' → i < n → n ≤ length s → n ≤ length l → FrontWritten s l n (i + 1) (set l' i (get_or s i 0))
-front_more s l n i l' h lt a b = record {
+pub copied_more : (s l : List ℕ) (n i : ℕ) (l' : List ℕ) → Copied s l n i l' → i < n → n ≤ length s → n ≤ length l → Copied s l n (i + 1) (set l' i (get_or s i 0))
+copied_more s l n i l' h lt a b = record {
   within = omega arith;
   long = length-set l' i (get_or s i 0) ∙ h.long;
   front = rw add-one (ap (λ (t : List ℕ). set t i (get_or s i 0)) h.front ∙ set_front s l i (omega arith) (omega arith));
 }
 
-pub front_end : (s l : List ℕ) (n i : ℕ) (l' : List ℕ) → FrontWritten s l n i l' → n ≤ i → l' ≡ take n s ++ drop n l
-front_end s l n i l' h k = let e : i ≡ n = omega (arith, h.within) in h.front ∙ ap (λ (m : ℕ). take m s ++ drop m l) e
+pub copied_end : (s l : List ℕ) (n i : ℕ) (l' : List ℕ) → Copied s l n i l' → n ≤ i → l' ≡ take n s ++ drop n l
+copied_end s l n i l' h k = let e : i ≡ n = omega (arith, h.within) in h.front ∙ ap (λ (m : ℕ). take m s ++ drop m l) e
 
 -- what is written from 0 on stands at the front
 pub front : (s l l' : List ℕ) (r : ℕ) → length s ≤ length l → Written s l 0 l' r → (r ≡ length s) × (take r l' ≡ s)

@@ -1,5 +1,4 @@
 pub mod Front
-pub mod Telling
 pub mod Gathering
 pub mod Decided
 pub mod Listed

@@ -1,20 +1,17 @@
 // Judges the tables of routes on standard input, and spreads one place by each that is sound. A line is how many routes,
-// in two hex digits, for each its gateway in two and its from and to place in eight each, and the place to spread. Each gives a line:
-// `loop` or `doubling` with the route's index, or `sound` with the count of the spread and for each entry its place and its gateway.
+// in two hex digits, for each its from and to place in eight each, and the place to spread. Each gives a line: `loop` or
+// `doubling` with the route's index, or `sound` with the count of the spread and its places.
 use libc::{STDIN_FILENO, STDOUT_FILENO};
 use numerals::identifier_or_0;
-use record::{BOOK_WORDS, FROMS, GATEWAYS, IDENTIFIER_LIMIT, ROUTE_COUNT, ROUTES, TOS};
+use record::{BOOK_WORDS, FROMS, IDENTIFIER_LIMIT, ROUTE_COUNT, ROUTES, TOS};
 use record_cases::short_hex;
 use streams::read_first;
 use verdict::Verdict;
 
 const MOST_LINES: u32 = 1000000;
 
-// The digits of a route.
-const ROUTE: usize = 18;
-
 // The longest line after its count: 64 routes, a place and the newline.
-const LINE: usize = 1161;
+const LINE: usize = 1033;
 
 // The book that has the routes of the line, and nothing else.
 fn book_on(line: [u8; LINE], n: usize) -> [u32; BOOK_WORDS] {
@@ -25,11 +22,9 @@ fn book_on(line: [u8; LINE], n: usize) -> [u32; BOOK_WORDS] {
     book[ROUTE_COUNT] = n as u32;
     let mut i: usize = 0;
     while i < n {
-        let at = ROUTE * i;
-        let from = at + 2;
-        let to = at + 10;
-        let end = at + ROUTE;
-        book[GATEWAYS + i] = short_hex(line[at], line[at + 1]);
+        let from = 16 * i;
+        let to = from + 8;
+        let end = from + 16;
         book[FROMS + i] = identifier_or_0(&line[from..to]);
         book[TOS + i] = identifier_or_0(&line[to..end]);
         i += 1;
@@ -41,7 +36,7 @@ fn place_on(line: [u8; LINE], n: usize) -> u32 {
     if n > ROUTES {
         return 0;
     }
-    let at = ROUTE * n;
+    let at = 16 * n;
     let end = at + 8;
     identifier_or_0(&line[at..end])
 }
@@ -55,7 +50,7 @@ fn print_index(word: &[u8], i: usize) {
 fn print_spread(book: &[u32; BOOK_WORDS], place: u32) {
     let bus = place / IDENTIFIER_LIMIT;
     let identifier = place % IDENTIFIER_LIMIT;
-    route_cases::print_spread(b"sound\t", book, bus, identifier, ROUTES, ROUTES);
+    route_cases::print_spread(b"sound\t", book, bus, identifier, ROUTES);
 }
 
 fn judge_first(froms: &[u32], tos: &[u32], n: usize) -> Verdict {
@@ -88,11 +83,11 @@ fn main() {
         if io::read_full(STDIN_FILENO, &mut head) < 2 {
             return;
         }
-        let n = short_hex(head[0], head[1]) as usize;
+        let n = short_hex(head[0], head[1]);
         if n > ROUTES {
             return;
         }
-        read_first(&mut line, ROUTE * n + 9);
+        read_first(&mut line, 16 * n + 9);
         let book = book_on(line, n);
         answer(&book, n, place_on(line, n));
     }

@@ -14,14 +14,14 @@ use denote.Ref.{MutBor, at_last}
 use lib.ListN.{length}
 use lib.Seq.{sets}
 use Rattle.only.specs.Only.{Only}
-use Rattle.sending.specs.Writing.{Written, copies_in}
+use Rattle.sending.specs.Writing.{Written, spread_in}
 use Rattle.sending.specs.contracts.send as send
 
 module _ {M : Type 1} {𝓤 : Ura M} (𝓛 : Logic 𝓤) (mem : Memory → SProp 𝓤) (run : Routine → Fun 𝓤) (κs : Lfts 2) where
   pub one_send : (book : MutBor (List ℕ)) (place : ℕ) (room : MutBor (List ℕ)) (at : ℕ)
       → Only 𝓤 (λ (x : ℕ × List ℕ). (send.clauses 𝓛 mem run κs (book, (place, (room, (at, tt))))).ensures tt x.0 (book, (place, (at_last room x.1, (at, tt)))))
   one_send book place room at =
-      let s = copies_in book.now place in
+      let s = spread_in book.now place in
       record {
         coded = coded× coded_ℕ (coded_list coded_ℕ);
         outcome = (at + length s, sets room.now at s);

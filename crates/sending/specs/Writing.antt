@@ -4,7 +4,7 @@ use Rattle.std.proofs.lemmas.List.Edits.{sets}
 use Rattle.record.specs.Limits.{route_limit}
 use Rattle.record.specs.Columns.{route_count_of, froms_of, tos_of}
 use Rattle.chains.specs.Chain.{LoopFree}
-use Rattle.chains.specs.Copies.{copies_of}
+use Rattle.chains.specs.Spread.{spread_of}
 
 -- the places that the routes of a book's words lead from, as many as are counted, and those they lead to
 abbrev pub live_froms : List ℕ → List ℕ
@@ -13,13 +13,13 @@ live_froms w = take (route_count_of w) (froms_of w)
 abbrev pub live_tos : List ℕ → List ℕ
 live_tos w = take (route_count_of w) (tos_of w)
 
--- the routes that make the copies of a place's spread along them
-abbrev pub copies_in : List ℕ → ℕ → List ℕ
-copies_in w place = copies_of (live_froms w) (live_tos w) place
+-- the spread of a place along them
+abbrev pub spread_in : List ℕ → ℕ → List ℕ
+spread_in w place = spread_of (live_froms w) (live_tos w) place
 
--- what a route hands on: the copy that it makes itself, then those of the place it leads to
+-- what a route hands on: the place it leads to, then that place's spread
 abbrev pub handed_along : List ℕ → List ℕ → ℕ → List ℕ
-handed_along froms tos i = i ∷ copies_of froms tos (get_or tos i 0)
+handed_along froms tos i = get_or tos i 0 ∷ spread_of froms tos (get_or tos i 0)
 
 abbrev pub handed_on : List ℕ → ℕ → List ℕ
 handed_on w i = handed_along (live_froms w) (live_tos w) i
@@ -29,8 +29,8 @@ pub record RouteOf (w : List ℕ) (i : ℕ) : Type 0 where
   pub counted : i < route_count_of w
   pub few : route_count_of w ≤ route_limit
 
--- the words count no more routes than a book may have, all of which they have, these have no closed chain, and a room with as many
--- entries as there may be routes has enough for s from `at` on
+-- the words count no more routes than a book may have, all of which they have, these have no closed chain, and a room for as many
+-- places as there may be routes has entries for s from `at` on
 pub record Ready (w s : List ℕ) (at : ℕ) : Type 0 where
   pub few : route_count_of w ≤ route_limit
   pub whole : length (live_froms w) ≡ route_count_of w

@@ -1,10 +1,10 @@
-// The spread of a place, written out as the routes that make its copies: a place sends along its routes and each route hands on to its
-// place, so the work is two functions in a cycle, which ends since the longest chain that remains falls. Each turn of it stands on the
-// stack, so it keeps as little as there is: the book and the room, each lent as one address, the place, and the number of a route.
+// The spread of a place, written out: a place sends along its routes and each route hands on to its place, so the work is
+// two functions in a cycle, which ends since the longest chain that remains falls. Each turn of it stands on the stack, so it keeps
+// as little as there is: the book and the room, each lent as one address, the place, and the number of a route.
 ghost use Rattle.std.specs.Prelude.{◌≡◌, ◌<◌, get_or, set};
 ghost use Rattle.record.specs.Limits.{route_limit};
 ghost use Rattle.record.specs.Columns.{route_count_of};
-ghost use Rattle.sending.specs.Writing.{RouteOf, Ready, Written, live_froms, live_tos, copies_in, handed_on};
+ghost use Rattle.sending.specs.Writing.{RouteOf, Ready, Written, live_froms, live_tos, spread_in, handed_on};
 
 use record::{BOOK_WORDS, ROUTES, wide};
 
@@ -26,20 +26,20 @@ fn to_of(book: &[u32; BOOK_WORDS], route: u32) -> u32
     tos[wide(route)]
 }
 
-// Writes a route into the room.
-fn put(room: &mut [u32; ROUTES], at: u32, route: u32)
+// Writes a place into the room.
+fn put(room: &mut [u32; ROUTES], at: u32, place: u32)
     requires { at < route_limit }
-    ensures { room.new ≡ set room.old at route }
+    ensures { room.new ≡ set room.old at place }
 {
-    room[wide(at)] = route;
+    room[wide(at)] = place;
 }
 
-// A place sends along its routes, in book order: the routes that make the copies of its spread go into the room from `at` on. The
-// answer is the entry after them.
+// A place sends along its routes, in book order: the spread of `place` goes into the room from `at` on. The answer is the
+// entry after it.
 #[cycle(hand_on_send)]
 pub fn send(book: &[u32; BOOK_WORDS], place: u32, room: &mut [u32; ROUTES], at: u32) -> u32
-    requires { Ready book.now (copies_in book.now place) at }
-    ensures { Written (copies_in book.now place) room.old at room.new result }
+    requires { Ready book.now (spread_in book.now place) at }
+    ensures { Written (spread_in book.now place) room.old at room.new result }
 {
     let count = record::route_count(book);
     let mut next = at;
@@ -53,13 +53,13 @@ pub fn send(book: &[u32; BOOK_WORDS], place: u32, room: &mut [u32; ROUTES], at: 
     next
 }
 
-// A route hands on to the place it leads to: the route itself makes a copy there, then those of that place are made.
+// A route hands on to the place it leads to: that place, then its spread.
 #[cycle(hand_on_send)]
 fn hand_on(book: &[u32; BOOK_WORDS], route: u32, room: &mut [u32; ROUTES], at: u32) -> u32
     requires { (route < route_count_of book.now) × Ready book.now (handed_on book.now route) at }
     ensures { Written (handed_on book.now route) room.old at room.new result }
 {
     let place = to_of(book, route);
-    put(room, at, route);
+    put(room, at, place);
     send(book, place, room, at + 1)
 }

@@ -11,7 +11,7 @@ use Rattle.answers.specs.declared.Refusal.TheVariants as refusal
 use Rattle.answers.specs.Numbers.{number}
 use Rattle.answers.proofs.Numbered.{above_0, number_once}
 use Rattle.books.specs.Book.{Placement, Message, Route, Book, identifiers, numbers, all_placements, last_placements, with_signal}
-use Rattle.books.specs.Lines.{is_in, unknown_or_over, misplaced, meets_earlier, message_refusal, after_refusal, signal_refusal, route_refusal, message_limit, signal_limit, route_limit, gateway_limit, identifier_limit, bus_limit}
+use Rattle.books.specs.Lines.{is_in, unknown_or_over, misplaced, meets_earlier, message_refusal, after_refusal, signal_refusal, route_refusal, message_limit, signal_limit, route_limit, identifier_limit, bus_limit}
 use Rattle.books.specs.Words.{words_of}
 use Rattle.catalogue.specs.Find.{bits_of_spec}
 use Rattle.placing.specs.declared.Filled.{Filled}
@@ -69,10 +69,10 @@ signal_answer ms p =
     (or (meets_earlier (last_placements ms) p) refusal.BitsMeet _
     (or (leb signal_limit (length (all_placements ms))) refusal.Full 0 taken)))))
 
-pub route_answer : (rs : List Route) (g x i y j : ℕ) → Answers (route_refusal rs g x i y j)
+pub route_answer : (rs : List Route) (x i y j : ℕ) → Answers (route_refusal rs x i y j)
 unfolding route_refusal
-route_answer rs g x i y j =
-    or (leb gateway_limit g || ((leb bus_limit x || leb identifier_limit i) || (leb bus_limit y || leb identifier_limit j))) refusal.OverLimit _
+route_answer rs x i y j =
+    or ((leb bus_limit x || leb identifier_limit i) || (leb bus_limit y || leb identifier_limit j)) refusal.OverLimit _
     (or (leb route_limit (length rs)) refusal.Full 0 taken)
 
 pub judged_there : (refusal : ℕ) (old new : Book) (a : Answers refusal) → LineJudged refusal old new a.answer (words_of (unless refusal old new))

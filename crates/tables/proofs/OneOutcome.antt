@@ -55,9 +55,9 @@ module _ {M : Type 1} {𝓤 : Ura M} (𝓛 : Logic 𝓤) (mem : Memory → SProp
       → Only 𝓤 (λ (x : Added × List ℕ). (add-message.clauses 𝓛 mem run κs (book, (identifier, tt))).ensures tt x.0 (at_last book x.1, (identifier, tt)))
   one_add_message identifier h = one_judged 𝓤 _ book.now h (λ b. message_refusal b.messages identifier) (λ b. with_message b identifier) (λ b. message_answer b.messages identifier) (λ x. refl)
 
-  pub one_add_route : (g a i c j : ℕ) → OfBook book.now
-      → Only 𝓤 (λ (x : Added × List ℕ). (add-route.clauses 𝓛 mem run κs (book, (g, (a, (i, (c, (j, tt))))))).ensures tt x.0 (at_last book x.1, (g, (a, (i, (c, (j, tt)))))))
-  one_add_route g a i c j h = one_judged 𝓤 _ book.now h (λ b. route_refusal b.routes g a i c j) (λ b. with_route b (route g a i c j)) (λ b. route_answer b.routes g a i c j) (λ x. refl)
+  pub one_add_route : (a i c j : ℕ) → OfBook book.now
+      → Only 𝓤 (λ (x : Added × List ℕ). (add-route.clauses 𝓛 mem run κs (book, (a, (i, (c, (j, tt)))))).ensures tt x.0 (at_last book x.1, (a, (i, (c, (j, tt))))))
+  one_add_route a i c j h = one_judged 𝓤 _ book.now h (λ b. route_refusal b.routes a i c j) (λ b. with_route b (route a i c j)) (λ b. route_answer b.routes a i c j) (λ x. refl)
 
 module _ {M : Type 1} {𝓤 : Ura M} (𝓛 : Logic 𝓤) (mem : Memory → SProp 𝓤) (run : Routine → Fun 𝓤) (κs : Lfts 4) (book above bounds widths : MutBor (List ℕ)) where
   pub one_add_signal : (filled : Filled) (number start : ℕ) → OfBookFilled book.now filled

@@ -7,7 +7,7 @@ use lib.Dec.{leb}
 use lib.ListN.{length, take}
 use borrow.Author.Tests.{ne_eqb, le-leb, lt-leb, leb-false}
 use Rattle.books.specs.Book.{Placement, Message, Book, identifiers, all_placements, last_placements}
-use Rattle.books.specs.Lines.{is_in, unknown_or_over, message_refusal, after_refusal, signal_refusal, route_refusal, identifier_limit, message_limit, gateway_limit, bus_limit, route_limit}
+use Rattle.books.specs.Lines.{is_in, unknown_or_over, message_refusal, after_refusal, signal_refusal, route_refusal, identifier_limit, message_limit, bus_limit, route_limit}
 use Rattle.books.specs.Words.{words_of}
 use Rattle.books.proofs.Tests.{both_false}
 use Rattle.record.specs.Columns.{message_count_of, route_count_of, ids_of}
@@ -56,27 +56,23 @@ module _ (w : List ℕ) (b : Book) (h : Holds w b) (i count : ℕ) (e : count �
 pub inside : (x i : ℕ) → leb bus_limit x || leb identifier_limit i ≡ false → (x < bus_limit) × (i < identifier_limit)
 inside x i e = let f = both_false (leb bus_limit x) (leb identifier_limit i) e in (leb-false _ _ f.0, leb-false _ _ f.1)
 
-module _ (w : List ℕ) (b : Book) (h : Holds w b) (g x i y j count : ℕ) (e : count ≡ route_count_of w) where
-  pub gateway_over : gateway_limit ≤ g → route_refusal b.routes g x i y j ≡ 3
+module _ (w : List ℕ) (b : Book) (h : Holds w b) (x i y j count : ℕ) (e : count ≡ route_count_of w) where
+  pub from_over : leb bus_limit x || leb identifier_limit i ≡ true → route_refusal b.routes x i y j ≡ 3
   unfolding route_refusal
-  gateway_over f = rw (le-leb _ _ f)
+  from_over f = rw f
 
-  pub from_over : leb bus_limit x || leb identifier_limit i ≡ true → route_refusal b.routes g x i y j ≡ 3
+  pub to_over : leb bus_limit y || leb identifier_limit j ≡ true → route_refusal b.routes x i y j ≡ 3
   unfolding route_refusal
-  from_over f = rw (f, or-true (leb gateway_limit g))
+  to_over f = rw (f, or-true (leb bus_limit x || leb identifier_limit i))
 
-  pub to_over : leb bus_limit y || leb identifier_limit j ≡ true → route_refusal b.routes g x i y j ≡ 3
-  unfolding route_refusal
-  to_over f = rw (f, or-true (leb bus_limit x || leb identifier_limit i), or-true (leb gateway_limit g))
-
-  module _ (k : g < gateway_limit) (f : leb bus_limit x || leb identifier_limit i ≡ false) (t : leb bus_limit y || leb identifier_limit j ≡ false) where
-    pub route_full : route_limit ≤ count → route_refusal b.routes g x i y j ≡ 9
+  module _ (f : leb bus_limit x || leb identifier_limit i ≡ false) (g : leb bus_limit y || leb identifier_limit j ≡ false) where
+    pub route_full : route_limit ≤ count → route_refusal b.routes x i y j ≡ 9
     unfolding route_refusal
-    route_full l = rw (lt-leb _ _ k, f, t, sym (e ∙ routes_held w b h), le-leb _ _ l)
+    route_full l = rw (f, g, sym (e ∙ routes_held w b h), le-leb _ _ l)
 
-    pub route_free : count < route_limit → route_refusal b.routes g x i y j ≡ 0
+    pub route_free : count < route_limit → route_refusal b.routes x i y j ≡ 0
     unfolding route_refusal
-    route_free l = rw (lt-leb _ _ k, f, t, sym (e ∙ routes_held w b h), lt-leb _ _ l)
+    route_free l = rw (f, g, sym (e ∙ routes_held w b h), lt-leb _ _ l)
 
 -- ---- an `S` line
 module _ (ms : List Message) (p : Placement) where

@@ -1,21 +1,18 @@
 -- The words of a line stored in the words of a book make the words of the book with the line. Assumes nothing.
 use mathlib.Core.Path.{◌≡◌, sym, ap, ◌∙◌, subst}
 use mathlib.Core.List.{List, [], ◌∷◌, ◌++◌, map}
-use Prim.Native.Nat.{ℕ, ◌+◌, ◌*◌, ◌-◌, ◌<◌}
+use Prim.Native.Nat.{ℕ, ◌+◌, ◌-◌, ◌<◌}
 use native.Mathlib.Nat.{zero-add}
 use native.Mathlib.Omega.{arith}
 use lib.ListN.{length, set, length-append, length-map, length-set}
-use Rattle.record.specs.Columns.{froms_at, tos_at, gateways_at}
 use Rattle.books.specs.Book.{Placement, Message, Route, Book, identifiers, numbers, all_placements, fresh, with_placement, in_last, with_message, with_route}
 use Rattle.books.specs.Lines.{message_limit, signal_limit, route_limit}
-use Rattle.books.specs.Words.{column, placement_starts, ends_after, id_column, end_column, number_column, start_column, from_column, to_column, gateway_column, columns_joined, route_column_list, route_columns, words_of}
+use Rattle.books.specs.Words.{column, placement_starts, ends_after, id_column, end_column, number_column, start_column, from_column, to_column, words_of}
 use Rattle.books.proofs.Ends.{map-append, in_last_law, last}
-use Rattle.books.proofs.JoinedColumns.{joined_set, long_set}
-use Rattle.books.proofs.RouteColumns.{all_long}
-use Rattle.books.proofs.Columns.{length_ends, ids_long, ends_long, numbers_long, starts_long}
+use Rattle.books.proofs.Columns.{length_column, length_ends, ids_long, ends_long, numbers_long, starts_long}
 use Rattle.tables.specs.Adding.{Within}
 use Rattle.tables.specs.Storing.{message_stored, signal_stored, route_stored}
-use Rattle.tables.proofs.Flat.{words_flat, column_more, column_last, set_messages, set_signals, set_routes, set_ids, set_ends, set_numbers, set_starts, set_routed}
+use Rattle.tables.proofs.Flat.{words_flat, column_more, column_last, set_messages, set_signals, set_routes, set_ids, set_ends, set_numbers, set_starts, set_froms, set_tos}
 use Rattle.tables.proofs.Longer.{ends_last, placements_stay, ends_more, identifiers_stay, placements_more}
 
 -- a column of what f reads off each of a list, with one more
@@ -46,12 +43,13 @@ module _ (b : Book) (i : ℕ) (h : Within b) (room : length b.messages < message
       let ends = end_column b.messages in
       let numbers' = number_column b.messages in
       let starts' = start_column b.messages in
-      let routed = route_columns b.routes in
+      let froms = from_column b.routes in
+      let tos = to_column b.routes in
       let li = ids_long b.messages h.messages h.signals in
       let le = ends_long b.messages h.messages h.signals in
-      let one = set_ids n s r ids ends numbers' starts' routed n i (omega arith) in
-      let two = set_ends n s r (set ids n i) ends numbers' starts' routed n s (length-set ids n i ∙ li) (omega arith) in
-      let three = set_messages n s r (set ids n i) (set ends n s) numbers' starts' routed (n + 1) in
+      let one = set_ids n s r ids ends numbers' starts' froms tos n i (omega arith) in
+      let two = set_ends n s r (set ids n i) ends numbers' starts' froms tos n s (length-set ids n i ∙ li) (omega arith) in
+      let three = set_messages n s r (set ids n i) (set ends n s) numbers' starts' froms tos (n + 1) in
       let c : set ids n i ≡ id_column (b.messages ++ (fresh i ∷ [])) = column_map message_limit (λ (m : Message). m.identifier) b.messages (fresh i) room in
       let d : set ends n s ≡ end_column (b.messages ++ (fresh i ∷ [])) = ends_one_more in
       let p : all_placements (b.messages ++ (fresh i ∷ [])) ≡ all_placements b.messages = placements_stay b.messages i in
@@ -87,17 +85,18 @@ module _ (before : List Message) (m : Message) (rs : List Route) (p : Placement)
       let ends = end_column ms in
       let nums = number_column ms in
       let sts = start_column ms in
-      let routed = route_columns rs in
+      let froms = from_column rs in
+      let tos = to_column rs in
       let li = ids_long ms h.messages h.signals in
       let le = ends_long ms h.messages h.signals in
       let ln = numbers_long ms h.messages h.signals in
       let ls = starts_long ms h.messages h.signals in
       let nums' = set nums s p.number in
       let sts' = set sts s p.start in
-      let one = set_numbers n s r ids ends nums sts routed s p.number li le (omega arith) in
-      let two = set_starts n s r ids ends nums' sts routed s p.start li le (length-set nums s p.number ∙ ln) (omega arith) in
-      let three = set_ends n s r ids ends nums' sts' routed (n - 1) (s + 1) li (omega (arith, length_more before m)) in
-      let four = set_signals n s r ids (set ends (n - 1) (s + 1)) nums' sts' routed (s + 1) in
+      let one = set_numbers n s r ids ends nums sts froms tos s p.number li le (omega arith) in
+      let two = set_starts n s r ids ends nums' sts froms tos s p.start li le (length-set nums s p.number ∙ ln) (omega arith) in
+      let three = set_ends n s r ids ends nums' sts' froms tos (n - 1) (s + 1) li (omega (arith, length_more before m)) in
+      let four = set_signals n s r ids (set ends (n - 1) (s + 1)) nums' sts' froms tos (s + 1) in
       let c : nums' ≡ column signal_limit (numbers (all_placements ms ++ (p ∷ []))) = column_map signal_limit (λ (q : Placement). q.number) (all_placements ms) p room in
       let d : sts' ≡ column signal_limit (placement_starts (all_placements ms ++ (p ∷ []))) = column_map signal_limit (λ (q : Placement). q.start) (all_placements ms) p room in
       let e : all_placements ns ≡ all_placements ms ++ (p ∷ []) = placements_more before m p in
@@ -128,61 +127,29 @@ signal_stored_law (x ∷ xs) rs p h some room =
 -- ---- a route
 
 module _ (b : Book) (x : Route) (h : Within b) (room : length b.routes < route_limit) where
-  abbrev rs : List Route
-  rs = b.routes
-
-  abbrev r : ℕ
-  r = length rs
-
-  abbrev cs : List (List ℕ)
-  cs = route_column_list rs
-
-  -- a column of the routes, with the entry of one route more
-  entered : (f : Route → ℕ) → set (column route_limit (map f rs)) r (f x) ≡ column route_limit (map f (rs ++ (x ∷ [])))
-  entered f = column_map route_limit f rs x room
-
-  -- the columns one after the other: each store is in a column of its own
-  columns_stored : set (set (set (route_columns rs) r x.from) (route_limit + r) x.to) (route_limit + (route_limit + r)) x.gateway
-      ≡ route_columns (rs ++ (x ∷ []))
-  unfolding route_columns
-  columns_stored =
-      let long = all_long rs h.routes in
-      let long1 = long_set long 0 r x.from in
-      let long2 = long_set long1 1 r x.to in
-      let f = entered (λ (y : Route). y.from) in
-      let t = entered (λ (y : Route). y.to) in
-      let g = entered (λ (y : Route). y.gateway) in
-      let first : r ≡ 0 * route_limit + r = omega arith in
-      let third : route_limit + (route_limit + r) ≡ 2 * route_limit + r = omega arith in
-      ap (λ (n : ℕ). set (set (set (columns_joined cs) n x.from) (route_limit + r) x.to) (route_limit + (route_limit + r)) x.gateway) first ∙
-      ap (λ (l : List ℕ). set (set l (route_limit + r) x.to) (route_limit + (route_limit + r)) x.gateway) (joined_set long 0 r x.from (omega arith) room) ∙
-      ap (λ (l : List ℕ). set l (route_limit + (route_limit + r)) x.gateway) (joined_set long1 1 r x.to (omega arith) room) ∙
-      ap (λ (n : ℕ). set (columns_joined (set (from_column rs) r x.from ∷ set (to_column rs) r x.to ∷ gateway_column rs ∷ [])) n x.gateway) third ∙
-      joined_set long2 2 r x.gateway (omega arith) room ∙
-      (λ i. columns_joined (f i ∷ t i ∷ g i ∷ []))
-
-  pub route_stored_law : route_stored (words_of b) r x.gateway x.from x.to ≡ words_of (with_route b x)
+  pub route_stored_law : route_stored (words_of b) (length b.routes) x.from x.to ≡ words_of (with_route b x)
   route_stored_law =
       let n = length b.messages in
       let s = length (all_placements b.messages) in
+      let rs = b.routes in
+      let r = length b.routes in
       let ids = id_column b.messages in
       let ends = end_column b.messages in
       let nums = number_column b.messages in
       let sts = start_column b.messages in
+      let froms = from_column b.routes in
+      let tos = to_column b.routes in
       let li = ids_long b.messages h.messages h.signals in
       let le = ends_long b.messages h.messages h.signals in
       let ln = numbers_long b.messages h.messages h.signals in
       let ls = starts_long b.messages h.messages h.signals in
-      let routed = route_columns rs in
-      let routed1 = set routed r x.from in
-      let routed2 = set routed1 (route_limit + r) x.to in
-      let routed3 = set routed2 (route_limit + (route_limit + r)) x.gateway in
-      let one = set_routed n s r ids ends nums sts routed r x.from li le ln ls in
-      let two = set_routed n s r ids ends nums sts routed1 (route_limit + r) x.to li le ln ls in
-      let three = set_routed n s r ids ends nums sts routed2 (route_limit + (route_limit + r)) x.gateway li le ln ls in
-      let four = set_routes n s r ids ends nums sts routed3 (r + 1) in
-      let at2 : tos_at + r ≡ froms_at + (route_limit + r) = omega arith in
-      let at3 : gateways_at + r ≡ froms_at + (route_limit + (route_limit + r)) = omega arith in
-      let c = columns_stored in
+      let lf : length froms ≡ route_limit = length_column route_limit (map (λ (y : Route). y.from) rs) (omega (arith, length-map rs (λ (y : Route). y.from))) in
+      let froms' = set froms r x.from in
+      let tos' = set tos r x.to in
+      let one = set_froms n s r ids ends nums sts froms tos r x.from li le ln ls (omega arith) in
+      let two = set_tos n s r ids ends nums sts froms' tos r x.to li le ln ls (length-set froms r x.from ∙ lf) in
+      let three = set_routes n s r ids ends nums sts froms' tos' (r + 1) in
+      let c : froms' ≡ from_column (rs ++ (x ∷ [])) = column_map route_limit (λ (y : Route). y.from) rs x room in
+      let d : tos' ≡ to_column (rs ++ (x ∷ [])) = column_map route_limit (λ (y : Route). y.to) rs x room in
       let k : length (rs ++ (x ∷ [])) ≡ r + 1 = length_more rs x in
       cc (words_flat b, words_flat (with_route b x))

@@ -53,8 +53,8 @@ pub record LineJudged (refusal : ℕ) (old new : Book) (r : Added) (w : List ℕ
 abbrev pub MessageAdded : List ℕ → ℕ → Added → List ℕ → Type 0
 MessageAdded words i r left = (b : Book) → Holds words b → LineJudged (message_refusal b.messages i) b (with_message b i) r left
 
-abbrev pub RouteAdded : List ℕ → ℕ → ℕ → ℕ → ℕ → ℕ → Added → List ℕ → Type 0
-RouteAdded words g a i c j r left = (b : Book) → Holds words b → LineJudged (route_refusal b.routes g a i c j) b (with_route b (route g a i c j)) r left
+abbrev pub RouteAdded : List ℕ → ℕ → ℕ → ℕ → ℕ → Added → List ℕ → Type 0
+RouteAdded words a i c j r left = (b : Book) → Holds words b → LineJudged (route_refusal b.routes a i c j) b (with_route b (route a i c j)) r left
 
 -- so with an `S` line, and it is told what the signals of the last message fill then
 pub record SignalJudged (b : Book) (p : Placement) (r : AddedSignal) (w : List ℕ) : Type 0 where

@@ -8,7 +8,7 @@ use crate::storing::{put_message, put_route, put_signal};
 use crate::{Added, AddedSignal};
 use answers::Refusal;
 use placing::{Filled, filled_with};
-use record::{BOOK_WORDS, GATEWAY_LIMIT, IDENTIFIER_LIMIT, MESSAGES, ROUTES, wide};
+use record::{BOOK_WORDS, IDENTIFIER_LIMIT, MESSAGES, ROUTES, wide};
 
 // An `M` line.
 pub fn add_message(book: &mut [u32; BOOK_WORDS], identifier: u32) -> Added
@@ -58,21 +58,17 @@ pub fn add_signal(
     AddedSignal { added, filled }
 }
 
-// An `R` line: the gateway that carries it, from place, to place.
+// An `R` line: from place, to place.
 pub fn add_route(
     book: &mut [u32; BOOK_WORDS],
-    gateway: u32,
     from_bus: u32,
     from_identifier: u32,
     to_bus: u32,
     to_identifier: u32,
 ) -> Added
     requires { OfBook book.old }
-    ensures { RouteAdded book.old gateway from_bus from_identifier to_bus to_identifier result book.new }
+    ensures { RouteAdded book.old from_bus from_identifier to_bus to_identifier result book.new }
 {
-    if gateway >= GATEWAY_LIMIT {
-        return Added::Refused(Refusal::OverLimit);
-    }
     if over_limit(from_bus, from_identifier) {
         return Added::Refused(Refusal::OverLimit);
     }
@@ -85,6 +81,6 @@ pub fn add_route(
     }
     let from = record::place(from_bus, from_identifier);
     let to = record::place(to_bus, to_identifier);
-    put_route(book, count, gateway, from, to);
+    put_route(book, count, from, to);
     Added::Taken
 }

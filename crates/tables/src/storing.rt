@@ -4,8 +4,8 @@ ghost use Rattle.books.specs.Lines.{message_limit, signal_limit, route_limit};
 ghost use Rattle.tables.specs.Storing.{message_stored, signal_stored, route_stored};
 
 use record::{
-    BOOK_WORDS, ENDS, FROMS, GATEWAYS, IDS, MESSAGE_COUNT, NUMBERS, ROUTE_COUNT, SIGNAL_COUNT,
-    STARTS, TOS, wide,
+    BOOK_WORDS, ENDS, FROMS, IDS, MESSAGE_COUNT, NUMBERS, ROUTE_COUNT, SIGNAL_COUNT, STARTS, TOS,
+    wide,
 };
 
 // A message after `count` others. It has no signals yet, so it ends where they end.
@@ -39,13 +39,12 @@ pub fn put_signal(
 }
 
 // A route after `count` others.
-pub fn put_route(book: &mut [u32; BOOK_WORDS], count: u32, gateway: u32, from: u32, to: u32)
+pub fn put_route(book: &mut [u32; BOOK_WORDS], count: u32, from: u32, to: u32)
     requires { count < route_limit }
-    ensures { book.new ≡ route_stored book.old count gateway from to }
+    ensures { book.new ≡ route_stored book.old count from to }
 {
     let at = wide(count);
     book[FROMS + at] = from;
     book[TOS + at] = to;
-    book[GATEWAYS + at] = gateway;
     book[ROUTE_COUNT] = count + 1;
 }

@@ -16,7 +16,7 @@ use Rattle.line.specs.Meaning.{meaning_of}
 use Rattle.line.specs.LineAt.{line_at, PassesLine}
 use Rattle.line.proofs.Firsts.{passes_line}
 use Rattle.books.specs.Book.{Book, no_book, last_placements, all_placements}
-use Rattle.books.specs.Words.{column, ends_after, message_columns, columns_joined, route_columns, words_of}
+use Rattle.books.specs.Words.{column, ends_after, message_columns, route_columns, words_of}
 use Rattle.reading.specs.Reading.{Outcome, refused, onward, refusal_of, with_line, numbered_with, read_from, meanings, lines_read}
 use Rattle.placing.specs.declared.Filled.{Filled}
 use Rattle.placing.proofs.Filling.{fills_none}
@@ -52,7 +52,7 @@ pub record Going (text : List ℕ) (at n : ℕ) (filled : Filled) (w : List ℕ)
 
 -- the empty book has the words of a book without lines
 pub empty_words : empty_book ≡ words_of no_book
-unfolding empty_book words_of message_columns route_columns columns_joined column all_placements ends_after
+unfolding empty_book words_of message_columns route_columns column all_placements ends_after
 empty_words = refl
 
 pub start : (text w : List ℕ) → Empty w → (f : Filled) → (f.bits ≡ 0) × (f.marks ≡ 0) → Going text 0 1 f w

@@ -17,14 +17,14 @@ use Rattle.taking.proofs.Going.{read, says, no_more}
 
 on_route : (n : ℕ) (l : Line) (ls : List Line) → is_route_spec l ≡ true → r_lines_from n (l ∷ ls) ≡ n ∷ r_lines_from (suc n) ls
 unfolding r_lines_from
-on_route n (line.Route g a i b j) ls e = refl
+on_route n (line.Route a i b j) ls e = refl
 on_route n (line.Message i) ls e = absurd (let z : ◌≡◌ {A = ℕ} 0 1 = cc in omega arith)
 on_route n (line.Signal m s) ls e = absurd (let z : ◌≡◌ {A = ℕ} 0 1 = cc in omega arith)
 on_route n line.IllFormed ls e = absurd (let z : ◌≡◌ {A = ℕ} 0 1 = cc in omega arith)
 
 off_route : (n : ℕ) (l : Line) (ls : List Line) → is_route_spec l ≡ false → r_lines_from n (l ∷ ls) ≡ r_lines_from (suc n) ls
 unfolding r_lines_from
-off_route n (line.Route g a i b j) ls e = absurd (let z : ◌≡◌ {A = ℕ} 0 1 = cc in omega arith)
+off_route n (line.Route a i b j) ls e = absurd (let z : ◌≡◌ {A = ℕ} 0 1 = cc in omega arith)
 off_route n (line.Message i) ls e = refl
 off_route n (line.Signal m s) ls e = refl
 off_route n line.IllFormed ls e = refl

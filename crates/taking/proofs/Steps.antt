@@ -48,10 +48,10 @@ module _ (b : Book) {l : Line} {r : Step} {a : Added} {w : List ℕ} {f : Filled
         fills = told _ r f s.1 (λ z. subst (Fills (last_placements (in_last b.messages (placement n t)))) (sym ef) (rw (sym answer ∙ z) at k.fills));
       })
 
-  pub took_route : (g x i y j : ℕ) → l ≡ line.Route g x i y j
-      → LineJudged (route_refusal b.routes g x i y j) b (with_route b (route g x i y j)) a w → Fills (last_placements b.messages) f → Took b l r w
+  pub took_route : (x i y j : ℕ) → l ≡ line.Route x i y j
+      → LineJudged (route_refusal b.routes x i y j) b (with_route b (route x i y j)) a w → Fills (last_placements b.messages) f → Took b l r w
   unfolding refusal_of with_line
-  took_route g x i y j e k h = rw e (record { answer = s.0 ∙ k.answer; words = k.words; fills = told _ r f s.1 (λ t. h) })
+  took_route x i y j e k h = rw e (record { answer = s.0 ∙ k.answer; words = k.words; fills = told _ r f s.1 (λ t. h) })
 
 pub took_none : (b : Book) {l : Line} {w : List ℕ} → l ≡ line.IllFormed → Holds w b → Took b l (step.Refused refusal.IllFormed) w
 unfolding refusal_of with_line unless
@@ -67,5 +67,5 @@ pub within_line : (b : Book) (l : Line) → Within b → refusal_of b l ≡ 0 �
 unfolding refusal_of with_line
 within_line b (line.Message i) h e = within_message b h i e
 within_line b (line.Signal n s) h e = within_signal b h (placement n s) e
-within_line b (line.Route g x i y j) h e = within_route b h g x i y j (route g x i y j) e
+within_line b (line.Route x i y j) h e = within_route b h x i y j (route x i y j) e
 within_line b line.IllFormed h e = h

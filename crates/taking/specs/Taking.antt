@@ -54,5 +54,5 @@ Came text (came.Refused why n) w = (lines_read text ≡ refused (number why) n) 
 abbrev pub is_route_spec : Line → Bool
 is_route_spec (line.Message i) = false
 is_route_spec (line.Signal n s) = false
-is_route_spec (line.Route g a i b j) = true
+is_route_spec (line.Route a i b j) = true
 is_route_spec line.IllFormed = false

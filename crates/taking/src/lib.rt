@@ -59,9 +59,9 @@ fn take_line(
             let added = placed.added;
             step_of(added, placed.filled)
         }
-        Line::Route(gateway, from_bus, from_id, to_bus, to_id) => {
+        Line::Route(from_bus, from_id, to_bus, to_id) => {
             step_of(
-                tables::add_route(book, gateway, from_bus, from_id, to_bus, to_id),
+                tables::add_route(book, from_bus, from_id, to_bus, to_id),
                 filled,
             )
         }
@@ -103,7 +103,7 @@ fn is_route(line: Line) -> bool
     match line {
         Line::Message(_) => false,
         Line::Signal(_, _) => false,
-        Line::Route(_, _, _, _, _) => true,
+        Line::Route(_, _, _, _) => true,
         Line::IllFormed => false,
     }
 }

@@ -18,6 +18,15 @@ or_zero_law (suc a) b =
     ne_eqb (bit_or (suc a) b) 0 (λ e. omega (arith, or_add_and (suc a) b, and_le_r (suc a) b))
     ∙ ap (λ (t : Bool). t && eqb b 0) (sym (ne_eqb (suc a) 0 (λ e. omega arith)))
 
+-- the loop: what is gathered, and what is left
+pub zeros_step : (l : List ℕ) (i a : ℕ) → i < length l → eqb (bit_or a (get_or l i 0)) 0 && zeros (drop (i + 1) l) ≡ eqb a 0 && zeros (drop i l)
+unfolding zeros
+zeros_step l i a h = rw (drop-cons l i 0 h, or_zero_law, add-one i) (and_assoc (eqb a 0) (eqb (get_or l i 0) 0) (zeros (drop (suc i) l)))
+
+pub zeros_end : (l : List ℕ) (i a : ℕ) → length l ≤ i → eqb a 0 && zeros (drop i l) ≡ eqb a 0
+unfolding zeros
+zeros_end l i a h = rw (drop_of_length-le l h) (and-true (eqb a 0))
+
 -- entries that are all 0 are 0, as often as there are entries
 pub zeros_are : (l : List ℕ) → zeros l ≡ true → l ≡ replicate (length l) 0
 unfolding zeros

@@ -1,7 +1,8 @@
+use Rattle.line.proofs.Rooms.{inside, signal_ill, start_ill, signal_few, signal_well}
 -- `line::signal` meets its contract: each number that is found is written there, and where one is not the line is ill formed. Assumes nothing.
 use mathlib.Core.Path.{◌∙◌}
 use native.Mathlib.Omega.{arith}
-use Rattle.line.proofs.Rooms.{number_inside, signal_ill, start_ill, signal_few, signal_well}
+use Rattle.numerals.specs.Numeral.{decimal}
 use borrow.Author.Rules.{rules}
 use Rattle.line.proofs.signal.Statement.{statement}
 use Rattle.line.proofs.signal.Tie as tie
@@ -31,7 +32,7 @@ returns : tie.Need-returns
 returns c = c.ill_formed.ensures ∙ signal_ill _ c.before.before.before.before.part-from.ensures c.before.before.before.before.before.before.requires c.before.before.before.decimal-before.ensures c.before.enum_told.given.1
 
 part-after-requires : tie.Need-part-after-requires
-part-after-requires c κs = number_inside _ c.before.before.before.decimal-before.ensures c.before.number.given.1
+part-after-requires c κs = inside decimal 9 _ c.before.before.before.decimal-before.ensures c.before.number.given.1
 
 decimal-before-requires-2 : tie.Need-decimal-before-requires-2
 decimal-before-requires-2 c κs = search rules

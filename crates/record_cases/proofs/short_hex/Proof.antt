@@ -10,6 +10,9 @@ slice-aggregate-identifier-or-0 c = search rules
 identifier-or-0-requires : tie.Need-identifier-or-0-requires
 identifier-or-0-requires c κs = search rules
 
+cast-result : tie.Need-overflow-cast-result
+cast-result c = search rules
+
 returns : tie.Need-returns
 unfolding identifier numeral_from digit_value
 returns c = c.identifier-or-0.ensures
@@ -17,4 +20,4 @@ returns c = c.identifier-or-0.ensures
 pub short-hex-spec : {M : Type 1} → statement M
 short-hex-spec =
     tie.close
-    (tie.spec slice-aggregate-identifier-or-0 identifier-or-0-requires returns)
+    (tie.spec slice-aggregate-identifier-or-0 identifier-or-0-requires cast-result returns)

@@ -17,24 +17,14 @@ returns : tie.Need-returns
 returns c = not_a_book (told_no c.before.routes-taken.result c.before.routes-taken.ensures (not-true c.before.routes-taken.result c.if1.true))
 
 spread-tested-requires : tie.Need-spread-tested-requires
-spread-tested-requires c κs = told_yes c.before.before.before.routes-taken.result c.before.before.before.routes-taken.ensures (not-false c.before.before.before.routes-taken.result c.before.before.if1.false)
+spread-tested-requires c κs = told_yes c.before.before.routes-taken.result c.before.before.routes-taken.ensures (not-false c.before.before.routes-taken.result c.before.if1.false)
 
 same_length : tie.Need-same-length
 same_length c = search rules
 
-same-length-2 : tie.Need-same-length-2
-same-length-2 c = search rules
-
 returns-2 : tie.Need-returns-2
-returns-2 c = by_routes (told_yes c.before.before.before.before.before.before.before.before.routes-taken.result c.before.before.before.before.before.before.before.before.routes-taken.ensures (not-false c.before.before.before.before.before.before.before.before.routes-taken.result c.before.before.before.before.before.before.before.if1.false)) c.before.before.before.before.spread-tested.ensures
+returns-2 c = by_routes (told_yes c.before.before.before.before.before.routes-taken.result c.before.before.before.before.before.routes-taken.ensures (not-false c.before.before.before.before.before.routes-taken.result c.before.before.before.before.if1.false)) c.before.before.spread-tested.ensures
 
 pub spread-spec : {M : Type 1} → statement M
 spread-spec =
-    tie.close
-    (tie.spec
-    routes-taken-requires
-    returns
-    spread-tested-requires
-    same_length
-    same-length-2
-    returns-2)
+    tie.close (tie.spec routes-taken-requires returns spread-tested-requires same_length returns-2)

@@ -1,8 +1,8 @@
--- `routes::spread_tested` meets its contract: each test that led to a refusal is that refusal's own, in the order of their numbers, and what is told is the
+-- `routes::spread_tested` meets its contract: each test that led to a refusal is that refusal's own, in the order of their numbers, and what is copied is the
 -- spread. Assumes nothing.
 use native.Mathlib.Omega.{arith}
 use Rattle.routes.specs.Answers.{no_place}
-use Rattle.routes.proofs.Gathering.{ready, tellable, too_small, written}
+use Rattle.routes.proofs.Gathering.{ready, enough, too_small, written}
 use borrow.Author.Rules.{rules}
 use Rattle.routes.proofs.spread_tested.Statement.{statement}
 use Rattle.routes.proofs.spread_tested.Tie as tie
@@ -10,7 +10,7 @@ use Rattle.routes.proofs.spread_tested.Reads as reads
 use Rattle.routes.proofs.spread_tested.Lts as lts
 use Rattle.record.proofs.place.Reads as place-reads
 use Rattle.record.proofs.wide.Reads as wide-reads
-use Rattle.routes.proofs.tell.Reads as tell-reads
+use Rattle.routes.proofs.copy.Reads as copy-reads
 use Rattle.sending.proofs.send.Reads as send-reads
 
 returns : tie.Need-returns
@@ -23,28 +23,22 @@ place-requires : tie.Need-place-requires
 place-requires c κs = search rules
 
 send-requires : tie.Need-send-requires
-send-requires c κs = ready _ c.before.before.before.before.before.before.requires _
+send-requires c κs = ready _ c.before.before.before.before.before.requires _
 
 wide-requires : tie.Need-wide-requires
 wide-requires c κs = search rules
 
 returns-3 : tie.Need-returns-3
-returns-3 c = too_small _ c.before.before.before.before.before.before.before.before.before.requires _ _ _ c.before.before.before.before.place.ensures _ _ c.before.before.send.ensures _ (record { on_bus = omega (arith, c.before.before.before.before.before.before.if1.false); identified = omega (arith, c.before.before.before.before.before.if2.false) }) (omega (arith, c.if3.true, c.before.wide.ensures))
+returns-3 c = too_small _ c.before.before.before.before.before.before.before.before.requires _ _ _ c.before.before.before.before.place.ensures _ _ c.before.before.send.ensures (record { on_bus = omega (arith, c.before.before.before.before.before.before.if1.false); identified = omega (arith, c.before.before.before.before.before.if2.false) }) _ (omega (arith, c.if3.true, c.before.wide.ensures))
 
-returns-4 : tie.Need-returns-4
-returns-4 c = too_small _ c.before.before.before.before.before.before.before.before.before.before.requires _ _ _ c.before.before.before.before.before.place.ensures _ _ c.before.before.before.send.ensures _ (record { on_bus = omega (arith, c.before.before.before.before.before.before.before.if1.false); identified = omega (arith, c.before.before.before.before.before.before.if2.false) }) (omega (arith, c.if4.true, c.before.before.wide.ensures))
-
-tell-requires : tie.Need-tell-requires
-tell-requires c κs = tellable _ c.before.before.before.before.before.before.before.before.before.before.before.before.before.requires _ _ _ c.before.before.before.before.before.before.before.before.place.ensures _ _ c.before.before.before.before.before.before.send.ensures _ _ (omega (arith, c.before.before.before.before.before.wide.ensures)) (omega (arith, c.before.before.before.before.if3.false)) (omega (arith, c.before.before.before.if4.false))
+copy-requires : tie.Need-copy-requires
+copy-requires c κs = (omega (arith, enough _ c.before.before.before.before.before.before.before.before.before.before.requires _ _ _ c.before.before.before.before.before.before.place.ensures _ _ c.before.before.before.before.send.ensures, c.before.before.before.wide.ensures), omega (arith, c.before.before.if3.false))
 
 same_length : tie.Need-same-length
 same_length c = search rules
 
-same-length-2 : tie.Need-same-length-2
-same-length-2 c = search rules
-
-returns-5 : tie.Need-returns-5
-returns-5 c = written _ c.before.before.before.before.before.before.before.before.before.before.before.before.before.before.before.before.before.before.requires _ _ _ c.before.before.before.before.before.before.before.before.before.before.before.before.before.place.ensures _ _ c.before.before.before.before.before.before.before.before.before.before.before.send.ensures _ (record { on_bus = omega (arith, c.before.before.before.before.before.before.before.before.before.before.before.before.before.before.before.if1.false); identified = omega (arith, c.before.before.before.before.before.before.before.before.before.before.before.before.before.before.if2.false) }) c.before.before.before.before.before.before.before.before.before.before.wide.result _ c.before.before.before.before.tell.ensures c.before.before.before.before.before.before.before.before.before.before.wide.ensures (omega (arith, c.before.before.before.before.before.before.before.before.before.if3.false, c.before.before.before.before.before.before.before.before.if4.false))
+returns-4 : tie.Need-returns-4
+returns-4 c = written _ c.before.before.before.before.before.before.before.before.before.before.before.before.before.requires _ _ _ c.before.before.before.before.before.before.before.before.before.place.ensures _ _ c.before.before.before.before.before.before.before.send.ensures (record { on_bus = omega (arith, c.before.before.before.before.before.before.before.before.before.before.before.if1.false); identified = omega (arith, c.before.before.before.before.before.before.before.before.before.before.if2.false) }) _ (omega (arith, c.before.before.before.before.before.if3.false, c.before.before.before.before.before.before.wide.ensures)) _ (rw c.before.before.before.before.before.before.wide.ensures at c.before.before.copy.ensures)
 
 pub spread-tested-spec : {M : Type 1} → statement M
 spread-tested-spec =
@@ -56,8 +50,6 @@ spread-tested-spec =
     send-requires
     wide-requires
     returns-3
-    returns-4
-    tell-requires
+    copy-requires
     same_length
-    same-length-2
-    returns-5)
+    returns-4)

@@ -2,12 +2,12 @@
 use borrow.Author.Rules.{rules}
 use mathlib.Core.Path.{◌≡◌}
 use Prim.Native.Nat.{◌-◌, ◌≤◌}
-use lib.ListN.{length, length-set}
+use lib.ListN.{length}
 use Rattle.routes_vectors.proofs.book_on.Statement.{statement}
 use Rattle.routes_vectors.proofs.book_on.Tie as tie
 
 abbrev invariant-loop : tie.invariant-loop
-invariant-loop n line book₀ i₀ book i = (i ≤ n) × (n ≤ 64) × (length book ≡ 835)
+invariant-loop n line book₀ i₀ book i = (i ≤ n) × (n ≤ 64) × (length book ≡ 771)
 
 abbrev decreases-loop : tie.decreases-loop
 decreases-loop n line book₀ i₀ book i = n - i
@@ -24,38 +24,14 @@ array-write-book c = search rules
 loop-holds : tie.Need-loop-init invariant-loop decreases-loop
 loop-holds c = search rules
 
-mul_at : tie.Need-overflow-mul-at invariant-loop decreases-loop
-mul_at c = search rules
-
-add-from : tie.Need-overflow-add-from invariant-loop decreases-loop
-add-from c = search rules
+mul-from : tie.Need-overflow-mul-from invariant-loop decreases-loop
+mul-from c = search rules
 
 add-to : tie.Need-overflow-add-to invariant-loop decreases-loop
 add-to c = search rules
 
 add-end : tie.Need-overflow-add-end invariant-loop decreases-loop
 add-end c = search rules
-
-array-read-short-hex : tie.Need-array-read-short-hex invariant-loop decreases-loop
-array-read-short-hex c = search rules
-
-add-short-hex : tie.Need-overflow-add-short-hex invariant-loop decreases-loop
-add-short-hex c = search rules
-
-array-read-short-hex-2 : tie.Need-array-read-short-hex-2 invariant-loop decreases-loop
-array-read-short-hex-2 c = search rules
-
-short-hex-requires : tie.Need-short-hex-requires invariant-loop decreases-loop
-short-hex-requires c κs = search rules
-
-add-book : tie.Need-overflow-add-book invariant-loop decreases-loop
-add-book c = search rules
-
-mul-book : tie.Need-overflow-mul-book invariant-loop decreases-loop
-mul-book c = search rules
-
-array-write-book-2 : tie.Need-array-write-book-2 invariant-loop decreases-loop
-array-write-book-2 c = search rules
 
 sub-identifier-or-0 : tie.Need-overflow-sub-identifier-or-0 invariant-loop decreases-loop
 sub-identifier-or-0 c = search rules
@@ -69,14 +45,14 @@ part-identifier-or-0-end c = search rules
 identifier-or-0-requires : tie.Need-identifier-or-0-requires invariant-loop decreases-loop
 identifier-or-0-requires c κs = search rules
 
-add-book-2 : tie.Need-overflow-add-book-2 invariant-loop decreases-loop
-add-book-2 c = search rules
+add-book : tie.Need-overflow-add-book invariant-loop decreases-loop
+add-book c = search rules
 
-mul-book-2 : tie.Need-overflow-mul-book-2 invariant-loop decreases-loop
-mul-book-2 c = search rules
+mul-book : tie.Need-overflow-mul-book invariant-loop decreases-loop
+mul-book c = search rules
 
-array-write-book-3 : tie.Need-array-write-book-3 invariant-loop decreases-loop
-array-write-book-3 c = search rules
+array-write-book-2 : tie.Need-array-write-book-2 invariant-loop decreases-loop
+array-write-book-2 c = search rules
 
 sub-identifier-or-0-2 : tie.Need-overflow-sub-identifier-or-0-2 invariant-loop decreases-loop
 sub-identifier-or-0-2 c = search rules
@@ -90,14 +66,14 @@ part-identifier-or-0-end-2 c = search rules
 identifier-or-0-requires-2 : tie.Need-identifier-or-0-requires-2 invariant-loop decreases-loop
 identifier-or-0-requires-2 c κs = search rules
 
-add-book-3 : tie.Need-overflow-add-book-3 invariant-loop decreases-loop
-add-book-3 c = search rules
+add-book-2 : tie.Need-overflow-add-book-2 invariant-loop decreases-loop
+add-book-2 c = search rules
 
-mul-book-3 : tie.Need-overflow-mul-book-3 invariant-loop decreases-loop
-mul-book-3 c = search rules
+mul-book-2 : tie.Need-overflow-mul-book-2 invariant-loop decreases-loop
+mul-book-2 c = search rules
 
-array-write-book-4 : tie.Need-array-write-book-4 invariant-loop decreases-loop
-array-write-book-4 c = search rules
+array-write-book-3 : tie.Need-array-write-book-3 invariant-loop decreases-loop
+array-write-book-3 c = search rules
 
 add-i : tie.Need-overflow-add-i invariant-loop decreases-loop
 add-i c = search rules
@@ -106,8 +82,7 @@ loop-less : tie.Need-loop-smaller invariant-loop decreases-loop
 loop-less c = search rules
 
 loop-again : tie.Need-loop-preserved invariant-loop decreases-loop
-loop-again c =
-    let at-loop = c.before.before.before.before.before.before.before.before.loop in (search rules, search rules, simp (length-set, at-loop.invariant.2))
+loop-again c = search rules
 
 returns-2 : tie.Need-returns-2 invariant-loop decreases-loop
 returns-2 c = search rules
@@ -122,31 +97,23 @@ book-on-spec =
     cast-book
     array-write-book
     loop-holds
-    mul_at
-    add-from
+    mul-from
     add-to
     add-end
-    array-read-short-hex
-    add-short-hex
-    array-read-short-hex-2
-    short-hex-requires
-    add-book
-    mul-book
-    array-write-book-2
     sub-identifier-or-0
     part-identifier-or-0-start
     part-identifier-or-0-end
     identifier-or-0-requires
-    add-book-2
-    mul-book-2
-    array-write-book-3
+    add-book
+    mul-book
+    array-write-book-2
     sub-identifier-or-0-2
     part-identifier-or-0-start-2
     part-identifier-or-0-end-2
     identifier-or-0-requires-2
-    add-book-3
-    mul-book-3
-    array-write-book-4
+    add-book-2
+    mul-book-2
+    array-write-book-3
     add-i
     loop-less
     loop-again

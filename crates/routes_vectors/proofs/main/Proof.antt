@@ -7,7 +7,7 @@ use Rattle.routes_vectors.proofs.main.Statement.{statement}
 use Rattle.routes_vectors.proofs.main.Tie as tie
 
 abbrev invariant-loop : tie.invariant-loop
-invariant-loop head₀ line₀ lines₀ head line lines = ((length head ≡ 2) × (length line ≡ 1161)) × (lines ≤ 1000000)
+invariant-loop head₀ line₀ lines₀ head line lines = ((length head ≡ 2) × (length line ≡ 1033)) × (lines ≤ 1000000)
 
 abbrev decreases-loop : tie.decreases-loop
 decreases-loop head₀ line₀ lines₀ head line lines = 1000000 - lines
@@ -35,9 +35,6 @@ array-read-short-hex-2 c = search rules
 
 short-hex-requires : tie.Need-short-hex-requires invariant-loop decreases-loop
 short-hex-requires c κs = search rules
-
-cast-n : tie.Need-overflow-cast-n invariant-loop decreases-loop
-cast-n c = search rules
 
 returns-2 : tie.Need-returns-2 invariant-loop decreases-loop
 returns-2 c = search rules
@@ -86,7 +83,6 @@ main_spec =
     array-read-short-hex
     array-read-short-hex-2
     short-hex-requires
-    cast-n
     returns-2
     slice-aggregate-read-first
     mul-read-first

@@ -1,5 +1,5 @@
 -- `sending::send` and `sending::hand_on` meet their contracts. A place's routes are passed one by one, and what is left to write
--- completes the copies; a route writes its own number before it hands on. Both end, since the longest chain that remains falls: twice its
+-- completes the spread; a route writes its end before it hands on. Both end, since the longest chain that remains falls: twice its
 -- length for a place, and one more for the route that leads there. Assumes nothing.
 use borrow.Author.Rules.{rules}
 use mathlib.Core.Path.{sym, ◌∙◌, subst₂}

@@ -1,4 +1,4 @@
--- `sending::put` meets its contract: the entry at that number is the route, the others stay. Assumes nothing.
+-- `sending::put` meets its contract: the entry at that number is the place, the others stay. Assumes nothing.
 use mathlib.Core.Path.{refl}
 use borrow.Author.Rules.{rules}
 use Rattle.sending.proofs.put.Statement.{statement}

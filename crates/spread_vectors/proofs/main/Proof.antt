@@ -27,8 +27,8 @@ read-full-requires c κs = search rules
 returns : tie.Need-returns invariant-loop decreases-loop
 returns c = search rules
 
-array-read-match : tie.Need-array-read-match invariant-loop decreases-loop
-array-read-match c = search rules
+array-read-if2 : tie.Need-array-read-if2 invariant-loop decreases-loop
+array-read-if2 c = search rules
 
 set-entry-requires : tie.Need-set-entry-requires invariant-loop decreases-loop
 set-entry-requires c κs = search rules
@@ -39,23 +39,14 @@ loop-less c = search rules
 loop-again : tie.Need-loop-preserved invariant-loop decreases-loop
 loop-again c = search rules
 
-ask-spread-requires : tie.Need-ask-spread-requires invariant-loop decreases-loop
-ask-spread-requires c κs = search rules
+ask-requires : tie.Need-ask-requires invariant-loop decreases-loop
+ask-requires c κs = search rules
 
 loop-less-2 : tie.Need-loop-smaller-2 invariant-loop decreases-loop
 loop-less-2 c = search rules
 
 loop-again-2 : tie.Need-loop-preserved-2 invariant-loop decreases-loop
 loop-again-2 c = search rules
-
-ask-next-copies-requires : tie.Need-ask-next-copies-requires invariant-loop decreases-loop
-ask-next-copies-requires c κs = search rules
-
-loop-less-3 : tie.Need-loop-smaller-3 invariant-loop decreases-loop
-loop-less-3 c = search rules
-
-loop-again-3 : tie.Need-loop-preserved-3 invariant-loop decreases-loop
-loop-again-3 c = search rules
 
 returns-2 : tie.Need-returns-2 invariant-loop decreases-loop
 returns-2 c = search rules
@@ -71,14 +62,11 @@ main_spec =
     slice-aggregate-read-full
     read-full-requires
     returns
-    array-read-match
+    array-read-if2
     set-entry-requires
     loop-less
     loop-again
-    ask-spread-requires
+    ask-requires
     loop-less-2
     loop-again-2
-    ask-next-copies-requires
-    loop-less-3
-    loop-again-3
     returns-2)

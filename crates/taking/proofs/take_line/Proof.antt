@@ -45,7 +45,7 @@ returns-2 : tie.Need-returns-2
 returns-2 c = λ b k. took_signal b c.step-of2.ensures _ _ c.before.before.before.before.line2.given.1 c.before.add-signal.result refl refl (c.before.add-signal.ensures b k)
 
 returns-3 : tie.Need-returns-3
-returns-3 c = λ b k. took_route b c.step-of3.ensures _ _ _ _ _ c.before.before.before.before.line3.given.1 (c.before.add-route.ensures b k.holds) k.fills
+returns-3 c = λ b k. took_route b c.step-of3.ensures _ _ _ _ c.before.before.before.before.line3.given.1 (c.before.add-route.ensures b k.holds) k.fills
 
 returns-4 : tie.Need-returns-4
 returns-4 c = λ b k. took_none b c.enum_told.given.1 k.holds

@@ -12,7 +12,6 @@ use Rattle.book_writer.proofs.lengths.route_lines_length.Lts as lts
 use Rattle.book_writer.proofs.lengths.routes_length.Reads as routes-length-reads
 use Rattle.record.proofs.first.Reads as first_reads
 use Rattle.record.proofs.froms.Reads as froms-reads
-use Rattle.record.proofs.gateways.Reads as gateways-reads
 use Rattle.record.proofs.route_count.Reads as route-count-reads
 use Rattle.record.proofs.tos.Reads as tos-reads
 use Rattle.record.proofs.wide.Reads as wide-reads
@@ -35,21 +34,11 @@ tos-requires c κs = search rules
 first-requires-2 : tie.Need-first-requires-2
 first-requires-2 c κs = omega (arith, routes_counted _ c.before.before.before.before.before.requires, c.tos.ensures.1, c.before.before.before.wide.ensures, c.before.before.before.before.route-count.ensures)
 
-gateways-requires : tie.Need-gateways-requires
-gateways-requires c κs = search rules
-
-first-requires-3 : tie.Need-first-requires-3
-first-requires-3 c κs = omega (arith, routes_counted _ c.before.before.before.before.before.before.before.requires, c.gateways.ensures.1, c.before.before.before.before.before.wide.ensures, c.before.before.before.before.before.before.route-count.ensures)
-
 routes-length-requires : tie.Need-routes-length-requires
-routes-length-requires c κs = (
-  omega (arith, c.before.before.before.before.first.ensures.1, c.before.before.first2.ensures.1),
-  omega (arith, c.before.before.before.before.first.ensures.1, c.first3.ensures.1),
-  omega (arith, routes_counted _ c.before.before.before.before.before.before.before.before.requires, c.before.before.before.before.first.ensures.1, c.before.before.before.before.before.before.wide.ensures, c.before.before.before.before.before.before.before.route-count.ensures),
-)
+routes-length-requires c κs = (omega (arith, c.before.before.first.ensures.1, c.first2.ensures.1), omega (arith, routes_counted _ c.before.before.before.before.before.before.requires, c.before.before.first.ensures.1, c.before.before.before.before.wide.ensures, c.before.before.before.before.before.route-count.ensures))
 
 returns : tie.Need-returns
-returns c = c.routes-length.ensures ∙ ap (λ l. length (lines_text l)) (own_routes _ c.before.before.before.before.before.before.before.before.before.requires (c.before.before.before.before.before.before.before.wide.ensures ∙ c.before.before.before.before.before.before.before.before.route-count.ensures) c.before.before.before.before.before.before.froms.ensures.0 c.before.before.before.before.tos.ensures.0 c.before.before.gateways.ensures.0 c.before.before.before.before.before.first.ensures.0 c.before.before.before.first2.ensures.0 c.before.first3.ensures.0)
+returns c = c.routes-length.ensures ∙ ap (λ l. length (lines_text l)) (own_routes _ c.before.before.before.before.before.before.before.requires (c.before.before.before.before.before.wide.ensures ∙ c.before.before.before.before.before.before.route-count.ensures) c.before.before.before.before.froms.ensures.0 c.before.before.tos.ensures.0 c.before.before.before.first.ensures.0 c.before.first2.ensures.0)
 
 pub route-lines-length-spec : {M : Type 1} → statement M
 route-lines-length-spec =
@@ -61,7 +50,5 @@ route-lines-length-spec =
     first-requires
     tos-requires
     first-requires-2
-    gateways-requires
-    first-requires-3
     routes-length-requires
     returns)

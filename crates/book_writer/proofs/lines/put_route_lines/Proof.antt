@@ -1,7 +1,7 @@
 -- `book_writer::lines::put_route_lines` meets its contract: the columns are those of the routes that the words show. Assumes nothing.
 use mathlib.Core.Path.{◌∙◌}
 use native.Mathlib.Omega.{arith}
-use Rattle.book_writer.proofs.Shown.{routes_counted, routes_level, gateways_level, routes_fit, routes_put}
+use Rattle.book_writer.proofs.Shown.{routes_counted, routes_level, routes_fit, routes_put}
 use borrow.Author.Rules.{rules}
 use Rattle.book_writer.proofs.lines.put_route_lines.Statement.{statement}
 use Rattle.book_writer.proofs.lines.put_route_lines.Tie as tie
@@ -10,7 +10,6 @@ use Rattle.book_writer.proofs.lines.put_route_lines.Lts as lts
 use Rattle.book_writer.proofs.lines.put_routes.Reads as put-routes-reads
 use Rattle.record.proofs.first.Reads as first_reads
 use Rattle.record.proofs.froms.Reads as froms-reads
-use Rattle.record.proofs.gateways.Reads as gateways-reads
 use Rattle.record.proofs.route_count.Reads as route-count-reads
 use Rattle.record.proofs.tos.Reads as tos-reads
 use Rattle.record.proofs.wide.Reads as wide-reads
@@ -33,24 +32,14 @@ tos-requires c κs = search rules
 first-requires-2 : tie.Need-first-requires-2
 first-requires-2 c κs = omega (arith, routes_counted _ c.before.before.before.before.before.before.before.requires.0, c.tos.ensures.1, c.before.before.before.before.wide.ensures, c.before.before.before.before.before.route-count.ensures)
 
-gateways-requires : tie.Need-gateways-requires
-gateways-requires c κs = search rules
-
-first-requires-3 : tie.Need-first-requires-3
-first-requires-3 c κs = omega (arith, routes_counted _ c.before.before.before.before.before.before.before.before.before.requires.0, c.gateways.ensures.1, c.before.before.before.before.before.before.wide.ensures, c.before.before.before.before.before.before.before.route-count.ensures)
-
 put-routes-requires : tie.Need-put-routes-requires
-put-routes-requires c κs = (
-  routes_level _ c.before.before.before.before.before.before.before.before.before.before.requires.0 (c.before.before.before.before.before.before.before.wide.ensures ∙ c.before.before.before.before.before.before.before.before.route-count.ensures) c.before.before.before.before.before.froms.ensures.0 c.before.before.before.tos.ensures.0 c.before.gateways.ensures.0 c.before.before.before.before.first.ensures.0 c.before.before.first2.ensures.0 c.first3.ensures.0,
-  gateways_level _ c.before.before.before.before.before.before.before.before.before.before.requires.0 (c.before.before.before.before.before.before.before.wide.ensures ∙ c.before.before.before.before.before.before.before.before.route-count.ensures) c.before.before.before.before.before.froms.ensures.0 c.before.before.before.tos.ensures.0 c.before.gateways.ensures.0 c.before.before.before.before.first.ensures.0 c.before.before.first2.ensures.0 c.first3.ensures.0,
-  routes_fit _ c.before.before.before.before.before.before.before.before.before.before.requires.0 (c.before.before.before.before.before.before.before.wide.ensures ∙ c.before.before.before.before.before.before.before.before.route-count.ensures) c.before.before.before.before.before.froms.ensures.0 c.before.before.before.tos.ensures.0 c.before.gateways.ensures.0 c.before.before.before.before.first.ensures.0 c.before.before.first2.ensures.0 c.first3.ensures.0 c.before.before.before.before.before.before.before.before.before.before.requires.1,
-)
+put-routes-requires c κs = (routes_level _ c.before.before.before.before.before.before.before.before.requires.0 (c.before.before.before.before.before.wide.ensures ∙ c.before.before.before.before.before.before.route-count.ensures) c.before.before.before.froms.ensures.0 c.before.tos.ensures.0 c.before.before.first.ensures.0 c.first2.ensures.0, routes_fit _ c.before.before.before.before.before.before.before.before.requires.0 (c.before.before.before.before.before.wide.ensures ∙ c.before.before.before.before.before.before.route-count.ensures) c.before.before.before.froms.ensures.0 c.before.tos.ensures.0 c.before.before.first.ensures.0 c.first2.ensures.0 c.before.before.before.before.before.before.before.before.requires.1)
 
 same_length : tie.Need-same-length
 same_length c = search rules
 
 returns : tie.Need-returns
-returns c = routes_put _ c.before.before.before.before.before.before.before.before.before.before.before.before.before.requires.0 (c.before.before.before.before.before.before.before.before.before.before.wide.ensures ∙ c.before.before.before.before.before.before.before.before.before.before.before.route-count.ensures) c.before.before.before.before.before.before.before.before.froms.ensures.0 c.before.before.before.before.before.before.tos.ensures.0 c.before.before.before.before.gateways.ensures.0 c.before.before.before.before.before.before.before.first.ensures.0 c.before.before.before.before.before.first2.ensures.0 c.before.before.before.first3.ensures.0 c.before.before.put-routes.ensures
+returns c = routes_put _ c.before.before.before.before.before.before.before.before.before.before.before.requires.0 (c.before.before.before.before.before.before.before.before.wide.ensures ∙ c.before.before.before.before.before.before.before.before.before.route-count.ensures) c.before.before.before.before.before.before.froms.ensures.0 c.before.before.before.before.tos.ensures.0 c.before.before.before.before.before.first.ensures.0 c.before.before.before.first2.ensures.0 c.before.before.put-routes.ensures
 
 pub put-route-lines-spec : {M : Type 1} → statement M
 put-route-lines-spec =
@@ -62,8 +51,6 @@ put-route-lines-spec =
     first-requires
     tos-requires
     first-requires-2
-    gateways-requires
-    first-requires-3
     put-routes-requires
     same_length
     returns)

@@ -16,49 +16,43 @@ use Rattle.book_writer.proofs.lines.put_routes.Lts as lts
 use Rattle.line_writer.proofs.put_route.Reads as put-route-reads
 
 abbrev invariant-loop : tie.invariant-loop
-invariant-loop out₀ at froms tos gateways next₀ i₀ out next i = LinesLeft out₀ at (route_lines froms tos gateways) out next (map route_line (routes_from_on froms tos gateways i))
+invariant-loop out₀ at froms tos next₀ i₀ out next i = LinesLeft out₀ at (route_lines froms tos) out next (map route_line (routes_from_on froms tos i))
 
 abbrev decreases-loop : tie.decreases-loop
-decreases-loop out₀ at froms tos gateways next₀ i₀ out next i = length froms - i
+decreases-loop out₀ at froms tos next₀ i₀ out next i = length froms - i
 
 loop-holds : tie.Need-loop-init invariant-loop decreases-loop
-loop-holds c = all_left c.before.before.before.before.requires.2
+loop-holds c = all_left c.before.before.before.requires.1
 
 mul-put-route : tie.Need-overflow-mul-put-route invariant-loop decreases-loop
 mul-put-route c = search rules
 
 shared-slice-read-put-route : tie.Need-shared-slice-read-put-route invariant-loop decreases-loop
-shared-slice-read-put-route c = omega (arith, c.before.before.before.before.before.before.before.before.requires.1, c.before.before.loop-test.true)
+shared-slice-read-put-route c = search rules
 
 mul-put-route-2 : tie.Need-overflow-mul-put-route-2 invariant-loop decreases-loop
 mul-put-route-2 c = search rules
 
 shared-slice-read-put-route-2 : tie.Need-shared-slice-read-put-route-2 invariant-loop decreases-loop
-shared-slice-read-put-route-2 c = search rules
-
-mul-put-route-3 : tie.Need-overflow-mul-put-route-3 invariant-loop decreases-loop
-mul-put-route-3 c = search rules
-
-shared-slice-read-put-route-3 : tie.Need-shared-slice-read-put-route-3 invariant-loop decreases-loop
-shared-slice-read-put-route-3 c = omega (arith, c.before.before.before.before.before.before.before.before.before.before.requires.0, c.before.before.before.before.loop-test.true)
+shared-slice-read-put-route-2 c = omega (arith, c.before.before.before.before.before.before.before.before.requires.0, c.before.before.before.loop-test.true)
 
 put-route-requires : tie.Need-put-route-requires invariant-loop decreases-loop
-put-route-requires c κs = first_fit (_ ∷ []) _ (route_next (LinesLeft _ _ _ _ _) _ _ _ _ c.before.before.before.before.before.loop.invariant c.before.before.before.before.before.before.before.before.before.before.requires.0 c.before.before.before.before.before.before.before.before.before.before.requires.1 c.before.before.before.before.loop-test.true)
+put-route-requires c κs = first_fit (_ ∷ []) _ (route_next (LinesLeft _ _ _ _ _) _ _ _ c.before.before.before.before.loop.invariant c.before.before.before.before.before.before.before.before.requires.0 c.before.before.before.loop-test.true)
 
 add-i : tie.Need-overflow-add-i invariant-loop decreases-loop
 add-i c = search rules
 
 loop-less : tie.Need-loop-smaller invariant-loop decreases-loop
-loop-less c = omega (arith, c.before.before.before.before.before.before.before.loop-test.true)
+loop-less c = omega (arith, c.before.before.before.before.before.before.loop-test.true)
 
 loop-again : tie.Need-loop-preserved invariant-loop decreases-loop
-loop-again c = lines_put (_ ∷ []) _ (route_next (LinesLeft _ _ _ _ _) _ _ _ _ c.before.before.before.before.before.before.before.before.loop.invariant c.before.before.before.before.before.before.before.before.before.before.before.before.before.requires.0 c.before.before.before.before.before.before.before.before.before.before.before.before.before.requires.1 c.before.before.before.before.before.before.before.loop-test.true) c.before.before.put-route.ensures
+loop-again c = lines_put (_ ∷ []) _ (route_next (LinesLeft _ _ _ _ _) _ _ _ c.before.before.before.before.before.before.before.loop.invariant c.before.before.before.before.before.before.before.before.before.before.before.requires.0 c.before.before.before.before.before.before.loop-test.true) c.before.before.put-route.ensures
 
 same_length : tie.Need-same-length invariant-loop decreases-loop
 same_length c = c.before.loop.invariant.size
 
 returns : tie.Need-returns invariant-loop decreases-loop
-returns c = none_left (routes_done (LinesLeft _ _ _ _ _) _ _ _ _ c.before.loop.invariant c.loop-test.false)
+returns c = none_left (routes_done (LinesLeft _ _ _ _ _) _ _ _ c.before.loop.invariant c.loop-test.false)
 
 pub put-routes-spec : {M : Type 1} → statement M
 put-routes-spec =
@@ -71,8 +65,6 @@ put-routes-spec =
     shared-slice-read-put-route
     mul-put-route-2
     shared-slice-read-put-route-2
-    mul-put-route-3
-    shared-slice-read-put-route-3
     put-route-requires
     add-i
     loop-less

@@ -22,38 +22,26 @@ enum-told-3 c = search rules
 same_length : tie.Need-same-length
 same_length c = search rules
 
+returns : tie.Need-returns
+returns c = as_spread _ _ _ _ _ c.before.before.before.before.before.spread.ensures c.before.answer.given.1
+
 same-length-2 : tie.Need-same-length-2
 same-length-2 c = search rules
 
-returns : tie.Need-returns
-returns c = as_spread _ _ _ _ _ c.before.before.before.before.before.before.before.spread.ensures c.before.answer.given.1
+returns-2 : tie.Need-returns-2
+returns-2 c = as_spread _ _ _ _ _ c.before.before.before.before.spread.ensures c.enum_told.given.1
 
 same-length-3 : tie.Need-same-length-3
 same-length-3 c = search rules
 
+returns-3 : tie.Need-returns-3
+returns-3 c = as_spread _ _ _ _ _ c.before.before.before.before.spread.ensures c.enum-told2.given.1
+
 same-length-4 : tie.Need-same-length-4
 same-length-4 c = search rules
 
-returns-2 : tie.Need-returns-2
-returns-2 c = as_spread _ _ _ _ _ c.before.before.before.before.before.before.spread.ensures c.enum_told.given.1
-
-same-length-5 : tie.Need-same-length-5
-same-length-5 c = search rules
-
-same-length-6 : tie.Need-same-length-6
-same-length-6 c = search rules
-
-returns-3 : tie.Need-returns-3
-returns-3 c = as_spread _ _ _ _ _ c.before.before.before.before.before.before.spread.ensures c.enum-told2.given.1
-
-same-length-7 : tie.Need-same-length-7
-same-length-7 c = search rules
-
-same-length-8 : tie.Need-same-length-8
-same-length-8 c = search rules
-
 returns-4 : tie.Need-returns-4
-returns-4 c = as_spread _ _ _ _ _ c.before.before.before.before.before.before.spread.ensures c.enum-told3.given.1
+returns-4 c = as_spread _ _ _ _ _ c.before.before.before.before.spread.ensures c.enum-told3.given.1
 
 pub pc-spread-spec : {M : Type 1} → statement M
 pc-spread-spec =
@@ -65,14 +53,10 @@ pc-spread-spec =
     enum-told-2
     enum-told-3
     same_length
-    same-length-2
     returns
-    same-length-3
-    same-length-4
+    same-length-2
     returns-2
-    same-length-5
-    same-length-6
+    same-length-3
     returns-3
-    same-length-7
-    same-length-8
+    same-length-4
     returns-4)

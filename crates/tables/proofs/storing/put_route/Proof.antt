@@ -27,17 +27,8 @@ element-write-book-2 c = search rules
 add-book-3 : tie.Need-overflow-add-book-3
 add-book-3 c = search rules
 
-mul-book-3 : tie.Need-overflow-mul-book-3
-mul-book-3 c = search rules
-
 element-write-book-3 : tie.Need-element-write-book-3
 element-write-book-3 c = search rules
-
-add-book-4 : tie.Need-overflow-add-book-4
-add-book-4 c = search rules
-
-element-write-book-4 : tie.Need-element-write-book-4
-element-write-book-4 c = search rules
 
 returns : tie.Need-returns
 returns c = simp c.wide.ensures
@@ -54,8 +45,5 @@ put-route-spec =
     mul-book-2
     element-write-book-2
     add-book-3
-    mul-book-3
     element-write-book-3
-    add-book-4
-    element-write-book-4
     returns)
