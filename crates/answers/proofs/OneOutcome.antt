@@ -5,5 +5,5 @@ use Rattle.answers.specs.Numbers.{number}
 use Rattle.answers.specs.contracts.Refusal.number as number-fn
 
 module _ (M : Type 1) where
-  pub one_number : OneResult M number-fn.ended number-fn.clauses
+  pub one_number : OneResult M number-fn.ended (λ _. number-fn.clauses)
   one_number = result_is (λ c. number c.arguments.0) refl

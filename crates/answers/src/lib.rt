@@ -1,5 +1,7 @@
 // What the reader of a route book answers. specs/Numbers.antt gives document 01's number and values for each case, and
 // `Refusal::number` is that number in code: nothing else in the library turns a refusal of a book into its number.
+#![tactic(auto)]
+
 ghost use Rattle.std.specs.Prelude.{◌≡◌};
 ghost use Rattle.answers.specs.Numbers.{number};
 

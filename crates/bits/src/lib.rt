@@ -4,6 +4,8 @@
 // specs/Frame.antt, and proofs/Weights.antt that they are the frame's; proofs/Placing.antt has the laws: what is put is read
 // back, a place beside it stays.
 // These functions serve the crates of this repository; a start and a width that lie within the frame are required.
+#![tactic(auto)]
+
 ghost use Rattle.std.specs.Prelude.{◌≡◌, ◌+◌, ◌%◌, ◌^◌, ◌<◌, length};
 ghost use Rattle.bits.specs.Frame.{frame_bytes, frame_bits};
 ghost use Rattle.bits.specs.Word.{Fits, word_of, bytes_of, field_of, placed};

@@ -3,6 +3,8 @@
 // place in it: who asks for those of many signals, as the reader of a text does, binds the column once and lends it. The class goes by
 // the signal's shape, and so do its bits and its count where the window of bits that begins with it is at hand, as in a frame. Of the
 // public functions only `place_of` and `bits_at`, which are lent columns, have a `requires`.
+#![tactic(auto)]
+
 mod by_shape;
 mod classes;
 mod places;

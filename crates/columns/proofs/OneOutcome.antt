@@ -15,20 +15,20 @@ use Rattle.columns.specs.contracts.holds as holds
 use Rattle.columns.specs.contracts.distinct as distinct
 
 module _ (M : Type 1) where
-  pub one_length_of : OneResult M length-of.ended length-of.clauses
+  pub one_length_of : OneResult M length-of.ended (λ _. length-of.clauses)
   one_length_of = result_is (λ c. length c.arguments.0.now) refl
 
-  pub one_part : OneContent M part.ended part.clauses (λ c s. s)
+  pub one_part : OneContent M part.ended (λ _. part.clauses) (λ c s. s)
       (λ c. (c.arguments.1.0 ≤ c.arguments.1.1.0) × (c.arguments.1.1.0 ≤ length c.arguments.0.now))
   one_part =
       content_is (λ c. take (c.arguments.1.1.0 - c.arguments.1.0) (drop c.arguments.1.0 c.arguments.0.now)) (λ c. c.arguments.1.1.0 - c.arguments.1.0)
       (λ c h. length-take-le _ _ (omega (arith, length-drop c.arguments.1.0 c.arguments.0.now, h.1))) refl
 
-  pub one_begin : OneResult M begin.ended begin.clauses
+  pub one_begin : OneResult M begin.ended (λ _. begin.clauses)
   one_begin = result_is (λ c. get_or (0 ∷ c.arguments.0.now) c.arguments.1.0 0) refl
 
-  pub one_holds : OneResult M holds.ended holds.clauses
+  pub one_holds : OneResult M holds.ended (λ _. holds.clauses)
   one_holds = result_is (λ c. is_in c.arguments.1.0 c.arguments.0.now) refl
 
-  pub one_distinct : OneResult M distinct.ended distinct.clauses
+  pub one_distinct : OneResult M distinct.ended (λ _. distinct.clauses)
   one_distinct = result_is (λ c. distinct_after [] c.arguments.0.now) refl

@@ -1,6 +1,8 @@
 // The next field of a text: the number that stands before the first tab, or before the first newline. A field is read in one
 // pass, from the front, and the pass stops where it can be no such number. `stop`, the byte that ends the
 // field, is no digit.
+#![tactic(auto)]
+
 ghost use Rattle.std.specs.Prelude.{◌≡◌, ◌<◌};
 ghost use Rattle.numerals.specs.Numeral.{identifier_digits, identifier, zero_byte, decimal};
 ghost use Rattle.fields.specs.Front.{of_digits, number_before};

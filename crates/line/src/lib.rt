@@ -1,6 +1,8 @@
 // One line of a route book: what it says, by its form alone. Limits, tables and what stood above it are not looked at here.
 // `line_at` answers for every text and place. It reads the line in one pass from its front; only where the line is ill formed is its
 // newline looked for. The other functions are its rooms, one for each kind of line.
+#![tactic(auto)]
+
 ghost use Rattle.std.specs.Prelude.{◌≡◌};
 ghost use Rattle.line.specs.Meaning.{letter_m, letter_s, letter_r};
 ghost use Rattle.line.specs.LineAt.{first_line, line_at};

@@ -40,10 +40,10 @@ module _ {M : Type 1} {𝓤 : Ura M} (𝓛 : Logic 𝓤) (mem : Memory → SProp
     alone = λ r h. h 0 ∙ message_long 0;
   }
 
-pub one_signal_length : (M : Type 1) → OneResult M signal-length.ended signal-length.clauses
+pub one_signal_length : (M : Type 1) → OneResult M signal-length.ended (λ _. signal-length.clauses)
 one_signal_length M = result_is (λ c. length (lines_text (signal_line (placement c.arguments.0 c.arguments.1.0) ∷ []))) refl
 
-pub one_route_length : (M : Type 1) → OneResult M route-length.ended route-length.clauses
+pub one_route_length : (M : Type 1) → OneResult M route-length.ended (λ _. route-length.clauses)
 one_route_length M = result_is (λ c. length (lines_text (route_line (route_between c.arguments.0 c.arguments.1.0) ∷ []))) refl
 
 module _ {M : Type 1} {𝓤 : Ura M} (𝓛 : Logic 𝓤) (mem : Memory → SProp 𝓤) (run : Routine → Fun 𝓤) (κs : Lfts 1) (out : MutBor (List ℕ)) (at : ℕ) where

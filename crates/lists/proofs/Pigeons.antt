@@ -12,6 +12,7 @@ use Rattle.lists.proofs.Lists.{length_below, mem_below}
 module _ {A : Type 0} where
   -- l without one x: one shorter, and everything else is still there
   remove : (x : A) (l : List A) → Memᴰ x l → (r : List A) × (length l ≡ suc (length r)) × ((y : A) → (y ≡ x → ⊥) → Memᴰ y l → Memᴰ y r)
+  remove x [] m = elim m [ ]
   remove x (a ∷ l) (Memᴰ.head e) = (l, refl, λ y ne m. ⊎_elim (λ (e' : y ≡ a). absurd (ne (e' ∙ sym e))) (λ t. t) (Memᴰ.cases_cons m))
   remove x (a ∷ l) (Memᴰ.tail m) = more (remove x l m)
     where

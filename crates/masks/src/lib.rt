@@ -1,4 +1,6 @@
 // Sets of numbers below 64, each a mask in one word: bit k says whether k is in it.
+#![tactic(auto)]
+
 ghost use Rattle.std.specs.Prelude.{◌≡◌, ◌||◌, ℕ, ◌<◌, eqb};
 ghost use Rattle.masks.specs.Bit.{width, bit, meeting};
 

@@ -16,15 +16,15 @@ use Rattle.messages.specs.contracts.reading.read_message as read-message
 use Rattle.messages.specs.contracts.packing.pack_message as pack-message
 
 module _ (M : Type 1) where
-  pub one_class_numbers : OneOutcome M class-numbers.ended class-numbers.clauses
+  pub one_class_numbers : OneOutcome M class-numbers.ended (λ _. class-numbers.clauses)
   one_class_numbers =
       outcome_is (coded× coded_ℤ coded_ℕ) (λ c o. (o.0, o.1.1.1.0)) (λ c x. (x.0, (tt, (tt, (x.1, tt))))) (λ c o. refl) (λ c x. refl)
       (λ c. numbers_of_class c.arguments.0 c.arguments.1.0) refl
 
-  pub one_checked : OneResult M checked.ended checked.clauses
+  pub one_checked : OneResult M checked.ended (λ _. checked.clauses)
   one_checked = result_is (λ c. check_holds c.arguments.0 c.arguments.1.0 c.arguments.1.1.0.now) refl
 
-  pub one_read_message : OneOutcome M read-message.ended read-message.clauses
+  pub one_read_message : OneOutcome M read-message.ended (λ _. read-message.clauses)
   one_read_message =
       outcome_is (coded× (the-reading.the_row).coded coded_slices)
       (λ c o. let left = o.1.1.1.1.1 in (o.0, record { raws = left.0; classes = left.1.0; thousandths = left.1.1.0 }))
@@ -33,7 +33,7 @@ module _ (M : Type 1) where
       let lent = c.arguments.1.1.1.1 in
       read_by_message (some message) (bytes_of c.arguments.1.0) (record { raws = lent.0.now; classes = lent.1.0.now; thousandths = lent.1.1.0.now })) refl
 
-  pub one_pack_message : OneOutcome M pack-message.ended pack-message.clauses
+  pub one_pack_message : OneOutcome M pack-message.ended (λ _. pack-message.clauses)
   one_pack_message =
       outcome_is (coded× (the-packing.the_row).coded (coded_list coded_ℕ)) (λ c o. (o.0, o.1.1.1.1.1.0)) (λ c x. (x.0, (tt, (tt, (tt, (tt, (x.1, tt)))))))
       (λ c o. refl) (λ c x. refl)

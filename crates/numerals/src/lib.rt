@@ -1,5 +1,7 @@
 // The digits of a route book's numbers, and an identifier of exactly 8 of them. All public functions answer for every input.
 // specs/ says what all numbers of a book are, as they are read and as they are written.
+#![tactic(auto)]
+
 ghost use Rattle.std.specs.Prelude.{◌≡◌, ◌≤◌, ◌<◌, ◌^◌, length};
 ghost use Rattle.numerals.specs.Numeral.{digit_value, numeral_from, identifier, or_zero};
 ghost use Rattle.numerals.specs.Written.{hexadecimal_limit};

@@ -12,10 +12,10 @@ use types.Logic.{Logic}
 use contract.Lifetimes.{Lfts}
 use contract.Monad.{Fun, fact}
 use denote.Signature.{type_at}
-use denote.Ref.{MutBor, at_last}
+use denote.Bor.{Bor}
 use denote.Triple.Entry.{Args, Res}
 use denote.Triple.Clauses.{Ended, AtExit, Lasts, at_exit, Clauses}
-use Rattle.only.specs.Only.{Only, only_this}
+use Rattle.only.specs.Only.{Only, only_this, showing}
 
 module _ (M : Type 1) (T : Ended) where
   -- a contract as it is generated
@@ -45,7 +45,7 @@ module _ (M : Type 1) (T : Ended) where
 
     -- what the contract ensures: of a result, with the arguments as they are seen at exit, and of an outcome
     abbrev pub ensured : (c : Calling) → Result c → Seen c → SProp c.𝓤
-    ensured c r e = (contract c.𝓤 c c.mem c.run c.κs c.arguments).ensures c.ghost r e
+    ensured c r e = (contract c.𝓤 c.𝓛 c.mem c.run c.κs c.arguments).ensures c.ghost r e
 
     abbrev pub ensured_of : (c : Calling) → Ending c → SProp c.𝓤
     ensured_of c o = ensured c o.0 (at_exit T c.κs c.arguments o.1)
@@ -55,8 +55,8 @@ module _ (M : Type 1) (T : Ended) where
       pub only : (c : Calling) (e : Seen c) → Only c.𝓤 (λ r. ensured c r e)
 
     -- one content of the slice that is the result, where something holds of the call
-    pub record OneContent (slice : (c : Calling) → MutBor (List ℕ) → Result c) (Where : Calling → Type 0) : Type 2 where
-      pub only : (c : Calling) (s : MutBor (List ℕ)) (e : Seen c) → Where c → Only c.𝓤 (λ l. ensured c (slice c (at_last s l)) e)
+    pub record OneContent (slice : (c : Calling) → Bor (List ℕ) → Result c) (Where : Calling → Type 0) : Type 2 where
+      pub only : (c : Calling) (s : Bor (List ℕ)) (e : Seen c) → Where c → Only c.𝓤 (λ l. ensured c (slice c (showing s l)) e)
 
     -- one outcome
     pub record OneOutcome : Type 2 where
@@ -70,9 +70,9 @@ module _ {M : Type 1} {T : Ended} {contract : Generated M T} where
   result_is f says = record { only = λ c e. only_this c.𝓤 _ (type_at T.signature.result c.κs).coded (f c) (λ r. ap (λ h. h c r e) says) }
 
   -- of a contract that states what a slice holds, and how many entries
-  pub content_is : {slice : (c : Calling M T contract) → MutBor (List ℕ) → Result M T contract c} {Where : Calling M T contract → Type 0}
+  pub content_is : {slice : (c : Calling M T contract) → Bor (List ℕ) → Result M T contract c} {Where : Calling M T contract → Type 0}
       → (f : Calling M T contract → List ℕ) (n : Calling M T contract → ℕ) → ((c : Calling M T contract) → Where c → length (f c) ≡ n c)
-      → ◌≡◌ {A = (c : Calling M T contract) → MutBor (List ℕ) → Seen M T contract c → SProp c.𝓤}
+      → ◌≡◌ {A = (c : Calling M T contract) → Bor (List ℕ) → Seen M T contract c → SProp c.𝓤}
       (λ c s e. ensured M T contract c (slice c s) e) (λ c s e. fact c.𝓤 ((s.now ≡ f c) × (length s.now ≡ n c)))
       → OneContent M T contract slice Where
   content_is f n many says =
@@ -81,7 +81,7 @@ module _ {M : Type 1} {T : Ended} {contract : Generated M T} where
           coded = coded_list coded_ℕ;
           outcome = f c;
           Says = λ l. (l ≡ f c) × (length l ≡ n c);
-          says = λ l. ap (λ t. t c (at_last s l) e) says;
+          says = λ l. ap (λ t. t c (showing s l) e) says;
           there = (refl, many c h);
           alone = λ l p. p.0;
         };

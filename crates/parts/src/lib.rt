@@ -1,5 +1,7 @@
 // The parts of a text between separators: where the next separator stands, and what is before and after it. Lines and fields
 // are both found so. `find` answers for every slice; the others ask that the place is within it.
+#![tactic(auto)]
+
 ghost use Rattle.std.specs.Prelude.{◌≡◌, ◌+◌, ◌<◌, ◌≤◌, length, take, drop};
 ghost use Rattle.parts.specs.Parts.{index_of};
 

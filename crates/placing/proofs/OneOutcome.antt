@@ -69,13 +69,13 @@ module _ {M : Type 1} {𝓤 : Ura M} (𝓛 : Logic 𝓤) (mem : Memory → SProp
       }
 
 module _ (M : Type 1) where
-  pub one_is_misplaced : OneResult M is-misplaced.ended is-misplaced.clauses
+  pub one_is_misplaced : OneResult M is-misplaced.ended (λ _. is-misplaced.clauses)
   one_is_misplaced = result_is (λ c. misplaced (placement c.arguments.0 c.arguments.1.0)) refl
 
-  pub one_is_repeated : OneResult M is-repeated.ended is-repeated.clauses
+  pub one_is_repeated : OneResult M is-repeated.ended (λ _. is-repeated.clauses)
   one_is_repeated = result_is (λ c. is_in c.arguments.1.1.0 c.arguments.0.now) refl
 
-  pub one_well_placed : OneOutcome M well_placed.ended well_placed.clauses
+  pub one_well_placed : OneOutcome M well_placed.ended (λ _. well_placed.clauses)
   one_well_placed =
       outcome_is (coded× coded_bool (coded_list coded_ℕ)) (λ c o. (o.0, o.1.1.1.1.1.1.0)) (λ c x. (x.0, (tt, (tt, (tt, (tt, (tt, (x.1, (tt, tt)))))))))
       (λ c o. refl) (λ c x. refl)

@@ -33,41 +33,41 @@ column_long : (w : List ℕ) (at n : ℕ) → at + n ≤ book_words → Whole w 
 column_long w at n h e = length-take-le n (drop at w) (omega (arith, length-drop at w))
 
 module _ (M : Type 1) where
-  pub one_wide : OneResult M wide.ended wide.clauses
+  pub one_wide : OneResult M wide.ended (λ _. wide.clauses)
   one_wide = result_is (λ c. c.arguments.0) refl
 
-  pub one_message_count : OneResult M message-count.ended message-count.clauses
+  pub one_message_count : OneResult M message-count.ended (λ _. message-count.clauses)
   one_message_count = result_is (λ c. message_count_of c.arguments.0.now) refl
 
-  pub one_signal_count : OneResult M signal-count.ended signal-count.clauses
+  pub one_signal_count : OneResult M signal-count.ended (λ _. signal-count.clauses)
   one_signal_count = result_is (λ c. signal_count_of c.arguments.0.now) refl
 
-  pub one_route_count : OneResult M route-count.ended route-count.clauses
+  pub one_route_count : OneResult M route-count.ended (λ _. route-count.clauses)
   one_route_count = result_is (λ c. route_count_of c.arguments.0.now) refl
 
-  pub one_ids : OneContent M ids.ended ids.clauses (λ c s. s) (λ c. Whole c.arguments.0.now)
+  pub one_ids : OneContent M ids.ended (λ _. ids.clauses) (λ c s. s) (λ c. Whole c.arguments.0.now)
   one_ids = content_is (λ c. ids_of c.arguments.0.now) (λ c. message_limit) (λ c. column_long c.arguments.0.now ids_at message_limit (omega arith)) refl
 
-  pub one_ends : OneContent M ends.ended ends.clauses (λ c s. s) (λ c. Whole c.arguments.0.now)
+  pub one_ends : OneContent M ends.ended (λ _. ends.clauses) (λ c s. s) (λ c. Whole c.arguments.0.now)
   one_ends = content_is (λ c. ends_of c.arguments.0.now) (λ c. message_limit) (λ c. column_long c.arguments.0.now ends_at message_limit (omega arith)) refl
 
-  pub one_numbers : OneContent M numbers.ended numbers.clauses (λ c s. s) (λ c. Whole c.arguments.0.now)
+  pub one_numbers : OneContent M numbers.ended (λ _. numbers.clauses) (λ c s. s) (λ c. Whole c.arguments.0.now)
   one_numbers = content_is (λ c. numbers_of c.arguments.0.now) (λ c. signal_limit) (λ c. column_long c.arguments.0.now numbers_at signal_limit (omega arith)) refl
 
-  pub one_starts : OneContent M starts.ended starts.clauses (λ c s. s) (λ c. Whole c.arguments.0.now)
+  pub one_starts : OneContent M starts.ended (λ _. starts.clauses) (λ c s. s) (λ c. Whole c.arguments.0.now)
   one_starts = content_is (λ c. starts_of c.arguments.0.now) (λ c. signal_limit) (λ c. column_long c.arguments.0.now starts_at signal_limit (omega arith)) refl
 
-  pub one_froms : OneContent M froms.ended froms.clauses (λ c s. s) (λ c. Whole c.arguments.0.now)
+  pub one_froms : OneContent M froms.ended (λ _. froms.clauses) (λ c s. s) (λ c. Whole c.arguments.0.now)
   one_froms = content_is (λ c. froms_of c.arguments.0.now) (λ c. route_limit) (λ c. column_long c.arguments.0.now froms_at route_limit (omega arith)) refl
 
-  pub one_tos : OneContent M tos.ended tos.clauses (λ c s. s) (λ c. Whole c.arguments.0.now)
+  pub one_tos : OneContent M tos.ended (λ _. tos.clauses) (λ c s. s) (λ c. Whole c.arguments.0.now)
   one_tos = content_is (λ c. tos_of c.arguments.0.now) (λ c. route_limit) (λ c. column_long c.arguments.0.now tos_at route_limit (omega arith)) refl
 
-  pub one_first : OneContent M first.ended first.clauses (λ c s. s) (λ c. c.arguments.1.0 ≤ length c.arguments.0.now)
+  pub one_first : OneContent M first.ended (λ _. first.clauses) (λ c s. s) (λ c. c.arguments.1.0 ≤ length c.arguments.0.now)
   one_first = content_is (λ c. take c.arguments.1.0 c.arguments.0.now) (λ c. c.arguments.1.0) (λ c. length-take-le c.arguments.1.0 c.arguments.0.now) refl
 
-  pub one_clear : OneOutcome M clear.ended clear.clauses
+  pub one_clear : OneOutcome M clear.ended (λ _. clear.clauses)
   one_clear = outcome_is (coded_list coded_ℕ) (λ c o. o.1.0) (λ c words. (tt, (words, tt))) (λ c o. refl) (λ c words. refl) (λ c. empty_book) refl
 
-  pub one_place : OneResult M place.ended place.clauses
+  pub one_place : OneResult M place.ended (λ _. place.clauses)
   one_place = result_is (λ c. place_key c.arguments.0 c.arguments.1.0) refl

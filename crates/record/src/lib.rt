@@ -1,6 +1,8 @@
 // The book as words that the caller lends: its limits, where each column stands, one accessor for each, the empty book, the
 // number of a place; and the two signals with a fixed start.
 // Every call on a book reads it through these accessors. Nothing here judges what the words say.
+#![tactic(auto)]
+
 ghost use Rattle.std.specs.Prelude.{◌≡◌, ◌<◌, ◌≤◌, length, take};
 ghost use Rattle.record.specs.Limits.{message_limit, signal_limit, route_limit, bus_limit, identifier_limit};
 ghost use Rattle.record.specs.Place.{place_key};

@@ -1,5 +1,7 @@
 // The signal catalogue as a table: the 199 signals of QC/T 1201.5-2023, one row each. specs/Rows.antt has the rows to read;
 // specs/Rule.antt the rule that the whole table keeps.
+#![tactic(auto)]
+
 mod columns;
 mod table;
 

@@ -3,6 +3,8 @@
 // For a main loop that keeps one `Watch` and calls `update` at each turn with its millisecond clock. The clock may run
 // over its 32 bits. No function has a `requires`: every watch, time and wake is answered, and a refused call leaves the
 // watch as it stood. `specs/Watching.antt` says what each call does, for every input.
+#![tactic(auto)]
+
 ghost use Rattle.std.specs.Prelude.{◌≡◌};
 ghost use Rattle.sleep.specs.Watching.{awake_at, age, after_call, watch_and_answer};
 

@@ -22,7 +22,7 @@ use Rattle.writing.specs.contracts.put_digits as put-digits
 use Rattle.writing.specs.contracts.put_hexadecimals as put-hexadecimals
 use Rattle.writing.specs.contracts.put_identifier as put_identifier_law
 
-pub one_decimal_width : (M : Type 1) → OneResult M decimal-width.ended decimal-width.clauses
+pub one_decimal_width : (M : Type 1) → OneResult M decimal-width.ended (λ _. decimal-width.clauses)
 one_decimal_width M = result_is (λ c. decimal_width_spec c.arguments.0) refl
 
 module _ {M : Type 1} {𝓤 : Ura M} (𝓛 : Logic 𝓤) (mem : Memory → SProp 𝓤) (run : Routine → Fun 𝓤) (κs : Lfts 1) (out : MutBor (List ℕ)) (at : ℕ) where

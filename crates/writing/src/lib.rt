@@ -1,6 +1,8 @@
 // Digits of a number into a lent slice at a place, and the two kinds of numbers as a route book writes them: an identifier in 8 digits
 // 0-9 A-F, any other number in decimal digits, none needless. Each function that writes asks for room and writes just those bytes;
 // those of the book's numbers say where the next byte goes.
+#![tactic(auto)]
+
 ghost use Rattle.std.specs.Prelude.{◌≡◌, ◌+◌, ◌≤◌, ◌<◌, length};
 ghost use Rattle.std.proofs.lemmas.List.Edits.{sets};
 ghost use Rattle.numerals.specs.Numeral.{identifier_digits};

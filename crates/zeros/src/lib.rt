@@ -1,4 +1,6 @@
 // Whether the entries past a count are 0, as those of an empty or a taken book are.
+#![tactic(auto)]
+
 ghost use Rattle.std.specs.Prelude.{◌≡◌, ◌&&◌, ◌≤◌, length, drop};
 ghost use Rattle.zeros.specs.Zeros.{zeros};
 

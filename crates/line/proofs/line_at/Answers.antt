@@ -1,0 +1,14 @@
+-- `line::line_at` meets its contract: it reads the first line of what is left from the place on. Assumes nothing.
+use native.Mathlib.Omega.{arith}
+use Rattle.line.proofs.Firsts.{no_line, first_left, fits}
+use borrow.Author.Rules.{rules}
+use Rattle.line.proofs.line_at.Goals as goal
+
+pub returns-then-at-text : goal.returns-then-at-text
+returns-then-at-text c = no_line _ _ c.if-at-text.true
+
+pub overflow_add-result : goal.overflow_add-result
+overflow_add-result c = omega (arith, fits _ _ c.part_from.ensures _ c.read_first-first.ensures c.if-at-text.false)
+
+pub returns : goal.returns
+returns c = first_left _ _ c.part_from.ensures _ c.read_first-first.ensures

@@ -1,0 +1,13 @@
+-- `writing::put_hexadecimals` meets its contract: writing what is left gives the final list. Assumes nothing.
+use native.Mathlib.Nat.{mod-lt}
+use native.Mathlib.Omega.{arith}
+use lib.Dec.{lit<}
+use Rattle.writing.proofs.Left.{Left, all_left, none_left, one_less}
+use Rattle.writing.proofs.LookUp.{looked_up}
+use Rattle.writing.proofs.put_hexadecimals.Given as goal
+
+abbrev pub invariant-loop-j : goal.invariant-loop-j
+invariant-loop-j l = Left l.initial.out l.at l.k l.n 16 l.out l.j l.m
+
+abbrev pub decreases-loop-j : goal.decreases-loop-j
+decreases-loop-j l = l.j
