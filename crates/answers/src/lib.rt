@@ -6,7 +6,7 @@ ghost use Rattle.std.specs.Prelude.{◌≡◌};
 ghost use Rattle.answers.specs.Numbers.{number};
 
 // Why a text is refused.
-#[derive(Drop)]
+#[derive(Clone, Copy)]
 pub enum Refusal {
     // the text is over its limit
     TooLong,
@@ -54,7 +54,7 @@ impl Refusal {
 }
 
 // A text is taken, with its counts of M, S and R lines; or it is refused, at a line.
-#[derive(Drop)]
+#[derive(Clone, Copy)]
 pub enum Answer {
     Taken(u32, u32, u32),
     Refused(Refusal, u32),

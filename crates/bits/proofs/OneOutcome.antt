@@ -12,6 +12,7 @@ use prog.Routine.{Routine}
 use types.Logic.{Logic}
 use contract.Lifetimes.{Lfts}
 use contract.Monad.{Fun}
+use denote.Bor.{Bor}
 use denote.Ref.{MutBor, at_last}
 use denote.Triple.Clauses.{AtExit}
 use Rattle.only.specs.Only.{Only, only_this}
@@ -25,7 +26,7 @@ use Rattle.bits.specs.contracts.place as place
 use Rattle.bits.specs.contracts.checksum as checksum
 
 module _ {M : Type 1} {𝓤 : Ura M} (𝓛 : Logic 𝓤) (mem : Memory → SProp 𝓤) (run : Routine → Fun 𝓤) where
-  pub one_load : (κs : Lfts 1) (frame : MutBor (List ℕ)) (e : AtExit load.ended κs) → Only 𝓤 (λ r. (load.clauses 𝓛 mem run κs (frame, tt)).ensures tt r e)
+  pub one_load : (κs : Lfts 1) (frame : Bor (List ℕ)) (e : AtExit load.ended κs) → Only 𝓤 (λ r. (load.clauses 𝓛 mem run κs (frame, tt)).ensures tt r e)
   one_load κs frame e = only_this 𝓤 _ coded_ℕ (word_of frame.now) (λ r. refl)
 
   -- what stands in the frame at exit

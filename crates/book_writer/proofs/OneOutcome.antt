@@ -10,6 +10,7 @@ use prog.Routine.{Routine}
 use types.Logic.{Logic}
 use contract.Lifetimes.{Lfts}
 use contract.Monad.{Fun}
+use denote.Bor.{Bor}
 use denote.Ref.{MutBor, at_last}
 use Rattle.only.specs.Only.{Only}
 use Rattle.book_writer.specs.Answers.{wrote_number, byte_count, WriteAnswer}
@@ -19,7 +20,7 @@ use Rattle.book_writer.specs.contracts.Wrote as the-answer
 use Rattle.book_writer.specs.contracts.write as write
 
 module _ {M : Type 1} {𝓤 : Ura M} (𝓛 : Logic 𝓤) (mem : Memory → SProp 𝓤) (run : Routine → Fun 𝓤) where
-  pub one_write : (κs : Lfts 2) (book room : MutBor (List ℕ))
+  pub one_write : (κs : Lfts 2) (book : Bor (List ℕ)) (room : MutBor (List ℕ))
       → Only 𝓤 (λ (x : Wrote × List ℕ). (write.clauses 𝓛 mem run κs (book, (room, tt))).ensures tt x.0 (book, (at_last room x.1, tt)))
   one_write κs book room =
       let there = answered book.now room.now in

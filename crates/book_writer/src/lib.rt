@@ -16,7 +16,7 @@ use record::{BOOK_WORDS, wide};
 pub const MOST_WRITTEN: usize = 4800;
 
 // What came of a call for a book's text.
-#[derive(Drop)]
+#[derive(Clone, Copy)]
 pub enum Wrote {
     // a text of this many bytes stands at the front of the room
     Length(u32),

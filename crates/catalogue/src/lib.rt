@@ -18,11 +18,11 @@ pub use places::{
 pub use widths::{bits_at, bits_of};
 
 // A raw count, as a frame carries it.
-#[derive(Drop)]
+#[derive(Clone, Copy)]
 pub struct Raw(pub u32);
 
 // What the window of bits that begins with a signal has of it: how many bits are its own, its count, and the class of that.
-#[derive(Drop)]
+#[derive(Clone, Copy)]
 pub struct Cut {
     pub bits: u32,
     pub raw: Raw,
@@ -30,11 +30,11 @@ pub struct Cut {
 }
 
 // A reading in thousandths of the printed unit.
-#[derive(Drop)]
+#[derive(Clone, Copy)]
 pub struct Thousandths(pub i64);
 
 // What a raw count of a signal stands for: one of six classes, or a refusal.
-#[derive(Drop)]
+#[derive(Clone, Copy)]
 pub enum Class {
     // Within the raw limits and no mark: the reading.
     Value(Thousandths),

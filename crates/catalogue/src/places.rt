@@ -53,7 +53,7 @@ fn size(bound: u8) -> u32
 }
 
 // What looking for a signal finds: its place in the table.
-#[derive(Drop)]
+#[derive(Clone, Copy)]
 pub enum Place {
     At(usize),
     Nowhere,

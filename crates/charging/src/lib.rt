@@ -18,7 +18,7 @@ use conditions::{holding, is_unplugged, none_welded};
 use widths::all_fit;
 
 // How far a charge has come: at the start, then a state for each condition that is met with all before it.
-#[derive(Drop)]
+#[derive(Clone, Copy)]
 pub enum ChargeState {
     Start,
     PlugSeen,
@@ -31,14 +31,14 @@ pub enum ChargeState {
 }
 
 // What a number stands for: a state, or none.
-#[derive(Drop)]
+#[derive(Clone, Copy)]
 pub enum ChargeStateOrNone {
     Is(ChargeState),
     NoChargeState,
 }
 
 // Raw counts, as read from frames.
-#[derive(Drop)]
+#[derive(Clone, Copy)]
 pub struct ChargeObservation {
     // 1708.
     pub plug: Raw,
@@ -59,7 +59,7 @@ pub struct ChargeObservation {
     pub charge_negative: Raw,
 }
 
-#[derive(Drop)]
+#[derive(Clone, Copy)]
 pub enum ChargeAnswer {
     Taken,
     // A count has more bits than its signal.
@@ -67,7 +67,7 @@ pub enum ChargeAnswer {
 }
 
 // The state after a step, and what the step answered.
-#[derive(Drop)]
+#[derive(Clone, Copy)]
 pub struct ChargeStepped {
     pub state: ChargeState,
     pub answer: ChargeAnswer,

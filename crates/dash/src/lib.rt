@@ -10,7 +10,7 @@ use doubles::in_units;
 use messages::class_numbers;
 
 // What the dash draws: one of the six classes.
-#[derive(Drop)]
+#[derive(Clone, Copy)]
 pub enum Dash {
     // The reading, in the printed unit.
     Value(f64),
@@ -22,7 +22,7 @@ pub enum Dash {
 }
 
 // What the call answers: what is drawn, or a refusal.
-#[derive(Drop)]
+#[derive(Clone, Copy)]
 pub enum DashAnswer {
     Shown(Dash),
     NotInCatalogue,

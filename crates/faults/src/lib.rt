@@ -10,7 +10,7 @@ ghost use Rattle.faults.specs.Sum.{all_fit, is_emergency_spec, answer_to};
 
 use catalogue::Raw;
 
-#[derive(Drop)]
+#[derive(Clone, Copy)]
 pub struct FaultSum {
     // The highest level.
     pub highest: u32,
@@ -25,7 +25,7 @@ pub struct FaultSum {
     pub agrees: bool,
 }
 
-#[derive(Drop)]
+#[derive(Clone, Copy)]
 pub enum FaultAnswer {
     Summed(FaultSum),
     NotTwentySeven,

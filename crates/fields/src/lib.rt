@@ -14,7 +14,7 @@ use parts::part_before;
 const DECIMAL_DIGITS: usize = 5;
 
 // A number with how many digits it has, or none.
-#[derive(Drop)]
+#[derive(Clone, Copy)]
 pub enum Front {
     Found(u32, usize),
     Nothing,

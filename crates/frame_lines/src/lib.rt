@@ -13,7 +13,7 @@ const FRAME_DIGITS: usize = 16;
 const BYTE_7: u64 = 72057594037927936;
 
 // What a frame line says.
-#[derive(Drop)]
+#[derive(Clone, Copy)]
 pub enum FrameLine {
     // A frame of 8 bytes: its identifier, and the bytes as one number, byte 0 lowest.
     Frame(u32, u64),

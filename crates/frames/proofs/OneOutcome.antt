@@ -12,6 +12,7 @@ use prog.Routine.{Routine}
 use types.Logic.{Logic}
 use contract.Lifetimes.{Lfts}
 use contract.Monad.{Fun}
+use denote.Bor.{Bor}
 use denote.Ref.{MutBor, at_last}
 use lib.IntN.{ℤ}
 use Rattle.only.specs.Only.{Only, only_this}
@@ -32,20 +33,20 @@ use Rattle.frames.specs.contracts.read as read
 use Rattle.frames.specs.contracts.pack as pack
 
 module _ {M : Type 1} {𝓤 : Ura M} (𝓛 : Logic 𝓤) (mem : Memory → SProp 𝓤) (run : Routine → Fun 𝓤) where
-  pub one_read : (κs : Lfts 5) (book : MutBor (List ℕ)) (identifier : ℕ) (frame raws classes : MutBor (List ℕ)) (thousandths : MutBor (List ℤ))
+  pub one_read : (κs : Lfts 5) (book : Bor (List ℕ)) (identifier : ℕ) (frame : Bor (List ℕ)) (raws classes : MutBor (List ℕ)) (thousandths : MutBor (List ℤ))
       → Only 𝓤 (λ (x : Reading × Slices). (read.clauses 𝓛 mem run κs (book, (identifier, (frame, (raws, (classes, (thousandths, tt))))))).ensures tt x.0
       (book, (identifier, (frame, (at_last raws x.1.raws, (at_last classes x.1.classes, (at_last thousandths x.1.thousandths, tt)))))))
   one_read κs book identifier frame raws classes thousandths =
       only_this 𝓤 _ (coded× (the-reading.the_row).coded coded_slices)
       (reading book.now identifier frame.now (record { raws = raws.now; classes = classes.now; thousandths = thousandths.now })) (λ x. refl)
 
-  pub one_pack : (κs : Lfts 3) (book : MutBor (List ℕ)) (identifier : ℕ) (values frame : MutBor (List ℕ))
+  pub one_pack : (κs : Lfts 3) (book : Bor (List ℕ)) (identifier : ℕ) (values : Bor (List ℕ)) (frame : MutBor (List ℕ))
       → Only 𝓤 (λ (x : Packing × List ℕ). (pack.clauses 𝓛 mem run κs (book, (identifier, (values, (frame, tt))))).ensures tt x.0 (book, (identifier, (values, (at_last frame x.1, tt)))))
   one_pack κs book identifier values frame =
       only_this 𝓤 _ (coded× (the-packing.the_row).coded (coded_list coded_ℕ)) (packing book.now identifier values.now frame.now) (λ x. refl)
 
   -- where its `requires` holds
-  pub one_find_message : (κs : Lfts 1) (book : MutBor (List ℕ)) (identifier : ℕ) → messages_taken_spec book.now ≡ true
+  pub one_find_message : (κs : Lfts 1) (book : Bor (List ℕ)) (identifier : ℕ) → messages_taken_spec book.now ≡ true
       → Only 𝓤 (λ (f : MessageFound). (find-message.clauses 𝓛 mem run κs (book, (identifier, tt))).ensures tt f (book, (identifier, tt)))
   one_find_message κs book identifier t =
       let here = there book.now t identifier in

@@ -6,7 +6,7 @@ ghost use Rattle.frames.specs.Lookup.{first_at, Finds};
 use record::{BOOK_WORDS, wide};
 
 // What looking for a message finds: its signals stand in the columns from the first place to before the second.
-#[derive(Drop)]
+#[derive(Clone, Copy)]
 pub enum MessageFound {
     Signals(usize, usize),
     Nothing,

@@ -2,7 +2,7 @@
 // book; proofs/ has the laws, with the two ways between reading and packing. The code is in the crate `frames`.
 
 // What reading a frame answers.
-#[derive(Drop)]
+#[derive(Clone, Copy)]
 pub enum Reading {
     // This many placements were read.
     Read(u32),
@@ -19,7 +19,7 @@ pub enum Reading {
 }
 
 // What packing a frame answers.
-#[derive(Drop)]
+#[derive(Clone, Copy)]
 pub enum Packing {
     // The lent frame holds every count.
     Packed,

@@ -12,7 +12,7 @@ use fields::{Front, decimal_before, identifier_before};
 use parts::{NEWLINE, TAB, find, part_after, part_from};
 
 // What a line says. A route's numbers: from bus, from identifier, to bus, to identifier.
-#[derive(Drop)]
+#[derive(Clone, Copy)]
 pub enum Line {
     Message(u32),
     Signal(u32, u32),
@@ -21,7 +21,7 @@ pub enum Line {
 }
 
 // A line, and the place where the next one begins.
-#[derive(Drop)]
+#[derive(Clone, Copy)]
 pub struct ReadLine {
     pub line: Line,
     pub next: usize,

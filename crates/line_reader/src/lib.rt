@@ -1,6 +1,8 @@
 // The line reader carries the text and its own place in it: it reads the line at its place, and moves on to the next one. Its
 // functions are thin, over `line::line_at`, which takes slice and number. `read_at` is for whoever keeps the place in a number, as a
 // loop over a text does: a reader is made at that place, and reads its line.
+#![tactic(auto)]
+
 ghost use Rattle.std.specs.Prelude.{◌≡◌};
 ghost use Rattle.line.specs.LineAt.{line_at};
 ghost use Rattle.line_reader.specs.Reader.{reader_at_spec, next_line_spec};

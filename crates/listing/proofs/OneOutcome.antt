@@ -10,6 +10,7 @@ use prog.Routine.{Routine}
 use types.Logic.{Logic}
 use contract.Lifetimes.{Lfts}
 use contract.Monad.{Fun}
+use denote.Bor.{Bor}
 use denote.Ref.{MutBor, at_last}
 use Rattle.only.specs.Only.{Only, only_this}
 use Rattle.signal_lines.specs.declared.figures.Figures.{Figures}
@@ -19,6 +20,6 @@ use Rattle.listing.specs.contracts.Listed as the-answer
 use Rattle.listing.specs.contracts.list as list
 
 module _ {M : Type 1} {𝓤 : Ura M} (𝓛 : Logic 𝓤) (mem : Memory → SProp 𝓤) (run : Routine → Fun 𝓤) (κs : Lfts 3) where
-  pub one_list : (book text out : MutBor (List ℕ)) (figures : Figures)
+  pub one_list : (book text : Bor (List ℕ)) (out : MutBor (List ℕ)) (figures : Figures)
       → Only 𝓤 (λ (x : Listed × List ℕ). (list.clauses 𝓛 mem run κs (book, (text, (out, (figures, tt))))).ensures tt x.0 (book, (text, (at_last out x.1, (figures, tt)))))
   one_list book text out figures = only_this 𝓤 _ (coded× (the-answer.the_row).coded (coded_list coded_ℕ)) (listing figures book.now text.now out.now) (λ x. refl)

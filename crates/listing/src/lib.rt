@@ -16,7 +16,7 @@ use signal_lines::Figures;
 use tables::messages_taken;
 
 // What a listing answers.
-#[derive(Drop)]
+#[derive(Clone, Copy)]
 pub enum Listed {
     // So many bytes of the lines were used, and so many of the room written.
     Lines(usize, usize),
@@ -25,7 +25,7 @@ pub enum Listed {
 }
 
 // The place after a printout, or that it does not fit.
-#[derive(Drop)]
+#[derive(Clone, Copy)]
 pub enum Fitted {
     Next(usize),
     NoRoom,

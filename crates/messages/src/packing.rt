@@ -18,7 +18,7 @@ use record::CHECKSUM;
 const RESERVED: u8 = 4;
 
 // A word with counts put in, or why one is not.
-#[derive(Drop)]
+#[derive(Clone, Copy)]
 pub enum PutWord {
     Word(u64),
     TooWide,

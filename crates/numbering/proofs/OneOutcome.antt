@@ -11,6 +11,7 @@ use prog.Routine.{Routine}
 use types.Logic.{Logic}
 use contract.Lifetimes.{Lfts}
 use contract.Monad.{Fun}
+use denote.Bor.{Bor}
 use denote.Ref.{MutBor, at_last}
 use lib.ListN.{length, length-append}
 use Rattle.only.specs.Only.{Only}
@@ -33,7 +34,7 @@ module _ (places lent : List ℕ) where
 
 module _ {M : Type 1} {𝓤 : Ura M} (𝓛 : Logic 𝓤) (mem : Memory → SProp 𝓤) (run : Routine → Fun 𝓤) (κs : Lfts 3) where
   -- where there is room
-  pub one_number_all : (tos froms numbers : MutBor (List ℕ)) → length tos.now + length froms.now ≤ length numbers.now
+  pub one_number_all : (tos froms : Bor (List ℕ)) (numbers : MutBor (List ℕ)) → length tos.now + length froms.now ≤ length numbers.now
       → Only 𝓤 (λ (x : List ℕ). (number-all.clauses 𝓛 mem run κs (tos, (froms, (numbers, tt)))).ensures tt tt (tos, (froms, (at_last numbers x, tt))))
   one_number_all tos froms numbers room =
       let places = tos.now ++ froms.now in

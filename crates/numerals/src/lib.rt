@@ -10,7 +10,7 @@ ghost use Rattle.numerals.specs.Written.{hexadecimal_limit};
 pub const IDENTIFIER_DIGITS: usize = 8;
 
 // What a field is read as: a number, or none.
-#[derive(Drop)]
+#[derive(Clone, Copy)]
 pub enum Number {
     Is(u32),
     Not,

@@ -67,7 +67,7 @@ fn run_up_to(start: u32, last: u32) -> u64
 }
 
 // What the signals of a message fill: a mask of their frame bits, and one of their numbers' marks.
-#[derive(Drop)]
+#[derive(Clone, Copy)]
 pub struct Filled {
     pub bits: u64,
     pub marks: u64,

@@ -19,7 +19,7 @@ pub use observed::precharge_complete;
 use rules::next_state;
 use shares::share_fits;
 
-#[derive(Drop)]
+#[derive(Clone, Copy)]
 pub enum State {
     Off,
     Rising,
@@ -31,7 +31,7 @@ pub enum State {
 }
 
 // What a number stands for: a state, or none.
-#[derive(Drop)]
+#[derive(Clone, Copy)]
 pub enum StateOrNone {
     State(State),
     NoState,
@@ -39,14 +39,14 @@ pub enum StateOrNone {
 
 // The share of the voltage inside, in hundredths, that the one outside has to reach before precharge is complete: the one
 // that the caller names, or that none is given, which is a case of its own and no number.
-#[derive(Drop)]
+#[derive(Clone, Copy)]
 pub enum Share {
     Named(u32),
     NoneGiven,
 }
 
 // Raw counts, as read from frames, and the share that comes with them.
-#[derive(Drop)]
+#[derive(Clone, Copy)]
 pub struct Observation {
     // Relays: 1 open, 2 closed.
     pub main_negative: Raw,
@@ -64,7 +64,7 @@ pub struct Observation {
     pub share: Share,
 }
 
-#[derive(Drop)]
+#[derive(Clone, Copy)]
 pub enum PowerAnswer {
     Taken,
     // A relay count is neither 1 nor 2.
@@ -78,7 +78,7 @@ pub enum PowerAnswer {
 }
 
 // The state after a step, and what the step answered.
-#[derive(Drop)]
+#[derive(Clone, Copy)]
 pub struct Stepped {
     pub state: State,
     pub answer: PowerAnswer,

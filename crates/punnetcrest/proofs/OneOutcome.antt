@@ -12,6 +12,7 @@ use prog.Routine.{Routine}
 use types.Logic.{Logic}
 use contract.Lifetimes.{Lfts}
 use contract.Monad.{Fun}
+use denote.Bor.{Bor}
 use denote.Ref.{MutBor, at_last}
 use Rattle.only.specs.Only.{Only, only_this}
 use Rattle.framing.proofs.CodedSlices.{coded_slices}
@@ -43,7 +44,7 @@ use Rattle.punnetcrest.specs.contracts.summing.pc_fault_sum as fault-sum
 use Rattle.punnetcrest.specs.contracts.unpacking.pc_frame_read as frame-read
 
 module _ {M : Type 1} {𝓤 : Ura M} (𝓛 : Logic 𝓤) (mem : Memory → SProp 𝓤) (run : Routine → Fun 𝓤) where
-  pub one_book_read : (κs : Lfts 3) (text book : MutBor (List ℕ)) (line : MutBor ℕ)
+  pub one_book_read : (κs : Lfts 3) (text : Bor (List ℕ)) (book : MutBor (List ℕ)) (line : MutBor ℕ)
       → Only 𝓤 (λ (x : ℕ × (List ℕ × ℕ)). (book_read.clauses 𝓛 mem run κs (text, (book, (line, tt)))).ensures tt x.0 (text, (at_last book x.1.0, (at_last line x.1.1, tt))))
   one_book_read κs text book line =
       record {
@@ -55,7 +56,7 @@ module _ {M : Type 1} {𝓤 : Ura M} (𝓛 : Logic 𝓤) (mem : Memory → SProp
         alone = read_alone text.now;
       }
 
-  pub one_book_write : (κs : Lfts 3) (book text : MutBor (List ℕ)) (count : MutBor ℕ)
+  pub one_book_write : (κs : Lfts 3) (book : Bor (List ℕ)) (text : MutBor (List ℕ)) (count : MutBor ℕ)
       → Only 𝓤 (λ (x : ℕ × (List ℕ × ℕ)). (book-write.clauses 𝓛 mem run κs (book, (text, (count, tt)))).ensures tt x.0 (book, (at_last text x.1.0, (at_last count x.1.1, tt))))
   one_book_write κs book text count =
       record {
@@ -75,27 +76,27 @@ module _ {M : Type 1} {𝓤 : Ura M} (𝓛 : Logic 𝓤) (mem : Memory → SProp
       → Only 𝓤 (λ (x : ℕ × (ℕ × Float)). (dash-call.clauses 𝓛 mem run κs (number, (raw, (code, (reading, tt))))).ensures tt x.0 (number, (raw, (at_last code x.1.0, (at_last reading x.1.1, tt)))))
   one_dash κs number raw code reading = only_this 𝓤 _ (coded× coded_ℕ (coded× coded_ℕ coded_float)) (dashed number raw code.now reading.now) (λ x. refl)
 
-  pub one_fault_sum : (κs : Lfts 2) (counts sum : MutBor (List ℕ))
+  pub one_fault_sum : (κs : Lfts 2) (counts : Bor (List ℕ)) (sum : MutBor (List ℕ))
       → Only 𝓤 (λ (x : ℕ × List ℕ). (fault-sum.clauses 𝓛 mem run κs (counts, (sum, tt))).ensures tt x.0 (counts, (at_last sum x.1, tt)))
   one_fault_sum κs counts sum = only_this 𝓤 _ (coded× coded_ℕ (coded_list coded_ℕ)) (faults_summed counts.now sum.now) (λ x. refl)
 
-  pub one_frame_read : (κs : Lfts 6) (book : MutBor (List ℕ)) (identifier : ℕ) (frame raws classes : MutBor (List ℕ)) (thousandths : MutBor (List ℤ)) (count : MutBor ℕ)
+  pub one_frame_read : (κs : Lfts 6) (book : Bor (List ℕ)) (identifier : ℕ) (frame : Bor (List ℕ)) (raws classes : MutBor (List ℕ)) (thousandths : MutBor (List ℤ)) (count : MutBor ℕ)
       → Only 𝓤 (λ (x : ℕ × ReadingRoom). (frame-read.clauses 𝓛 mem run κs (book, (identifier, (frame, (raws, (classes, (thousandths, (count, tt)))))))).ensures tt x.0
       (book, (identifier, (frame, (at_last raws x.1.0.raws, (at_last classes x.1.0.classes, (at_last thousandths x.1.0.thousandths, (at_last count x.1.1, tt))))))))
   one_frame_read κs book identifier frame raws classes thousandths count =
       only_this 𝓤 _ (coded× coded_ℕ (coded× coded_slices coded_ℕ))
       (unpacked book.now identifier frame.now (room_lent raws.now classes.now thousandths.now count.now)) (λ x. refl)
 
-  pub one_frame_pack : (κs : Lfts 3) (book : MutBor (List ℕ)) (identifier : ℕ) (values frame : MutBor (List ℕ))
+  pub one_frame_pack : (κs : Lfts 3) (book : Bor (List ℕ)) (identifier : ℕ) (values : Bor (List ℕ)) (frame : MutBor (List ℕ))
       → Only 𝓤 (λ (x : ℕ × List ℕ). (frame-pack.clauses 𝓛 mem run κs (book, (identifier, (values, (frame, tt))))).ensures tt x.0 (book, (identifier, (values, (at_last frame x.1, tt)))))
   one_frame_pack κs book identifier values frame =
       only_this 𝓤 _ (coded× coded_ℕ (coded_list coded_ℕ)) (packed book.now identifier values.now frame.now) (λ x. refl)
 
-  pub one_power_step : (κs : Lfts 2) (state : MutBor ℕ) (seen : MutBor (List ℕ))
+  pub one_power_step : (κs : Lfts 2) (state : MutBor ℕ) (seen : Bor (List ℕ))
       → Only 𝓤 (λ (x : ℕ × ℕ). (power-step.clauses 𝓛 mem run κs (state, (seen, tt))).ensures tt x.0 (at_last state x.1, (seen, tt)))
   one_power_step κs state seen = only_this 𝓤 _ (coded× coded_ℕ coded_ℕ) (stepped state.now seen.now NoneGiven) (λ x. refl)
 
-  pub one_power_step_by : (κs : Lfts 2) (state : MutBor ℕ) (seen : MutBor (List ℕ)) (share : ℕ)
+  pub one_power_step_by : (κs : Lfts 2) (state : MutBor ℕ) (seen : Bor (List ℕ)) (share : ℕ)
       → Only 𝓤 (λ (x : ℕ × ℕ). (power-step-by.clauses 𝓛 mem run κs (state, (seen, (share, tt)))).ensures tt x.0 (at_last state x.1, (seen, (share, tt))))
   one_power_step_by κs state seen share = only_this 𝓤 _ (coded× coded_ℕ coded_ℕ) (stepped state.now seen.now (Named share)) (λ x. refl)
 
@@ -107,7 +108,7 @@ module _ {M : Type 1} {𝓤 : Ura M} (𝓛 : Logic 𝓤) (mem : Memory → SProp
       → Only 𝓤 (λ (x : ℕ × (ℕ × ℕ)). (sleep-watch.clauses 𝓛 mem run κs (last, (asleep, (time, (wake, tt))))).ensures tt x.0 (at_last last x.1.0, (at_last asleep x.1.1, (time, (wake, tt)))))
   one_sleep_watch κs last asleep time wake = only_this 𝓤 _ (coded× coded_ℕ (coded× coded_ℕ coded_ℕ)) (watched last.now asleep.now time wake) (λ x. refl)
 
-  pub one_spread : (κs : Lfts 3) (book : MutBor (List ℕ)) (bus identifier : ℕ) (places : MutBor (List ℕ)) (count : MutBor ℕ)
+  pub one_spread : (κs : Lfts 3) (book : Bor (List ℕ)) (bus identifier : ℕ) (places : MutBor (List ℕ)) (count : MutBor ℕ)
       → Only 𝓤 (λ (x : ℕ × (List ℕ × ℕ)). (spread.clauses 𝓛 mem run κs (book, (bus, (identifier, (places, (count, tt)))))).ensures tt x.0 (book, (bus, (identifier, (at_last places x.1.0, (at_last count x.1.1, tt))))))
   one_spread κs book bus identifier places count =
       record {

@@ -12,6 +12,7 @@ use prog.Routine.{Routine}
 use types.Logic.{Logic}
 use contract.Lifetimes.{Lfts}
 use contract.Monad.{Fun}
+use denote.Bor.{Bor}
 use denote.Ref.{MutBor, at_last}
 use denote.Triple.Clauses.{AtExit}
 use lib.ListN.{length, get_or}
@@ -71,7 +72,7 @@ turn_low n t false h = h
 
 -- each where its `requires` holds
 module _ {M : Type 1} {𝓤 : Ura M} (𝓛 : Logic 𝓤) (mem : Memory → SProp 𝓤) (run : Routine → Fun 𝓤) where
-  pub one_start_of : (κs : Lfts 1) (starts : MutBor (List ℕ)) (j : ℕ) → Starts starts.now → j < length starts.now
+  pub one_start_of : (κs : Lfts 1) (starts : Bor (List ℕ)) (j : ℕ) → Starts starts.now → j < length starts.now
       → (e : AtExit start_of_lem.ended κs) → Only 𝓤 (λ r. (start_of_lem.clauses 𝓛 mem run κs (starts, (j, tt))).ensures tt r e)
   one_start_of κs starts j s l e =
       record { coded = coded_ℕ; outcome = get_or starts.now j 0; Says = λ r. (r ≡ get_or starts.now j 0) × (r < 2 * width); says = λ r. refl; there = (refl, s.low j l); alone = λ r h. h.0 }
@@ -80,7 +81,7 @@ module _ {M : Type 1} {𝓤 : Ura M} (𝓛 : Logic 𝓤) (mem : Memory → SProp
   one_nth t n down l e = record { coded = coded_ℕ; outcome = turn n down t; Says = λ r. (r ≡ turn n down t) × (r < n); says = λ r. refl; there = (refl, turn_low n t down l); alone = λ r h. h.0 }
 
   -- the masks at exit
-  pub one_fill : (κs : Lfts 3) (starts ends onward : MutBor (List ℕ)) → Numbers starts.now ends.now → length starts.now ≤ length onward.now
+  pub one_fill : (κs : Lfts 3) (starts ends : Bor (List ℕ)) (onward : MutBor (List ℕ)) → Numbers starts.now ends.now → length starts.now ≤ length onward.now
       → Only 𝓤 (λ (x : List ℕ). (fill.clauses 𝓛 mem run κs (starts, (ends, (onward, tt)))).ensures tt tt (starts, (ends, (at_last onward x, tt))))
   one_fill κs starts ends onward ns room =
       let r = filled_there starts.now ends.now onward.now ns room in

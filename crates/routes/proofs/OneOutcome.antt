@@ -10,6 +10,7 @@ use prog.Routine.{Routine}
 use types.Logic.{Logic}
 use contract.Lifetimes.{Lfts}
 use contract.Monad.{Fun}
+use denote.Bor.{Bor}
 use denote.Ref.{MutBor, at_last}
 use Rattle.only.specs.Only.{Only}
 use Rattle.routes.specs.Answers.{sent_number, place_count, SpreadAnswer}
@@ -19,7 +20,7 @@ use Rattle.routes.specs.contracts.Sent as the-answer
 use Rattle.routes.specs.contracts.spread as spread
 
 module _ {M : Type 1} {𝓤 : Ura M} (𝓛 : Logic 𝓤) (mem : Memory → SProp 𝓤) (run : Routine → Fun 𝓤) where
-  pub one_spread : (κs : Lfts 2) (book : MutBor (List ℕ)) (bus identifier : ℕ) (room : MutBor (List ℕ))
+  pub one_spread : (κs : Lfts 2) (book : Bor (List ℕ)) (bus identifier : ℕ) (room : MutBor (List ℕ))
       → Only 𝓤 (λ (x : Sent × List ℕ). (spread.clauses 𝓛 mem run κs (book, (bus, (identifier, (room, tt))))).ensures tt x.0 (book, (bus, (identifier, (at_last room x.1, tt)))))
   one_spread κs book bus identifier room =
       let there = answered book.now bus identifier room.now in

@@ -11,7 +11,7 @@ use record::{BOOK_WORDS, BUSES, IDENTIFIER_LIMIT, ROUTES, wide};
 use route_tables::routes_taken;
 
 // What came of a call for a spread.
-#[derive(Drop)]
+#[derive(Clone, Copy)]
 pub enum Sent {
     // this many places stand at the front of the room
     Places(u32),

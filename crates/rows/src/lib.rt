@@ -19,7 +19,7 @@ pub const ERROR: u8 = 3;
 pub const RESERVED: u8 = 4;
 
 // Codes of a signal that are no values, from the first to the last; none where the last is below the first.
-#[derive(Drop)]
+#[derive(Clone, Copy)]
 pub struct Mark {
     pub kind: u8,
     pub first: u32,
@@ -27,7 +27,7 @@ pub struct Mark {
 }
 
 // A signal: resolution and offset are in thousandths of the printed unit, lowest and highest are raw counts.
-#[derive(Drop)]
+#[derive(Clone, Copy)]
 pub struct Row {
     pub number: u32,
     pub bits: u32,

@@ -10,6 +10,7 @@ use prog.Routine.{Routine}
 use types.Logic.{Logic}
 use contract.Lifetimes.{Lfts}
 use contract.Monad.{Fun}
+use denote.Bor.{Bor}
 use denote.Ref.{MutBor, at_last}
 use lib.ListN.{length}
 use lib.Seq.{sets}
@@ -18,7 +19,7 @@ use Rattle.sending.specs.Writing.{Written, spread_in}
 use Rattle.sending.specs.contracts.send as send
 
 module _ {M : Type 1} {𝓤 : Ura M} (𝓛 : Logic 𝓤) (mem : Memory → SProp 𝓤) (run : Routine → Fun 𝓤) (κs : Lfts 2) where
-  pub one_send : (book : MutBor (List ℕ)) (place : ℕ) (room : MutBor (List ℕ)) (at : ℕ)
+  pub one_send : (book : Bor (List ℕ)) (place : ℕ) (room : MutBor (List ℕ)) (at : ℕ)
       → Only 𝓤 (λ (x : ℕ × List ℕ). (send.clauses 𝓛 mem run κs (book, (place, (room, (at, tt))))).ensures tt x.0 (book, (place, (at_last room x.1, (at, tt)))))
   one_send book place room at =
       let s = spread_in book.now place in

@@ -10,7 +10,7 @@ use doubles::bits_in_units;
 use printing::put_signed;
 use writing::put_hexadecimals;
 
-#[derive(Drop)]
+#[derive(Clone, Copy)]
 pub enum Figures {
     InThousandths,
     AsDoubles,

@@ -9,13 +9,13 @@ ghost use Rattle.std.specs.Prelude.{◌≡◌};
 ghost use Rattle.sleep.specs.Watching.{awake_at, age, after_call, watch_and_answer};
 
 // The clock's time at the last wake, and whether the truck sleeps.
-#[derive(Drop)]
+#[derive(Clone, Copy)]
 pub struct Watch {
     pub last_wake: u32,
     pub asleep: bool,
 }
 
-#[derive(Drop)]
+#[derive(Clone, Copy)]
 pub enum SleepAnswer {
     Taken,
     // While awake the time is half the circle or more past the last wake: read as a clock that went back.
@@ -23,7 +23,7 @@ pub enum SleepAnswer {
 }
 
 // The watch after a call, and the call's answer.
-#[derive(Drop)]
+#[derive(Clone, Copy)]
 pub struct Updated {
     pub watch: Watch,
     pub answer: SleepAnswer,

@@ -11,7 +11,7 @@ use sleep::{SleepAnswer, Watch};
 const MOST_TURNS: u32 = 1000000;
 
 // What the main loop does next.
-#[derive(Drop)]
+#[derive(Clone, Copy)]
 struct Turn {
     // How many turns may still come, this one among them: 0 where the input has ended.
     left: u32,

@@ -11,14 +11,14 @@ use placing::Filled;
 pub use testing::messages_taken;
 
 // What becomes of a line.
-#[derive(Drop)]
+#[derive(Clone, Copy)]
 pub enum Added {
     Taken,
     Refused(Refusal),
 }
 
 // What becomes of an `S` line, and what the signals of the last message fill then.
-#[derive(Drop)]
+#[derive(Clone, Copy)]
 pub struct AddedSignal {
     pub added: Added,
     pub filled: Filled,

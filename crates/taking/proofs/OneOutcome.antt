@@ -11,6 +11,7 @@ use prog.Routine.{Routine}
 use types.Logic.{Logic}
 use contract.Lifetimes.{Lfts}
 use contract.Monad.{Fun}
+use denote.Bor.{Bor}
 use denote.Ref.{MutBor, at_last}
 use denote.Triple.Clauses.{AtExit}
 use lib.ListN.{get_or}
@@ -24,7 +25,7 @@ use Rattle.taking.specs.contracts.LinesAnswer as the-lines
 use Rattle.taking.specs.contracts.take_lines as take-lines
 use Rattle.taking.specs.contracts.route_line as route-line
 
-module _ {M : Type 1} {𝓤 : Ura M} (𝓛 : Logic 𝓤) (mem : Memory → SProp 𝓤) (run : Routine → Fun 𝓤) (κs : Lfts 2) (text book : MutBor (List ℕ)) where
+module _ {M : Type 1} {𝓤 : Ura M} (𝓛 : Logic 𝓤) (mem : Memory → SProp 𝓤) (run : Routine → Fun 𝓤) (κs : Lfts 2) (text : Bor (List ℕ)) (book : MutBor (List ℕ)) where
   pub one_take_lines : Only 𝓤 (λ (x : LinesAnswer × List ℕ). (take-lines.clauses 𝓛 mem run κs (text, (book, tt))).ensures tt x.0 (text, (at_last book x.1, tt)))
   one_take_lines =
       let here = came_there text.now in
@@ -37,6 +38,6 @@ module _ {M : Type 1} {𝓤 : Ura M} (𝓛 : Logic 𝓤) (mem : Memory → SProp
         alone = λ x c. let e = came_once text.now x.0 here.0.0 x.1 here.0.1 c here.1 in λ i. (e.0 i, e.1 i);
       }
 
-module _ {M : Type 1} {𝓤 : Ura M} (𝓛 : Logic 𝓤) (mem : Memory → SProp 𝓤) (run : Routine → Fun 𝓤) (κs : Lfts 1) (text : MutBor (List ℕ)) where
+module _ {M : Type 1} {𝓤 : Ura M} (𝓛 : Logic 𝓤) (mem : Memory → SProp 𝓤) (run : Routine → Fun 𝓤) (κs : Lfts 1) (text : Bor (List ℕ)) where
   pub one_route_line : (route : ℕ) (e : AtExit route-line.ended κs) → Only 𝓤 (λ r. (route-line.clauses 𝓛 mem run κs (text, (route, tt))).ensures tt r e)
   one_route_line route e = only_this 𝓤 _ coded_ℕ (get_or (r_lines_from 1 (meanings text.now)) route 0) (λ r. refl)

@@ -17,14 +17,14 @@ use record::BOOK_WORDS;
 use tables::Added;
 
 // What came of one line: it was taken, with what the signals of the last message fill then, or refused.
-#[derive(Drop)]
+#[derive(Clone, Copy)]
 pub enum Step {
     Taken(Filled),
     Refused(Refusal),
 }
 
 // What came of the lines: all passed, or one was refused, with its number.
-#[derive(Drop)]
+#[derive(Clone, Copy)]
 pub enum LinesAnswer {
     Passed,
     Refused(Refusal, u32),

@@ -3,7 +3,7 @@
 // of places don't matter. Whoever judges routes meets this statement, in whatever way; `gateway_checker` does.
 
 // Routes are named by their index in the table.
-#[derive(Drop)]
+#[derive(Clone, Copy)]
 pub enum Verdict {
     // the lowest route on a closed chain
     Loop(usize),

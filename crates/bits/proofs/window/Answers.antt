@@ -4,4 +4,4 @@ use borrow.Author.Rules.{rules}
 use Rattle.bits.proofs.window.Goals as goal
 
 pub returns : goal.returns
-returns c = field_is _ _ _ c.low_half_lem.ensures.0
+returns c = field_is _ _ _ c.low_half.ensures.0
