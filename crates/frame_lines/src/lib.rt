@@ -1,5 +1,7 @@
 // One frame line: an identifier, a tab, and the bytes of a frame as pairs of digits, byte 0 first. `read_frame_line` answers for
 // every slice and has no `requires`; `frame_of` is its room.
+#![tactic(auto)]
+
 ghost use Rattle.std.specs.Prelude.{◌≡◌};
 ghost use Rattle.frame_lines.specs.Meaning.{said_by, frame_line_says};
 ghost use Rattle.frame_lines.specs.Told.{told};

@@ -47,7 +47,7 @@ one_signal_length M = result_is (λ c. length (lines_text (signal_line (placemen
 pub one_route_length : (M : Type 1) → OneResult M route-length.ended (λ _. route-length.clauses)
 one_route_length M = result_is (λ c. length (lines_text (route_line (route_between c.arguments.0 c.arguments.1.0) ∷ []))) refl
 
-module _ {M : Type 1} {𝓤 : Ura M} (𝓛 : Logic 𝓤) (mem : Memory → SProp 𝓤) (run : Routine → Fun 𝓤) (κs : Lfts 1) (out : Bor (List ℕ)) (at : ℕ) where
+module _ {M : Type 1} {𝓤 : Ura M} (𝓛 : Logic 𝓤) (mem : Memory → SProp 𝓤) (run : Routine → Fun 𝓤) (κs : Lfts 1) (out : MutBor (List ℕ)) (at : ℕ) where
   pub one_put_message : (i : ℕ) → Only 𝓤 (λ (x : ℕ × List ℕ). (put-message.clauses 𝓛 mem run κs (out, (at, (i, tt)))).ensures tt x.0 (at_last out x.1, (at, (i, tt))))
   one_put_message i = one_put 𝓤 _ out.now at (lines_text (Message i ∷ [])) (λ x. refl)
 

@@ -1,5 +1,7 @@
 // Numbers for the places of a table of routes: in the column of the places where routes lead to, and then of those where they
 // start, a place's number is the index where it stands first. Places are looked for in a table of slots, so one pass numbers all.
+#![tactic(auto)]
+
 ghost use Rattle.std.specs.Prelude.{◌≡◌, ◌+◌, ◌<◌, ◌≤◌, length, get_or, ◌++◌};
 ghost use Rattle.numbering.specs.Numbers.{FirstAt, NumbersOf};
 ghost use Rattle.numbering.specs.Slots.{slot_count, slot_of, Stops, Laid};

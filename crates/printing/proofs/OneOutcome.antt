@@ -48,7 +48,7 @@ module _ {M : Type 1} (𝓤 : Ura M) (clause : ℕ × List ℕ → SProp 𝓤) (
         alone = λ x p i. (p.put.now_at i, p.put.now_there i);
       }
 
-module _ {M : Type 1} {𝓤 : Ura M} (𝓛 : Logic 𝓤) (mem : Memory → SProp 𝓤) (run : Routine → Fun 𝓤) (out : Bor (List ℕ)) (at : ℕ) where
+module _ {M : Type 1} {𝓤 : Ura M} (𝓛 : Logic 𝓤) (mem : Memory → SProp 𝓤) (run : Routine → Fun 𝓤) (out : MutBor (List ℕ)) (at : ℕ) where
   pub one_put_byte : (κs : Lfts 1) (b : ℕ) → Only 𝓤 (λ (x : ℕ × List ℕ). (put_byte.clauses 𝓛 mem run κs (out, (at, (b, tt)))).ensures tt x.0 (at_last out x.1, (at, (b, tt))))
   one_put_byte κs b = one_put 𝓤 _ out.now at (b ∷ []) (λ x. refl)
 

@@ -1,5 +1,7 @@
 // Which places each route leads on to, for a table of routes between numbered places: each number has a mask of the numbers that
 // chains lead to from it, and routes hand on what they lead to until nothing is new.
+#![tactic(auto)]
+
 ghost use Rattle.std.specs.Prelude.{◌≡◌, ◌*◌, ◌<◌, ◌≤◌, length, get_or};
 ghost use Rattle.masks.specs.Bit.{width};
 ghost use Rattle.reach.specs.Led.{Starts, Ends, Numbers, OnwardFilled, turn};

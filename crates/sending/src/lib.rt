@@ -1,6 +1,8 @@
 // The spread of a place, written out: a place sends along its routes and each route hands on to its place, so the work is
 // two functions in a cycle, which ends since the longest chain that remains falls. Each turn of it stands on the stack, so it keeps
 // as little as there is: the book and the room, each lent as one address, the place, and the number of a route.
+#![tactic(auto)]
+
 ghost use Rattle.std.specs.Prelude.{◌≡◌, ◌<◌, get_or, set};
 ghost use Rattle.record.specs.Limits.{route_limit};
 ghost use Rattle.record.specs.Columns.{route_count_of};

@@ -11,8 +11,7 @@ use mir.Val.{to_z, of_z, Fits, SFits}
 use mir.ValLaws.{to_z-of_z}
 use borrow.Author.Rules.{rules}
 use Rattle.catalogue.proofs.Readings.{mag_add}
-use Rattle.catalogue.proofs.classes.reading.Statement.{statement}
-use Rattle.catalogue.proofs.classes.reading.Tie as tie
+use Rattle.catalogue.proofs.classes.reading.Goals as goal
 
 module _ (c : tie.After-struct-known) where
   count : Fits w32 c.before.args.raw.0
@@ -42,23 +41,17 @@ module _ (c : tie.After-struct-known) where
       ap (λ (z : ℤ). z +ℤ to_z w64 (of_z w64 (to_z w32 (of_z w32 c.before.args.offset)))) (to_z-of_z w64 (pos p) product-fits)
       ∙ ap (λ (z : ℤ). pos p +ℤ z) (ap (λ (z : ℤ). to_z w64 (of_z w64 z)) offset-is ∙ to_z-of_z w64 c.before.args.offset offset-fits)
 
-cast-t4 : tie.Need-overflow-cast-t4
-cast-t4 c = search rules
+pub overflow_mul-result : goal.overflow_mul-result
+overflow_mul-result c = record { fits = omega (arith, small c) }
 
-mul-t6 : tie.Need-overflow-mul-t6
-mul-t6 c = record { fits = omega (arith, small c) }
+pub overflow_cast-result-3 : goal.overflow_cast-result-3
+overflow_cast-result-3 c = product-fits c
 
-cast-t7 : tie.Need-overflow-cast-t7
-cast-t7 c = product-fits c
+pub overflow_cast-result-4 : goal.overflow_cast-result-4
+overflow_cast-result-4 c = subst⁻¹ (λ (z : ℤ). SFits w64 z) (offset-is c) (offset-fits c)
 
-cast-t8 : tie.Need-overflow-cast-t8
-cast-t8 c = subst⁻¹ (λ (z : ℤ). SFits w64 z) (offset-is c) (offset-fits c)
+pub overflow_add-result : goal.overflow_add-result
+overflow_add-result c = subst⁻¹ (λ (z : ℤ). SFits w64 z) (sum_is c) (sum_fits c)
 
-add-t9 : tie.Need-overflow-add-t9
-add-t9 c = subst⁻¹ (λ (z : ℤ). SFits w64 z) (sum_is c) (sum_fits c)
-
-returns : tie.Need-returns
-returns c = ap (λ (z : ℤ). to_z w64 (of_z w64 z)) (sum_is c) ∙ to_z-of_z w64 (pos (c.before.args.raw.0 * c.before.args.resolution) +ℤ c.before.args.offset) (sum_fits c)
-
-pub reading-spec : {M : Type 1} → statement M
-reading-spec = tie.close (tie.spec cast-t4 mul-t6 cast-t7 cast-t8 add-t9 returns)
+pub returns : goal.returns
+returns c = ap (λ (z : ℤ). to_z w64 (of_z w64 z)) (sum_is c) ∙ to_z-of_z w64 (pos (c.args.raw.0 * c.args.resolution) +ℤ c.args.offset) (sum_fits c)
