@@ -65,6 +65,7 @@ module _ (raw : Raw) where
   class_given kind (inl e) = subst (λ (n : ℕ). (k : Class) × (mark_class n raw ≡ some k)) (sym e) (Invalid raw, refl)
   class_given kind (inr (inl e)) = subst (λ (n : ℕ). (k : Class) × (mark_class n raw ≡ some k)) (sym e) (Absent raw, refl)
   class_given kind (inr (inr (inl e))) = subst (λ (n : ℕ). (k : Class) × (mark_class n raw ≡ some k)) (sym e) (Error raw, refl)
+  class_given kind (inr (inr (inr (inr x4)))) = elim x4 [ ]
   class_given kind (inr (inr (inr (inl e)))) = subst (λ (n : ℕ). (k : Class) × (mark_class n raw ≡ some k)) (sym e) (Reserved raw, refl)
 
   -- what a mark says of a count: a class, or that it has it not

@@ -14,18 +14,6 @@ use Rattle.catalogue.specs.Class.{between}
 use Rattle.catalogue.proofs.Marks.{has_kind}
 use Rattle.catalogue.proofs.classes.class_in.Goals as goal
 
-module _ (c : tie.Else1) where
-  no1 : between c.before.before.args.first1 c.before.before.args.last1 c.before.before.args.raw.0 ≡ false
-  no1 = sym c.before.is_between.ensures ∙ c.if1.false
-
-module _ (c : tie.Else2) where
-  no2 : between c.before.before.before.before.args.first2 c.before.before.before.before.args.last2 c.before.before.before.before.args.raw.0 ≡ false
-  no2 = sym c.before.is-between2.ensures ∙ c.if2.false
-
-module _ (c : tie.Else3) where
-  no3 : between c.before.before.before.before.before.before.args.first3 c.before.before.before.before.before.before.args.last3 c.before.before.before.before.before.before.args.raw.0 ≡ false
-  no3 = sym c.before.is-between3.ensures ∙ c.if3.false
-
 pub marked-requires : goal.marked-requires
 marked-requires c = has_kind _ _ c.requires.0 (sym c.is_between.ensures ∙ c.if-is_between.true)
 
@@ -38,32 +26,23 @@ marked-requires-then-is_between-2 c = has_kind _ _ c.requires.1 (sym c.is_betwee
 
 pub returns-then-is_between-2 : goal.returns-then-is_between-2
 returns-then-is_between-2 c =
-    let e2 = c.before.before.before in
-    simp (sym c.marked-then-is_between-2.ensures, no1 e2, sym c.is_between-2.ensures ∙ c.if-is_between-2.true)
+    simp (sym c.marked-then-is_between-2.ensures, sym c.is_between.ensures ∙ c.if-is_between.false, sym c.is_between-2.ensures ∙ c.if-is_between-2.true)
 
 pub marked-requires-then-is_between-3 : goal.marked-requires-then-is_between-3
 marked-requires-then-is_between-3 c = has_kind _ _ c.requires.2 (sym c.is_between-3.ensures ∙ c.if-is_between-3.true)
 
 pub returns-then-is_between-3 : goal.returns-then-is_between-3
 returns-then-is_between-3 c =
-    let e3 = c.before.before.before in
-    let e2 = e3.before.before in
-    simp (sym c.marked-then-is_between-3.ensures, no1 e2, no2 e3, sym c.is_between-3.ensures ∙ c.if-is_between-3.true)
+    simp (sym c.marked-then-is_between-3.ensures, sym c.is_between.ensures ∙ c.if-is_between.false, sym c.is_between-2.ensures ∙ c.if-is_between-2.false, sym c.is_between-3.ensures ∙ c.if-is_between-3.true)
 
 pub returns-then-is_between-4 : goal.returns-then-is_between-4
 returns-then-is_between-4 c =
-    let e4 = c.before.before.before in
-    let e3 = e4.before.before in
-    let e2 = e3.before.before in
-    let a = e2.before.before.args in
+    let a = c.args in
     let so : SFits w32 a.offset = search rules in
-    simp (no1 e2, no2 e3, no3 e4, sym c.is_between-4.ensures ∙ c.if-is_between-4.true)
+    simp (sym c.is_between.ensures ∙ c.if-is_between.false, sym c.is_between-2.ensures ∙ c.if-is_between-2.false, sym c.is_between-3.ensures ∙ c.if-is_between-3.false, sym c.is_between-4.ensures ∙ c.if-is_between-4.true)
     (ap (λ (z : ℤ). Value (record { 0 = z }))
     (c.reading.ensures ∙ ap (λ (z : ℤ). pos (a.raw.0 * a.resolution) +ℤ z) (to_z-of_z w32 a.offset so)))
 
 pub returns : goal.returns
 returns c =
-    let e4 = c.before.before in
-    let e3 = e4.before.before in
-    let e2 = e3.before.before in
-    simp (no1 e2, no2 e3, no3 e4, sym c.is_between-4.ensures ∙ c.if-is_between-4.false)
+    simp (sym c.is_between.ensures ∙ c.if-is_between.false, sym c.is_between-2.ensures ∙ c.if-is_between-2.false, sym c.is_between-3.ensures ∙ c.if-is_between-3.false, sym c.is_between-4.ensures ∙ c.if-is_between-4.false)

@@ -11,17 +11,8 @@ use Rattle.catalogue.proofs.classes.low_bits.Goals as goal
 power : (bits : ℕ) → 1 + bits ≤ 64 → (1 * 2 ^ bits) % 2 ^ 64 ≡ 2 ^ bits
 power bits h = shl_exact 1 bits 64 (omega arith) h ∙ one-mul (2 ^ bits)
 
-module _ (c : tie.Start) where
-  whole : (1 * 2 ^ c.args.bits) % 2 ^ 64 ≡ 2 ^ c.args.bits
-  whole = power c.args.bits (omega (arith, c.requires))
-
--- LEFT nonzero-rem-result
--- rem-result : tie.Need-nonzero-rem-result
--- rem-result c = omega (arith, whole c, pow_pos c.args.bits)
---
-
 pub overflow_cast-result-3 : goal.overflow_cast-result-3
 overflow_cast-result-3 c = omega (arith, mod-le c.args.window ((1 * 2 ^ c.args.bits) % 2 ^ 64), c.ranges.window)
 
 pub returns : goal.returns
-returns c = ap (λ (m : ℕ). c.args.window % m) (whole c)
+returns c = ap (λ (m : ℕ). c.args.window % m) (power c.args.bits (omega (arith, c.requires)))

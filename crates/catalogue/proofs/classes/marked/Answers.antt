@@ -14,6 +14,7 @@ last-kind : (k : ℕ) → IsKind k → (k ≡ invalid_kind → ⊥) → (k ≡ a
 last-kind k (inl e) i a r = absurd (i e)
 last-kind k (inr (inl e)) i a r = absurd (a e)
 last-kind k (inr (inr (inl e))) i a r = absurd (r e)
+last-kind k (inr (inr (inr (inr x7)))) i a r = elim x7 [ ]
 last-kind k (inr (inr (inr (inl e)))) i a r = e
 
 pub returns-then-kind-eq-INVALID : goal.returns-then-kind-eq-INVALID

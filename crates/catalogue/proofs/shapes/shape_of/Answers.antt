@@ -4,4 +4,4 @@ use Rattle.catalogue.proofs.Arms.{by_number, by_none}
 use Rattle.catalogue.proofs.shapes.shape_of.Goals as goal
 
 pub returns-in_default : goal.returns-in_default
-returns-in_default c = by_none c.args.number c.in-201.rest
+returns-in_default c = by_none c.args.number c.in_default.in_default-own.rest
