@@ -35,7 +35,7 @@ one_answer 𝓤 clause text says =
       alone = alone text;
     }
 
-module _ {M : Type 1} {𝓤 : Ura M} (𝓛 : Logic 𝓤) (mem : Memory → SProp 𝓤) (run : Routine → Fun 𝓤) (κs : Lfts 2) (text book : Bor (List ℕ)) where
+module _ {M : Type 1} {𝓤 : Ura M} (𝓛 : Logic 𝓤) (mem : Memory → SProp 𝓤) (run : Routine → Fun 𝓤) (κs : Lfts 2) (text : Bor (List ℕ)) (book : MutBor (List ℕ)) where
   pub one_read : Only 𝓤 (λ (x : Answer × List ℕ). (read.clauses 𝓛 mem run κs (text, (book, tt))).ensures tt x.0 (text, (at_last book x.1, tt)))
   one_read = one_answer 𝓤 _ text.now (λ x. refl)
 

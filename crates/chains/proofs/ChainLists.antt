@@ -44,6 +44,7 @@ module _ (fs ts : List ℕ) where
       (Memᴰ.cases_cons m)
 
   begin_by : (g : ℕ → List (List ℕ)) (routes : List ℕ) (i : ℕ) (c : List ℕ) → Memᴰ i routes → (c ≡ []) ⊎ Memᴰ c (g (get_or ts i 0)) → Memᴰ (i ∷ c) (chains_beginning ts g routes)
+  begin_by g [] i c x'' on = elim x'' [ ]
   begin_by g (j ∷ routes) i c (Memᴰ.head e) (inl z) = rw (e, z) (Memᴰ.head refl)
   begin_by g (j ∷ routes) i c (Memᴰ.head e) (inr m) =
       subst (λ (x : ℕ). Memᴰ (x ∷ c) (chains_beginning ts g (j ∷ routes))) (sym e)

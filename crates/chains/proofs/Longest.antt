@@ -17,6 +17,7 @@ longest_of [] = 0
 longest_of (c ∷ l) = max (length c) (longest_of l)
 
 of_ge : (l : List (List ℕ)) (c : List ℕ) → Memᴰ c l → length c ≤ longest_of l
+of_ge [] c x' = elim x' [ ]
 of_ge (d ∷ l) c (Memᴰ.head e) = omega (arith, ap length e)
 of_ge (d ∷ l) c (Memᴰ.tail m) = omega (arith, of_ge l c m)
 

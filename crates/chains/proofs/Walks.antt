@@ -18,6 +18,7 @@ module _ (fs ts : List ℕ) where
   Through p i q = (a b : List ℕ) × (i < length fs) × Walk fs ts p a (get_or fs i 0) × Walk fs ts (get_or ts i 0) b q
 
   pub through : (p i : ℕ) (c : List ℕ) (q : ℕ) → Memᴰ i c → Walk fs ts p c q → Through p i q
+  through p i [] q x'' _ = elim x'' [ ]
   through p i (x ∷ c) q (Memᴰ.head e) (l, f, w) =
       ([], c, subst (λ (y : ℕ). y < length fs) (sym e) l, sym f ∙ ap (λ (y : ℕ). get_or fs y 0) (sym e), subst (λ (y : ℕ). Walk fs ts (get_or ts y 0) c q) (sym e) w)
   through p i (x ∷ c) q (Memᴰ.tail m) (l, f, w) = more (through (get_or ts x 0) i c q m w)

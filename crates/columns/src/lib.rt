@@ -1,4 +1,6 @@
 // One column of a book: a part of it, where a message's part begins, whether a number stands in it, and whether identifiers repeat.
+#![tactic(auto)]
+
 ghost use Rattle.std.specs.Prelude.{◌≡◌, [], ◌∷◌, ◌-◌, ◌≤◌, ◌<◌, length, get_or, take, drop};
 ghost use Rattle.books.specs.Lines.{is_in};
 ghost use Rattle.record.specs.Limits.{message_limit, signal_limit};

@@ -1,5 +1,7 @@
 // A reading as a double, in the printed unit itself: for `dash`, which answers it, and for `signal_lines`, which prints its bits. Both
 // functions ask that the thousandths are no more than a double holds exactly, as those of every value of the catalogue are.
+#![tactic(auto)]
+
 ghost use Rattle.std.specs.Prelude.{◌≡◌};
 ghost use Rattle.std.specs.Float.{binary64};
 ghost use Rattle.std.specs.Float.Ieee.{to_bits};

@@ -24,7 +24,7 @@ module _ (fs ts numbers : List ℕ) (picks : Picks (length fs) numbers) where
       let h = within k l in
       let from = map_at (λ (i : ℕ). get_or fs i 0) numbers 0 0 k h in
       let to = map_at (λ (i : ℕ). get_or ts i 0) numbers 0 0 k h in
-      (picks (get_or numbers k 0) (mem_at numbers 0 k h), sym from ∙ f, subst (λ (x : ℕ). Walk fs ts x (entries_at numbers c) q) to (walk_old _ c q w))
+      (picks (get_or numbers k 0) (mem_at numbers 0 k h), sym from ∙ f, subst (λ (x : ℕ). Walk fs ts x (entries_at numbers c) q) to (walk_old (get_or (entries_at ts numbers) k 0) c q w))
 
   pub chain_old : (p : ℕ) (c : List ℕ) (q : ℕ) → Chain (entries_at fs numbers) (entries_at ts numbers) p c q → Chain fs ts p (entries_at numbers c) q
   chain_old p [] q w = absurd w

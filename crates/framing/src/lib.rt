@@ -1,5 +1,6 @@
 // What reading and packing a frame answer. specs/ says what a frame reads as and what is packed, over the messages of a
 // book; proofs/ has the laws, with the two ways between reading and packing. The code is in the crate `frames`.
+#![tactic(auto)]
 
 // What reading a frame answers.
 #[derive(Clone, Copy)]

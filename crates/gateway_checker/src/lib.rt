@@ -1,5 +1,7 @@
 // The gateway's checker: the verdict on a table of routes, found by numbers and masks. What it says is stated over chains, in
 // crate `verdict`; how it is found is said only here.
+#![tactic(auto)]
+
 ghost use Rattle.std.specs.Prelude.{◌≡◌, ℕ, ◌-◌, ◌<◌, ◌≤◌, length, take, drop};
 ghost use Rattle.chains.specs.Chain.{IsSound};
 ghost use Rattle.chains.specs.Tells.{Tells};

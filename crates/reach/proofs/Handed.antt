@@ -21,6 +21,7 @@ use Rattle.reach.proofs.Growing.{total_set, set_same}
 module _ (starts ends : List ℕ) where
   -- a chain is a walk
   pub as_walk : (p : ℕ) (c : List ℕ) (q : ℕ) → Chain starts ends p c q → Walk starts ends p c q
+  as_walk p [] q w = elim w [ ]
   as_walk p (i ∷ c) q w = w
 
   -- route j hands on: w is what it leads to, and v what its start has then

@@ -48,7 +48,7 @@ one_judged 𝓤 clause w (b, h) refusal new answers says =
       alone = λ x s. let e = judged_once (refusal b) b (new b) x.0 r x.1 after (s b h) here in λ i. (e.0 i, e.1 i);
     }
 
-module _ {M : Type 1} {𝓤 : Ura M} (𝓛 : Logic 𝓤) (mem : Memory → SProp 𝓤) (run : Routine → Fun 𝓤) (κs : Lfts 1) (book : Bor (List ℕ)) where
+module _ {M : Type 1} {𝓤 : Ura M} (𝓛 : Logic 𝓤) (mem : Memory → SProp 𝓤) (run : Routine → Fun 𝓤) (κs : Lfts 1) (book : MutBor (List ℕ)) where
   pub one_messages_taken : Only 𝓤 (λ (r : Bool). (messages-taken.clauses 𝓛 mem run κs (book, tt)).ensures tt r (book, tt))
   one_messages_taken = only_this 𝓤 _ coded_bool (messages_taken_spec book.now) (λ r. refl)
 
@@ -60,7 +60,7 @@ module _ {M : Type 1} {𝓤 : Ura M} (𝓛 : Logic 𝓤) (mem : Memory → SProp
       → Only 𝓤 (λ (x : Added × List ℕ). (add-route.clauses 𝓛 mem run κs (book, (a, (i, (c, (j, tt)))))).ensures tt x.0 (at_last book x.1, (a, (i, (c, (j, tt))))))
   one_add_route a i c j h = one_judged 𝓤 _ book.now h (λ b. route_refusal b.routes a i c j) (λ b. with_route b (route a i c j)) (λ b. route_answer b.routes a i c j) (λ x. refl)
 
-module _ {M : Type 1} {𝓤 : Ura M} (𝓛 : Logic 𝓤) (mem : Memory → SProp 𝓤) (run : Routine → Fun 𝓤) (κs : Lfts 4) (book above bounds widths : Bor (List ℕ)) where
+module _ {M : Type 1} {𝓤 : Ura M} (𝓛 : Logic 𝓤) (mem : Memory → SProp 𝓤) (run : Routine → Fun 𝓤) (κs : Lfts 4) (book : MutBor (List ℕ)) (above bounds widths : Bor (List ℕ)) where
   pub one_add_signal : (filled : Filled) (number start : ℕ) → OfBookFilled book.now filled
       → Only 𝓤 (λ (x : AddedSignal × List ℕ). (add-signal.clauses 𝓛 mem run κs (book, (filled, (number, (start, (above, (bounds, (widths, tt)))))))).ensures tt x.0 (at_last book x.1, (filled, (number, (start, (above, (bounds, (widths, tt))))))))
   one_add_signal filled number start (b, h) =

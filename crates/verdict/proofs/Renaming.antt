@@ -21,6 +21,7 @@ module _ (fs ts gs us : List ℕ) (f : ℕ → ℕ) (r : Renames fs ts gs us f) 
   walk p (j ∷ c) q (l, e, w) = (omega (arith, r.count), r.from j l ∙ ap f e, subst (λ (x : ℕ). Walk gs us x c (f q)) (sym (r.to j l)) (walk (get_or ts j 0) c q w))
 
   chain : (p : ℕ) (c : List ℕ) (q : ℕ) → Chain fs ts p c q → Chain gs us (f p) c (f q)
+  chain p [] q w = elim w [ ]
   chain p (j ∷ c) q w = walk p (j ∷ c) q w
 
   closed_on : (i : ℕ) → OnClosed fs ts i → OnClosed gs us i

@@ -26,7 +26,7 @@ use Rattle.writing.specs.contracts.put_identifier as put_identifier_law
 pub one_decimal_width : (M : Type 1) → OneResult M decimal-width.ended (λ _. decimal-width.clauses)
 one_decimal_width M = result_is (λ c. decimal_width_spec c.arguments.0) refl
 
-module _ {M : Type 1} {𝓤 : Ura M} (𝓛 : Logic 𝓤) (mem : Memory → SProp 𝓤) (run : Routine → Fun 𝓤) (κs : Lfts 1) (out : Bor (List ℕ)) (at : ℕ) where
+module _ {M : Type 1} {𝓤 : Ura M} (𝓛 : Logic 𝓤) (mem : Memory → SProp 𝓤) (run : Routine → Fun 𝓤) (κs : Lfts 1) (out : MutBor (List ℕ)) (at : ℕ) where
   pub one_put_digits : (k n base : ℕ) → Only 𝓤 (λ (x : List ℕ). (put-digits.clauses 𝓛 mem run κs (out, (at, (k, (n, (base, tt)))))).ensures tt tt (at_last out x, (at, (k, (n, (base, tt))))))
   one_put_digits k n base = only_this 𝓤 _ (coded_list coded_ℕ) (sets out.now at (digits_of_spec base k n)) (λ x. refl)
 

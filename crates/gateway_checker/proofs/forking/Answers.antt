@@ -1,0 +1,38 @@
+-- `gateway_checker::forking` meets its contract: what was seen is what the routes passed lead on to, by where they start. Assumes nothing.
+use mathlib.Core.Path.{sym, ◌∙◌, subst}
+use mathlib.Core.Logic.{⊎_elim}
+use Prim.Native.Nat.{◌-◌, ◌+◌}
+use lib.ListN.{set}
+use Rattle.gateway_checker.proofs.Gathering.{Gathering, gathering_start, gathering_fork, gathering_keep, gathering_end}
+use borrow.Author.Rules.{rules}
+use Rattle.gateway_checker.proofs.forking.Goals as goal
+
+pub loop-t-init : goal.loop-t-init
+loop-t-init c = gathering_start _ _ _
+
+pub loop-t-preserved : goal.loop-t-preserved
+loop-t-preserved c =
+    let at-if1 = c.if-meet in
+    let at_meet = c.meet in
+    let at-start-of = c.start_of-start in
+    let at-nth = c.nth-a in
+    let at-loop-test = c.loop-t-test in
+    let at-loop = c.loop-t in
+    let at-args = c.args in
+    let starts = at-args.starts.now in
+    let onward = at-args.onward.now in
+    let seen = at-loop.seen in
+    let t = at-loop.t in
+    let a = at-nth.result in
+    let s = at-start-of.result in
+    let v = c.either.result in
+    let Then = Gathering starts onward at-args.down (t + 1) (set seen s v) in
+    let fork = gathering_fork starts onward at-args.down t seen at-loop.forks at-loop.invariant at-loop-test.true a s at-nth.ensures.0 at-start-of.ensures.0 at-start-of.ensures.1 v c.either.ensures in
+    let keep = gathering_keep starts onward at-args.down t seen at-loop.forks at-loop.invariant at-loop-test.true a s at-nth.ensures.0 at-start-of.ensures.0 at-start-of.ensures.1 v c.either.ensures in
+    ⊎_elim
+    (λ w. subst Then (sym w.2) (fork w.1.result (sym at_meet.ensures ∙ w.0.taken) w.1.ensures))
+    (λ w. subst Then (sym w.1) (keep (sym at_meet.ensures ∙ w.0.left)))
+    at-if1.branch
+
+pub returns : goal.returns
+returns c = gathering_end _ _ _ _ _ _ c.loop-t.invariant c.loop-t-test.false

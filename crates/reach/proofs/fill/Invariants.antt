@@ -1,0 +1,15 @@
+-- `reach::fill` meets its contract: the masks of the first i routes say what each leads on to. Assumes nothing.
+use mathlib.Core.Path.{refl}
+use Prim.Native.Nat.{◌-◌, ◌*◌, ◌<◌}
+use native.Mathlib.Omega.{arith}
+use lib.ListN.{length}
+use Rattle.masks.specs.Bit.{width}
+use Rattle.reach.proofs.Leading.{Leading, real_start, tells_one, leading_start, leading_more, leading_end}
+use borrow.Author.Rules.{rules}
+use Rattle.reach.proofs.fill.Given as goal
+
+abbrev pub invariant-loop-i : goal.invariant-loop-i
+invariant-loop-i l = Leading l.starts l.ends l.initial.onward l.onward l.i
+
+abbrev pub decreases-loop-i : goal.decreases-loop-i
+decreases-loop-i l = length l.starts - l.i

@@ -1,0 +1,15 @@
+-- `reach::pass` meets its contract: the routes of the turns passed have handed on. Assumes nothing.
+use Prim.Native.Nat.{◌-◌, ◌≤◌}
+use native.Mathlib.Omega.{arith}
+use lib.ListN.{length}
+use Rattle.reach.specs.Handing.{Handing}
+use Rattle.reach.proofs.Handed.{handing_none, handing_both}
+use Rattle.reach.proofs.Passing.{Turned, turned_none, turned_more, turned_all, handing_for}
+use borrow.Author.Rules.{rules}
+use Rattle.reach.proofs.pass.Given as goal
+
+abbrev pub invariant-loop-t : goal.invariant-loop-t
+invariant-loop-t l = (l.t ≤ l.n) × Handing l.starts l.ends (Turned l.n l.down l.t) l.initial.masks l.masks l.new
+
+abbrev pub decreases-loop-t : goal.decreases-loop-t
+decreases-loop-t l = l.n - l.t
