@@ -5,6 +5,8 @@
 // function has a `requires`: an observation with a count too wide for its signal is refused, and the state is kept.
 // `specs/Rules.antt` has the rule, over the six conditions of `specs/Conditions.antt`. The tester stands above the library: of it
 // this crate calls one entry point, `catalogue::class_of`.
+#![tactic(auto)]
+
 mod conditions;
 mod widths;
 

@@ -3,6 +3,8 @@
 // For a gateway that has read the counts of table 19 into a slice, row 1901 first. `sum` has no `requires`: a slice of
 // another length, or with a count too wide for its signal, is refused and nothing is summed. `specs/Sum.antt` says what
 // is counted over which rows.
+#![tactic(auto)]
+
 ghost use Rattle.std.specs.Prelude.{◌≡◌, cond, ◌≤◌, max, length};
 ghost use Rattle.faults.specs.Rows.{row_count, rows_between, level_rows, one_bit_rows, InTable};
 ghost use Rattle.faults.specs.Counts.{raw_of_spec, level_of_spec, stands_at_spec, raw_below, how_many_spec, all_of, highest_of_spec};

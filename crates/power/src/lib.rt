@@ -4,6 +4,8 @@
 // For a gateway that keeps a `State`, at first `State::start()`, and calls `step` with each observation. No public function
 // has a `requires`: an observation with a relay that is neither open nor closed, with another count over its highest, or with
 // a share outside 50 to 100, is refused, and the state is kept. `specs/Rules.antt` has document 01's rules 1 to 5.
+#![tactic(auto)]
+
 mod observed;
 mod rules;
 mod shares;

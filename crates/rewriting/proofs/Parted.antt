@@ -31,6 +31,7 @@ m_or_s_only l e = go (is_rline l) refl
 joined : (ps : List (List ℕ)) → MSAndRLines (lines_of ps) → join newline ps ≡ text_of_lines (map line_bytes (lines_of ps))
 unfolding join lines_of text_of_lines
 joined [] k = refl
+joined ((_ ∷ _) ∷ []) k = elim k [ ]
 joined ([] ∷ []) k = refl
 joined (l ∷ p ∷ ps) (m_or_s_line e k) = ap (λ (t : List ℕ). l ++ newline ∷ t) (joined (p ∷ ps) k)
 joined (l ∷ p ∷ ps) (r_line e k) = ap (λ (t : List ℕ). l ++ newline ∷ t) (joined (p ∷ ps) k)

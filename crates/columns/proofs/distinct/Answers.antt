@@ -14,6 +14,7 @@ use borrow.Author.Rules.{rules}
 use Rattle.columns.proofs.Counting.{within, past}
 use Rattle.columns.proofs.Slots.{Used, unused, used_more, distinct_end, distinct_over, distinct_again, distinct_next}
 use Rattle.columns.proofs.distinct.Goals as goal
+use Rattle.columns.proofs.distinct.Goals.{then-used-place-ne0+else-holds, else-used-place-ne0}
 
 -- LEFT slice-aggregate-init
 -- slice-aggregate-holds : tie.Need-slice-aggregate-init invariant-loop decreases-loop
@@ -45,10 +46,10 @@ pub loop-left-preserved : goal.loop-left-preserved
 loop-left-preserved c = let s = c.args.ids.now in
     let i = c.loop-left.at in
     let m : is_in (get_or s i 0) (take i s) ≡ false =
-    ⊎_elim
-    (λ w. sym w.2.ensures ∙ w.3.left)
-    (λ w. unused s c.loop-left.used i (get_or s i 0) c.slot-place.result c.slot-place.ensures.0 w.left c.loop-left.invariant.2)
-    c.if-used-place-ne0.branch
+    elim c.if-used-place-ne0.branch [
+      | then-used-place-ne0+else-holds w ↦ sym w.holds.ensures ∙ w.if-holds.false
+      | else-used-place-ne0 w ↦ unused s c.loop-left.used i (get_or s i 0) c.slot-place.result c.slot-place.ensures.0 w.if-used-place-ne0.false c.loop-left.invariant.2
+    ]
     in
     (search rules, distinct_next s i (within c.loop-left.invariant.3 c.loop-left-test.true) c.if-identifier-ge-IDENTIFIER_LIMIT.false m ∙ c.loop-left.invariant.1, used_more s c.loop-left.used i c.slot-place.result c.slot-place.ensures.0 (omega arith) c.loop-left.invariant.2, omega (arith, c.loop-left.invariant.3, c.loop-left-test.true))
 

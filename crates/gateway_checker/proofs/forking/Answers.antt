@@ -6,13 +6,13 @@ use lib.ListN.{set}
 use Rattle.gateway_checker.proofs.Gathering.{Gathering, gathering_start, gathering_fork, gathering_keep, gathering_end}
 use borrow.Author.Rules.{rules}
 use Rattle.gateway_checker.proofs.forking.Goals as goal
+use Rattle.gateway_checker.proofs.forking.Goals.{then-meet, else-meet}
 
 pub loop-t-init : goal.loop-t-init
 loop-t-init c = gathering_start _ _ _
 
 pub loop-t-preserved : goal.loop-t-preserved
 loop-t-preserved c =
-    let at-if1 = c.if-meet in
     let at_meet = c.meet in
     let at-start-of = c.start_of-start in
     let at-nth = c.nth-a in
@@ -29,10 +29,10 @@ loop-t-preserved c =
     let Then = Gathering starts onward at-args.down (t + 1) (set seen s v) in
     let fork = gathering_fork starts onward at-args.down t seen at-loop.forks at-loop.invariant at-loop-test.true a s at-nth.ensures.0 at-start-of.ensures.0 at-start-of.ensures.1 v c.either.ensures in
     let keep = gathering_keep starts onward at-args.down t seen at-loop.forks at-loop.invariant at-loop-test.true a s at-nth.ensures.0 at-start-of.ensures.0 at-start-of.ensures.1 v c.either.ensures in
-    ⊎_elim
-    (λ w. subst Then (sym w.2) (fork w.1.result (sym at_meet.ensures ∙ w.0.taken) w.1.ensures))
-    (λ w. subst Then (sym w.1) (keep (sym at_meet.ensures ∙ w.0.left)))
-    at-if1.branch
+    elim c.if-meet.branch [
+      | then-meet w ↦ subst Then (sym w.forks-is) (fork w.with-forks.result (sym at_meet.ensures ∙ w.if-meet.true) w.with-forks.ensures)
+      | else-meet w ↦ subst Then (sym w.forks-is) (keep (sym at_meet.ensures ∙ w.if-meet.false))
+    ]
 
 pub returns : goal.returns
 returns c = gathering_end _ _ _ _ _ _ c.loop-t.invariant c.loop-t-test.false

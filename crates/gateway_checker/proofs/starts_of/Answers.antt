@@ -11,6 +11,7 @@ use Rattle.masks.specs.Bit.{width}
 use Rattle.gateway_checker.proofs.Starting.{Starting, starting_start, starting_set, starting_keep, starting_end}
 use borrow.Author.Rules.{rules}
 use Rattle.gateway_checker.proofs.starts_of.Goals as goal
+use Rattle.gateway_checker.proofs.starts_of.Goals.{then-has-start, else-has-start}
 
 pub loop-a-init : goal.loop-a-init
 loop-a-init c = starting_start _ _
@@ -34,11 +35,13 @@ loop-a-preserved c =
     let Then = Starting at-args.starts.now at-args.routes (a + 1) in
     let sets = starting_set at-args.starts.now at-args.routes a at-loop.at at-loop.invariant at-loop-test.true s in
     let keep = starting_keep at-args.starts.now at-args.routes a at-loop.at at-loop.invariant at-loop-test.true s at-start-of.ensures.0 in
-    ⊎_elim
-    (λ w. let both = (and-eq-true_iff has (ltb s width)).0 w.0.taken in
-    subst Then (sym w.2) (sets w.1.result at-start-of.ensures.0 (sym at_has.ensures ∙ both.0) (ltb-true _ _ both.1) w.1.ensures))
-    (λ w. subst Then (sym w.1) (keep (λ h l. true≢false (sym ((and-eq-true_iff has (ltb s width)).1 (at_has.ensures ∙ h, lt-ltb _ _ l)) ∙ w.0.left))))
-    c.if-has-start.branch
+    elim c.if-has-start.branch [
+      | then-has-start w ↦
+          let both = (and-eq-true_iff has (ltb s width)).0 w.if-has-start.true in
+          subst Then (sym w.at-is) (sets w.with-at.result at-start-of.ensures.0 (sym at_has.ensures ∙ both.0) (ltb-true _ _ both.1) w.with-at.ensures)
+      | else-has-start w ↦
+          subst Then (sym w.at-is) (keep (λ h l. true≢false (sym ((and-eq-true_iff has (ltb s width)).1 (at_has.ensures ∙ h, lt-ltb _ _ l)) ∙ w.if-has-start.false)))
+    ]
 
 pub returns : goal.returns
 returns c = starting_end _ _ _ _ c.loop-a.invariant c.loop-a-test.false

@@ -1,0 +1,13 @@
+-- `charging::step` meets its contract: the test that led to each `return` says whether it is refused. Assumes nothing.
+use borrow.Author.Tests.{not-true, not-false}
+use Rattle.charging.specs.Refusals.{charge_step_of}
+use borrow.Author.Rules.{rules}
+use Rattle.charging.proofs.step.Goals as goal
+
+pub returns-then-not-all_fit : goal.returns-then-not-all_fit
+unfolding charge_step_of
+returns-then-not-all_fit c = simp (← c.all_fit.ensures, not-true c.all_fit.result c.if-not-all_fit.true)
+
+pub returns : goal.returns
+unfolding charge_step_of
+returns c = simp (← c.all_fit.ensures, not-false c.all_fit.result c.if-not-all_fit.false, c.next_charge-next.ensures)

@@ -1,0 +1,42 @@
+-- `charging::widths::fits` meets its contract: of the classes the first arm has the one, and the other arm the rest. Assumes nothing.
+-- what stands before `TooWide` in the enum is below its tag
+use mathlib.Core.Path.{◌≡◌, refl, ap, ◌∙◌}
+use mathlib.Core.Bool.{true, not}
+use mathlib.Core.List.{[], ◌∷◌}
+use mathlib.Core.Logic.{inl, inr}
+use Prim.Native.Nat.{ℕ}
+use native.Mathlib.Omega.{arith}
+use lib.Dec.{eqb}
+use types.Run.{OneOf}
+use denote.Enum.Declared.{tag_of}
+use Rattle.catalogue.specs.declared.Class.{Class}
+use Rattle.catalogue.specs.declared.Class.TheVariants.{Value, Invalid, Absent, Error, Reserved, Outside, NotInCatalogue, TooWide}
+use Rattle.catalogue.specs.Class.{class_number}
+use Rattle.catalogue.specs.contracts.Class.{the_type}
+use borrow.Author.Rules.{rules}
+use Rattle.charging.proofs.widths.fits.Goals as goal
+
+below : {x : ℕ} → OneOf (0 ∷ 1 ∷ 2 ∷ 3 ∷ 4 ∷ 5 ∷ 6 ∷ []) x → x ≡ 7 → ⊥
+below (inl e) f = omega (arith, e, f)
+below (inr (inl e)) f = omega (arith, e, f)
+below (inr (inr (inl e))) f = omega (arith, e, f)
+below (inr (inr (inr (inl e)))) f = omega (arith, e, f)
+below (inr (inr (inr (inr (inl e))))) f = omega (arith, e, f)
+below (inr (inr (inr (inr (inr (inl e)))))) f = omega (arith, e, f)
+below (inr (inr (inr (inr (inr (inr e)))))) f = omega (arith, e, f)
+
+another : (k : Class) → (tag_of the_type k ≡ 7 → ⊥) → true ≡ not (eqb (class_number k) 26)
+another (Value t) h = refl
+another (Invalid raw) h = refl
+another (Absent raw) h = refl
+another (Error raw) h = refl
+another (Reserved raw) h = refl
+another (Outside raw) h = refl
+another NotInCatalogue h = refl
+another TooWide h = absurd (h refl)
+
+pub returns-in-TooWide : goal.returns-in-TooWide
+returns-in-TooWide c = simp (← c.class_of.ensures, c.in-TooWide.is)
+
+pub returns-in_default : goal.returns-in_default
+returns-in_default c = another c.class_of.result (below c.in-TooWide.keys2) ∙ ap (λ (k : Class). not (eqb (class_number k) 26)) c.class_of.ensures

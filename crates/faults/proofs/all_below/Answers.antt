@@ -1,0 +1,22 @@
+-- `faults::all_below` meets its contract: what was seen and what is left make the whole. Assumes nothing.
+use Prim.Native.Nat.{◌+◌, ◌-◌, ◌≤◌}
+use mathlib.Core.Path.{◌≡◌, refl}
+use mathlib.Core.Bool.{◌&&◌}
+use borrow.Author.Rules.{rules}
+use Rattle.faults.specs.Rows.{rows_between}
+use Rattle.faults.specs.Counts.{raw_below, all_of}
+use Rattle.faults.proofs.Loops.{all_next, all_end}
+use Rattle.faults.proofs.all_below.Goals as goal
+
+pub loop-row-init : goal.loop-row-init
+loop-row-init c = (search rules, refl)
+
+pub loop-row-preserved : goal.loop-row-preserved
+loop-row-preserved c = (
+  search rules,
+  all_next _ _ (search rules) (raw_below c.args.counts.now c.args.limit) c.loop-row.all _ _
+      c.loop-row.invariant.1 c.is_below-all.ensures,
+)
+
+pub returns : goal.returns
+returns c = all_end _ _ (search rules) (raw_below c.args.counts.now c.args.limit) _ _ c.loop-row.invariant.1

@@ -1,0 +1,7 @@
+-- `faults::highest_level` meets its contract. Assumes nothing.
+use Rattle.faults.proofs.Parts.{highest_parts}
+use borrow.Author.Rules.{rules}
+use Rattle.faults.proofs.highest_level.Goals as goal
+
+pub returns : goal.returns
+returns c = simp (highest_parts, c.greater.ensures, c.highest_of-2.ensures, c.highest_of.ensures)

@@ -1,0 +1,6 @@
+-- `faults::is_below` meets its contract: the raw count is compared. Assumes nothing.
+use borrow.Author.Rules.{rules}
+use Rattle.faults.proofs.is_below.Goals as goal
+
+pub returns : goal.returns
+returns c = simp c.raw_of-raw.ensures

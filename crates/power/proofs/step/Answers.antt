@@ -1,0 +1,28 @@
+-- `power::step` meets its contract: the tests that led to each `return` say which refusal it is, or that there is none. Assumes nothing.
+use borrow.Author.Tests.{not-true, not-false}
+use Rattle.power.specs.Refusals.{step_of}
+use borrow.Author.Rules.{rules}
+use Rattle.power.proofs.step.Goals as goal
+
+pub returns-then-not-relays : goal.returns-then-not-relays
+unfolding step_of
+returns-then-not-relays c = simp (← c.relays_fit-relays.ensures, not-true c.relays_fit-relays.result c.if-not-relays.true)
+
+pub returns-then-not-commands : goal.returns-then-not-commands
+unfolding step_of
+returns-then-not-commands c = simp (← c.relays_fit-relays.ensures, ← c.commands_fit-commands.ensures, not-false c.relays_fit-relays.result c.if-not-relays.false, not-true c.commands_fit-commands.result c.if-not-commands.true)
+
+pub returns-then-not-readings : goal.returns-then-not-readings
+unfolding step_of
+returns-then-not-readings c = simp (← c.relays_fit-relays.ensures, ← c.commands_fit-commands.ensures, ← c.readings_fit-readings.ensures, not-false c.relays_fit-relays.result c.if-not-relays.false, not-false c.commands_fit-commands.result c.if-not-commands.false, not-true c.readings_fit-readings.result c.if-not-readings.true)
+
+pub returns-then-not-fitting : goal.returns-then-not-fitting
+unfolding step_of
+returns-then-not-fitting c = simp (← c.relays_fit-relays.ensures, ← c.commands_fit-commands.ensures, ← c.readings_fit-readings.ensures, ← c.share_fits-fitting.ensures, not-false c.relays_fit-relays.result c.if-not-relays.false, not-false c.commands_fit-commands.result c.if-not-commands.false, not-false c.readings_fit-readings.result c.if-not-readings.false, not-true c.share_fits-fitting.result c.if-not-fitting.true)
+
+pub next_state-next-requires : goal.next_state-next-requires
+next_state-next-requires c = simp (← c.relays_fit-relays.ensures) (not-false c.relays_fit-relays.result c.if-not-relays.false)
+
+pub returns : goal.returns
+unfolding step_of
+returns c = simp (← c.relays_fit-relays.ensures, ← c.commands_fit-commands.ensures, ← c.readings_fit-readings.ensures, ← c.share_fits-fitting.ensures, not-false c.relays_fit-relays.result c.if-not-relays.false, not-false c.commands_fit-commands.result c.if-not-commands.false, not-false c.readings_fit-readings.result c.if-not-readings.false, not-false c.share_fits-fitting.result c.if-not-fitting.false, c.next_state-next.ensures)
