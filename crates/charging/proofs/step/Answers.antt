@@ -6,8 +6,8 @@ use Rattle.charging.proofs.step.Goals as goal
 
 pub returns-then-not-all_fit : goal.returns-then-not-all_fit
 unfolding charge_step_of
-returns-then-not-all_fit c = simp (← c.all_fit.ensures, not-true c.all_fit.result c.if-not-all_fit.true)
+returns-then-not-all_fit c = simp (← c.all_fit.ensures, c.if-not-all_fit.true)
 
 pub returns : goal.returns
 unfolding charge_step_of
-returns c = simp (← c.all_fit.ensures, not-false c.all_fit.result c.if-not-all_fit.false, c.next_charge-next.ensures)
+returns c = simp (← c.all_fit.ensures, c.if-not-all_fit.false, c.next_charge-next.ensures)

@@ -6,23 +6,23 @@ use Rattle.power.proofs.step.Goals as goal
 
 pub returns-then-not-relays : goal.returns-then-not-relays
 unfolding step_of
-returns-then-not-relays c = simp (← c.relays_fit-relays.ensures, not-true c.relays_fit-relays.result c.if-not-relays.true)
+returns-then-not-relays c = simp (← c.relays_fit-relays.ensures, c.if-not-relays.true)
 
 pub returns-then-not-commands : goal.returns-then-not-commands
 unfolding step_of
-returns-then-not-commands c = simp (← c.relays_fit-relays.ensures, ← c.commands_fit-commands.ensures, not-false c.relays_fit-relays.result c.if-not-relays.false, not-true c.commands_fit-commands.result c.if-not-commands.true)
+returns-then-not-commands c = simp (← c.relays_fit-relays.ensures, ← c.commands_fit-commands.ensures, c.if-not-relays.false, c.if-not-commands.true)
 
 pub returns-then-not-readings : goal.returns-then-not-readings
 unfolding step_of
-returns-then-not-readings c = simp (← c.relays_fit-relays.ensures, ← c.commands_fit-commands.ensures, ← c.readings_fit-readings.ensures, not-false c.relays_fit-relays.result c.if-not-relays.false, not-false c.commands_fit-commands.result c.if-not-commands.false, not-true c.readings_fit-readings.result c.if-not-readings.true)
+returns-then-not-readings c = simp (← c.relays_fit-relays.ensures, ← c.commands_fit-commands.ensures, ← c.readings_fit-readings.ensures, c.if-not-relays.false, c.if-not-commands.false, c.if-not-readings.true)
 
 pub returns-then-not-fitting : goal.returns-then-not-fitting
 unfolding step_of
-returns-then-not-fitting c = simp (← c.relays_fit-relays.ensures, ← c.commands_fit-commands.ensures, ← c.readings_fit-readings.ensures, ← c.share_fits-fitting.ensures, not-false c.relays_fit-relays.result c.if-not-relays.false, not-false c.commands_fit-commands.result c.if-not-commands.false, not-false c.readings_fit-readings.result c.if-not-readings.false, not-true c.share_fits-fitting.result c.if-not-fitting.true)
+returns-then-not-fitting c = simp (← c.relays_fit-relays.ensures, ← c.commands_fit-commands.ensures, ← c.readings_fit-readings.ensures, ← c.share_fits-fitting.ensures, c.if-not-relays.false, c.if-not-commands.false, c.if-not-readings.false, c.if-not-fitting.true)
 
 pub next_state-next-requires : goal.next_state-next-requires
-next_state-next-requires c = simp (← c.relays_fit-relays.ensures) (not-false c.relays_fit-relays.result c.if-not-relays.false)
+next_state-next-requires c = simp (← c.relays_fit-relays.ensures) c.if-not-relays.false
 
 pub returns : goal.returns
 unfolding step_of
-returns c = simp (← c.relays_fit-relays.ensures, ← c.commands_fit-commands.ensures, ← c.readings_fit-readings.ensures, ← c.share_fits-fitting.ensures, not-false c.relays_fit-relays.result c.if-not-relays.false, not-false c.commands_fit-commands.result c.if-not-commands.false, not-false c.readings_fit-readings.result c.if-not-readings.false, not-false c.share_fits-fitting.result c.if-not-fitting.false, c.next_state-next.ensures)
+returns c = simp (← c.relays_fit-relays.ensures, ← c.commands_fit-commands.ensures, ← c.readings_fit-readings.ensures, ← c.share_fits-fitting.ensures, c.if-not-relays.false, c.if-not-commands.false, c.if-not-readings.false, c.if-not-fitting.false, c.next_state-next.ensures)

@@ -7,28 +7,28 @@ use Rattle.charging.proofs.conditions.holding.Goals as goal
 
 pub returns-then-not-plug_is_seen : goal.returns-then-not-plug_is_seen
 unfolding conditions
-returns-then-not-plug_is_seen c = simp (← c.plug_is_seen.ensures, not-true c.plug_is_seen.result c.if-not-plug_is_seen.true)
+returns-then-not-plug_is_seen c = simp (← c.plug_is_seen.ensures, c.if-not-plug_is_seen.true)
 
 pub returns-then-not-self_check_is_good : goal.returns-then-not-self_check_is_good
 unfolding conditions
-returns-then-not-self_check_is_good c = simp (← c.plug_is_seen.ensures, not-false c.plug_is_seen.result c.if-not-plug_is_seen.false, ← c.self_check_is_good.ensures, not-true c.self_check_is_good.result c.if-not-self_check_is_good.true)
+returns-then-not-self_check_is_good c = simp (← c.plug_is_seen.ensures, c.if-not-plug_is_seen.false, ← c.self_check_is_good.ensures, c.if-not-self_check_is_good.true)
 
 pub returns-then-not-none_welded : goal.returns-then-not-none_welded
 unfolding conditions
-returns-then-not-none_welded c = simp (← c.plug_is_seen.ensures, not-false c.plug_is_seen.result c.if-not-plug_is_seen.false, ← c.self_check_is_good.ensures, not-false c.self_check_is_good.result c.if-not-self_check_is_good.false, ← c.none_welded.ensures, not-true c.none_welded.result c.if-not-none_welded.true)
+returns-then-not-none_welded c = simp (← c.plug_is_seen.ensures, c.if-not-plug_is_seen.false, ← c.self_check_is_good.ensures, c.if-not-self_check_is_good.false, ← c.none_welded.ensures, c.if-not-none_welded.true)
 
 pub returns-then-not-main_relays_are_closed : goal.returns-then-not-main_relays_are_closed
 unfolding conditions
-returns-then-not-main_relays_are_closed c = simp (← c.plug_is_seen.ensures, not-false c.plug_is_seen.result c.if-not-plug_is_seen.false, ← c.self_check_is_good.ensures, not-false c.self_check_is_good.result c.if-not-self_check_is_good.false, ← c.none_welded.ensures, not-false c.none_welded.result c.if-not-none_welded.false, ← c.main_relays_are_closed.ensures, not-true c.main_relays_are_closed.result c.if-not-main_relays_are_closed.true)
+returns-then-not-main_relays_are_closed c = simp (← c.plug_is_seen.ensures, c.if-not-plug_is_seen.false, ← c.self_check_is_good.ensures, c.if-not-self_check_is_good.false, ← c.none_welded.ensures, c.if-not-none_welded.false, ← c.main_relays_are_closed.ensures, c.if-not-main_relays_are_closed.true)
 
 pub returns-then-not-charging_is_allowed : goal.returns-then-not-charging_is_allowed
 unfolding conditions
-returns-then-not-charging_is_allowed c = simp (← c.plug_is_seen.ensures, not-false c.plug_is_seen.result c.if-not-plug_is_seen.false, ← c.self_check_is_good.ensures, not-false c.self_check_is_good.result c.if-not-self_check_is_good.false, ← c.none_welded.ensures, not-false c.none_welded.result c.if-not-none_welded.false, ← c.main_relays_are_closed.ensures, not-false c.main_relays_are_closed.result c.if-not-main_relays_are_closed.false, ← c.charging_is_allowed.ensures, not-true c.charging_is_allowed.result c.if-not-charging_is_allowed.true)
+returns-then-not-charging_is_allowed c = simp (← c.plug_is_seen.ensures, c.if-not-plug_is_seen.false, ← c.self_check_is_good.ensures, c.if-not-self_check_is_good.false, ← c.none_welded.ensures, c.if-not-none_welded.false, ← c.main_relays_are_closed.ensures, c.if-not-main_relays_are_closed.false, ← c.charging_is_allowed.ensures, c.if-not-charging_is_allowed.true)
 
 pub returns-then-not-charge_relays_are_closed : goal.returns-then-not-charge_relays_are_closed
 unfolding conditions
-returns-then-not-charge_relays_are_closed c = simp (← c.plug_is_seen.ensures, not-false c.plug_is_seen.result c.if-not-plug_is_seen.false, ← c.self_check_is_good.ensures, not-false c.self_check_is_good.result c.if-not-self_check_is_good.false, ← c.none_welded.ensures, not-false c.none_welded.result c.if-not-none_welded.false, ← c.main_relays_are_closed.ensures, not-false c.main_relays_are_closed.result c.if-not-main_relays_are_closed.false, ← c.charging_is_allowed.ensures, not-false c.charging_is_allowed.result c.if-not-charging_is_allowed.false, ← c.charge_relays_are_closed.ensures, not-true c.charge_relays_are_closed.result c.if-not-charge_relays_are_closed.true)
+returns-then-not-charge_relays_are_closed c = simp (← c.plug_is_seen.ensures, c.if-not-plug_is_seen.false, ← c.self_check_is_good.ensures, c.if-not-self_check_is_good.false, ← c.none_welded.ensures, c.if-not-none_welded.false, ← c.main_relays_are_closed.ensures, c.if-not-main_relays_are_closed.false, ← c.charging_is_allowed.ensures, c.if-not-charging_is_allowed.false, ← c.charge_relays_are_closed.ensures, c.if-not-charge_relays_are_closed.true)
 
 pub returns : goal.returns
 unfolding conditions
-returns c = simp (← c.plug_is_seen.ensures, not-false c.plug_is_seen.result c.if-not-plug_is_seen.false, ← c.self_check_is_good.ensures, not-false c.self_check_is_good.result c.if-not-self_check_is_good.false, ← c.none_welded.ensures, not-false c.none_welded.result c.if-not-none_welded.false, ← c.main_relays_are_closed.ensures, not-false c.main_relays_are_closed.result c.if-not-main_relays_are_closed.false, ← c.charging_is_allowed.ensures, not-false c.charging_is_allowed.result c.if-not-charging_is_allowed.false, ← c.charge_relays_are_closed.ensures, not-false c.charge_relays_are_closed.result c.if-not-charge_relays_are_closed.false)
+returns c = simp (← c.plug_is_seen.ensures, c.if-not-plug_is_seen.false, ← c.self_check_is_good.ensures, c.if-not-self_check_is_good.false, ← c.none_welded.ensures, c.if-not-none_welded.false, ← c.main_relays_are_closed.ensures, c.if-not-main_relays_are_closed.false, ← c.charging_is_allowed.ensures, c.if-not-charging_is_allowed.false, ← c.charge_relays_are_closed.ensures, c.if-not-charge_relays_are_closed.false)

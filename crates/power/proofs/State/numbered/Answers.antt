@@ -20,3 +20,31 @@ beyond (suc n) x r = lt_of_le-ne (beyond n x r.0) (λ e. r.1 (sym e))
 pub returns-in_default : goal.returns-in_default
 unfolding state_numbered
 returns-in_default c = sym (get_or-eq_default in_order_spec NoState (beyond 7 c.args.n c.in_default.in_default-own.rest))
+
+pub returns-in-0 : goal.returns-in-0
+unfolding state_numbered
+returns-in-0 c = cc
+
+pub returns-in-1 : goal.returns-in-1
+unfolding state_numbered
+returns-in-1 c = cc
+
+pub returns-in-2 : goal.returns-in-2
+unfolding state_numbered
+returns-in-2 c = cc
+
+pub returns-in-3 : goal.returns-in-3
+unfolding state_numbered
+returns-in-3 c = cc
+
+pub returns-in-4 : goal.returns-in-4
+unfolding state_numbered
+returns-in-4 c = cc
+
+pub returns-in-5 : goal.returns-in-5
+unfolding state_numbered
+returns-in-5 c = cc
+
+pub returns-in-6 : goal.returns-in-6
+unfolding state_numbered
+returns-in-6 c = cc
