@@ -1,4 +1,6 @@
 // The signals of one message: whether one stands where it may, and whether all of them do.
+#![tactic(auto)]
+
 ghost use Rattle.std.specs.Prelude.{◌≡◌, Bool, List, ℕ, ◌-◌, ◌≤◌, ◌<◌, length};
 ghost use Rattle.rows.specs.Rule.{most_bits};
 ghost use Rattle.catalogue.specs.Find.{bits_of_spec};

@@ -16,16 +16,7 @@ use Rattle.catalogue.specs.contracts.Class.{the_type}
 use borrow.Author.Rules.{rules}
 use Rattle.charging.proofs.widths.fits.Goals as goal
 
-below : {x : ℕ} → OneOf (0 ∷ 1 ∷ 2 ∷ 3 ∷ 4 ∷ 5 ∷ 6 ∷ []) x → x ≡ 7 → ⊥
-below (inl e) f = omega (arith, e, f)
-below (inr (inl e)) f = omega (arith, e, f)
-below (inr (inr (inl e))) f = omega (arith, e, f)
-below (inr (inr (inr (inl e)))) f = omega (arith, e, f)
-below (inr (inr (inr (inr (inl e))))) f = omega (arith, e, f)
-below (inr (inr (inr (inr (inr (inl e)))))) f = omega (arith, e, f)
-below (inr (inr (inr (inr (inr (inr e)))))) f = omega (arith, e, f)
-
-another : (k : Class) → (tag_of the_type k ≡ 7 → ⊥) → true ≡ not (eqb (class_number k) 26)
+another : (k : Class) → (k ≡ TooWide → ⊥) → true ≡ not (eqb (class_number k) 26)
 another (Value t) h = refl
 another (Invalid raw) h = refl
 another (Absent raw) h = refl
@@ -39,4 +30,4 @@ pub returns-in-TooWide : goal.returns-in-TooWide
 returns-in-TooWide c = simp (← c.class_of.ensures, c.in-TooWide.is)
 
 pub returns-in_default : goal.returns-in_default
-returns-in_default c = another c.class_of.result (below c.in-TooWide.keys2) ∙ ap (λ (k : Class). not (eqb (class_number k) 26)) c.class_of.ensures
+returns-in_default c = another c.class_of.result c.in_default.not-TooWide ∙ ap (λ (k : Class). not (eqb (class_number k) 26)) c.class_of.ensures
