@@ -1,5 +1,7 @@
 // The line that the book checker prints: an answer of the book reader in bytes. `print` is the call for users; it has no
 // `requires`, and says for every answer and every lent slice what is written and what stays.
+#![tactic(auto)]
+
 ghost use Rattle.std.specs.Prelude.{◌≡◌, ◌∷◌, ◌+◌, ◌≤◌, length};
 ghost use Rattle.parts.specs.Parts.{tab};
 ghost use Rattle.printing.specs.Put.{Put};

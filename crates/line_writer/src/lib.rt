@@ -1,6 +1,8 @@
 // The lines of a route book into a lent slice at a place, as `line: Written` has their texts, newlines included; and how many bytes a
 // line has before it is written. For crate `book_writer`. What writes asks for room and for numbers that a line can say, writes just its
 // line, and answers the place after it; what counts asks nothing.
+#![tactic(auto)]
+
 ghost use Rattle.std.specs.Prelude.{◌≡◌, [], ◌∷◌, ◌+◌, ◌≤◌, length};
 ghost use Rattle.parts.specs.Parts.{tab};
 ghost use Rattle.line.specs.declared.Line.TheVariants.{Message};

@@ -1,5 +1,7 @@
 // The route tables of a lent book: the test that they are such as a taken book can have, which every call on routes makes first
 // (refusal 12). proofs/ shows that it is exact: it passes just where some text is taken with those tables.
+#![tactic(auto)]
+
 ghost use Rattle.std.specs.Prelude.{◌≡◌};
 ghost use Rattle.record.specs.Columns.{route_count_of};
 ghost use Rattle.chains.specs.Tells.{Tells};

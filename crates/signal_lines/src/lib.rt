@@ -1,6 +1,8 @@
 // The lines that the lister prints, for crate `listing` and the lister: one signal's reading, a refused frame, an ill-formed
 // line. The last is a constant; each function asks for LISTED_LINE_ROOM bytes of a lent slice at a place, writes just its line, and
 // answers the place after it. What a value shows is asked of the caller.
+#![tactic(auto)]
+
 mod figures;
 
 ghost use Rattle.std.specs.Prelude.{[], ◌∷◌, ◌+◌, ◌≤◌, length};
