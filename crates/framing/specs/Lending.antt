@@ -1,7 +1,7 @@
 -- What a call makes of what it is lent to write: its answer, with what stands there at exit, by what stood there at entry. Contracts say
 -- it in these words. Assumes nothing: these are definitions.
 use Rattle.std.specs.Prelude.{◌≡◌, List, ℕ, ℤ}
-use Rattle.std.specs.Borrow.{Bor}
+use Rattle.std.specs.Borrow.{MutBor}
 use denote.Triple.Both.{Both}
 use Rattle.framing.specs.declared.Reading.{Reading}
 use Rattle.framing.specs.declared.Packing.{Packing}
@@ -9,7 +9,7 @@ use Rattle.framing.specs.Reading.{Slices}
 
 -- a slice that is lent to write, at entry and at exit
 abbrev pub Lent : Type 0 → Type 0
-Lent X = Both (Bor (List X)) (Bor (List X))
+Lent X = Both (MutBor (List X)) (MutBor (List X))
 
 -- the three slices of a reading, as they were lent, and as they are left
 abbrev pub slices_lent : Lent ℕ → Lent ℕ → Lent ℤ → Slices

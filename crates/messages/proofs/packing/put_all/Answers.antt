@@ -17,11 +17,6 @@ use Rattle.messages.proofs.Steps.{rest, fits_at, fits_on}
 use Rattle.messages.proofs.Packs.{put_more, put_none, wide_stays, barred_stays}
 use Rattle.messages.proofs.packing.put_all.Goals as goal
 
-record Inv (numbers starts values : List ℕ) (word i left : ℕ) : Type 0 where
-  counted : i + left ≡ length numbers
-  fit : AllFit (rest numbers starts i)
-  puts : put_all (Word word) (rest numbers starts i) (drop i values) ≡ put_all (Word all_ones) (side_by_side numbers starts) values
-
 pub length_of-left-requires : goal.length_of-left-requires
 length_of-left-requires c = c.requires.few
 

@@ -17,6 +17,11 @@ use Rattle.messages.proofs.Steps.{rest, fits_at, fits_on}
 use Rattle.messages.proofs.Packs.{put_more, put_none, wide_stays, barred_stays}
 use Rattle.messages.proofs.packing.put_all.Given as goal
 
+pub record Inv (numbers starts values : List ℕ) (word i left : ℕ) : Type 0 where
+  pub counted : i + left ≡ length numbers
+  pub fit : AllFit (rest numbers starts i)
+  pub puts : put_all (Word word) (rest numbers starts i) (drop i values) ≡ put_all (Word all_ones) (side_by_side numbers starts) values
+
 abbrev pub invariant-loop-left : goal.invariant-loop-left
 invariant-loop-left l = Inv l.numbers l.starts l.values l.word l.i l.left
 

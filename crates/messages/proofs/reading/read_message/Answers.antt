@@ -11,12 +11,12 @@ use Rattle.messages.proofs.reading.read_message.Goals as goal
 
 pub returns-then-not-checked : goal.returns-then-not-checked
 returns-then-not-checked c = let a = c.args in
-    let check : check_holds a.identifier a.word a.numbers.now ≡ false = sym c.checked.ensures ∙ not-true _ c.if-not-checked.true in
+    let check : check_holds a.identifier a.word a.numbers.now ≡ false = sym c.checked.ensures ∙ c.if-not-checked.true in
     refused_check a.identifier a.word a.numbers.now a.starts.now (omega arith) c.requires (record { raws = a.raws.now; classes = a.classes.now; thousandths = a.thousandths.now }) check
 
 pub returns-then-least-numbers : goal.returns-then-least-numbers
 returns-then-least-numbers c = let a = c.args in
-    let check : check_holds a.identifier a.word a.numbers.now ≡ true = sym c.checked.ensures ∙ not-false _ c.if-not-checked.false in
+    let check : check_holds a.identifier a.word a.numbers.now ≡ true = sym c.checked.ensures ∙ c.if-not-checked.false in
     refused_room a.identifier a.word a.numbers.now a.starts.now (omega arith) c.requires (record { raws = a.raws.now; classes = a.classes.now; thousandths = a.thousandths.now }) check (omega arith)
 
 pub read_signals-requires : goal.read_signals-requires
@@ -27,6 +27,6 @@ length_of-requires c = c.requires.few
 
 pub returns : goal.returns
 returns c = let a = c.args in
-    let check : check_holds a.identifier a.word a.numbers.now ≡ true = sym c.checked.ensures ∙ not-false _ c.if-not-checked.false in
+    let check : check_holds a.identifier a.word a.numbers.now ≡ true = sym c.checked.ensures ∙ c.if-not-checked.false in
     was_read a.identifier a.word a.numbers.now a.starts.now (omega (arith, c.ranges.word)) c.requires (record { raws = a.raws.now; classes = a.classes.now; thousandths = a.thousandths.now }) check (omega arith) _ c.length_of.ensures _
     c.read_signals.ensures.0 c.read_signals.ensures.1 c.read_signals.ensures.2

@@ -16,13 +16,6 @@ use Rattle.messages.proofs.Cuts.{count_there, class_there, its_reading, its_coun
 use Rattle.messages.proofs.Steps.{rest, placement_at, fits_at, fits_on, Writing, write_more, write_none, write_length}
 use Rattle.messages.proofs.reading.read_signals.Goals as goal
 
-record Inv (word : ℕ) (numbers starts : List ℕ) (raws₀ classes₀ : List ℕ) (thousandths₀ : List ℤ) (raws classes : List ℕ) (thousandths : List ℤ) (i left : ℕ) : Type 0 where
-  counted : i + left ≡ length numbers
-  fit : AllFit (rest numbers starts i)
-  in-raws : Writing (raw_in word) raws₀ numbers starts raws i
-  in-classes : Writing (code_in word) classes₀ numbers starts classes i
-  in_thousandths : Writing (reading_in word) thousandths₀ numbers starts thousandths i
-
 pub length_of-left-requires : goal.length_of-left-requires
 length_of-left-requires c = c.requires.few
 

@@ -16,6 +16,13 @@ use Rattle.messages.proofs.Cuts.{count_there, class_there, its_reading, its_coun
 use Rattle.messages.proofs.Steps.{rest, placement_at, fits_at, fits_on, Writing, write_more, write_none, write_length}
 use Rattle.messages.proofs.reading.read_signals.Given as goal
 
+pub record Inv (word : ℕ) (numbers starts : List ℕ) (raws₀ classes₀ : List ℕ) (thousandths₀ : List ℤ) (raws classes : List ℕ) (thousandths : List ℤ) (i left : ℕ) : Type 0 where
+  pub counted : i + left ≡ length numbers
+  pub fit : AllFit (rest numbers starts i)
+  pub in-raws : Writing (raw_in word) raws₀ numbers starts raws i
+  pub in-classes : Writing (code_in word) classes₀ numbers starts classes i
+  pub in_thousandths : Writing (reading_in word) thousandths₀ numbers starts thousandths i
+
 abbrev pub invariant-loop-left : goal.invariant-loop-left
 invariant-loop-left l = Inv l.word l.numbers l.starts l.initial.raws l.initial.classes l.initial.thousandths l.raws l.classes l.thousandths l.i l.left
 
