@@ -1,5 +1,7 @@
 // A raw count of a signal as the dash draws it: a reading in double precision, or one of the five other classes by name. For users;
 // `catalogue: class_of()` is the call that answers in thousandths. `show` answers every number and count and has no `requires`.
+#![tactic(auto)]
+
 ghost use Rattle.std.specs.Prelude.{◌≡◌};
 ghost use Rattle.dash.specs.Answer.{dash_of};
 ghost use Rattle.dash.specs.Coded.{dash_coded};

@@ -1,6 +1,8 @@
 // The spread of a place by the routes of a lent book. For network tools and gateways: `spread` is the call. It has no `requires`,
 // tests the book's route tables first (refusal 12), writes nothing where it refuses, and what it writes is the place's spread
 // (specs/Answers.antt), which specs/Listed.antt says over chains.
+#![tactic(auto)]
+
 ghost use Rattle.std.specs.Prelude.{◌++◌, ◌≡◌, ◌≤◌, length, take, drop};
 ghost use Rattle.record.specs.Limits.{route_limit};
 ghost use Rattle.books.specs.Words.{routes_of};

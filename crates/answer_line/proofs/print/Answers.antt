@@ -10,4 +10,4 @@ pub returns-in-Taken : goal.returns-in-Taken
 returns-in-Taken c = taken_printed c.if-out-lt-LINE_ROOM.false _ _ _ c.in-Taken.is c.put_taken.ensures
 
 pub returns-in-Refused : goal.returns-in-Refused
-returns-in-Refused c = refused_printed c.if-out-lt-LINE_ROOM.false _ _ c.in-Refused.is c.number.ensures c.Put-refused.ensures
+returns-in-Refused c = refused_printed c.if-out-lt-LINE_ROOM.false _ _ c.in-Refused.is c.number.ensures c.put_refused.ensures

@@ -1,0 +1,14 @@
+-- `tables::judging::has_message` meets its contract: the search in the part of the column that is in use. Assumes nothing.
+use mathlib.Core.Path.{sym}
+use native.Mathlib.Omega.{arith}
+use lib.Seq.{length-take-le}
+use borrow.Author.Rules.{rules}
+use Rattle.tables.proofs.judging.has_message.Goals as goal
+
+-- LEFT slice-aggregate-init
+-- slice-aggregate-holds : tie.Need-slice-aggregate-init
+-- slice-aggregate-holds c = sym (length-take-le _ _ (omega arith))
+--
+
+pub returns : goal.returns
+returns c = simp (sym c.ids-ids.ensures.0, sym c.wide-n.ensures) c.holds.ensures

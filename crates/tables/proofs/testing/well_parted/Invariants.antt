@@ -1,0 +1,18 @@
+-- `tables::testing::well_parted` meets its contract: the answer for the messages from `at` on is the answer for all, and the stamps are below that of the next message. Assumes nothing.
+use mathlib.Core.Path.{◌≡◌, sym, ap, ◌∙◌}
+use Prim.Native.Nat.{ℕ, ◌+◌}
+use native.Mathlib.Omega.{arith}
+use borrow.Author.Tests.{not-true, not-false}
+use lib.ListN.{length}
+use borrow.Author.Rules.{rules}
+use Rattle.columns.proofs.Counting.{within, past}
+use Rattle.placing.specs.Stamps.{Below}
+use Rattle.placing.proofs.Stamped.{below_as, its_answer, left_below}
+use Rattle.tables.proofs.Parted.{Reached, begin_parted, end_parted, refuse_back, refuse_past, refuse_message, next_parted}
+use Rattle.tables.proofs.testing.well_parted.Given as goal
+
+abbrev pub invariant-loop-left : goal.invariant-loop-left
+invariant-loop-left l = Reached l.ends l.numbers l.starts l.begin l.at × Below l.stamps (l.at + 1) × (l.at + l.left ≡ length l.ends)
+
+abbrev pub decreases-loop-left : goal.decreases-loop-left
+decreases-loop-left l = l.left
