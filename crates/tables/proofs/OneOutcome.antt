@@ -48,10 +48,11 @@ one_judged 𝓤 clause w (b, h) refusal new answers says =
       alone = λ x s. let e = judged_once (refusal b) b (new b) x.0 r x.1 after (s b h) here in λ i. (e.0 i, e.1 i);
     }
 
-module _ {M : Type 1} {𝓤 : Ura M} (𝓛 : Logic 𝓤) (mem : Memory → SProp 𝓤) (run : Routine → Fun 𝓤) (κs : Lfts 1) (book : MutBor (List ℕ)) where
+module _ {M : Type 1} {𝓤 : Ura M} (𝓛 : Logic 𝓤) (mem : Memory → SProp 𝓤) (run : Routine → Fun 𝓤) (κs : Lfts 1) (book : Bor (List ℕ)) where
   pub one_messages_taken : Only 𝓤 (λ (r : Bool). (messages-taken.clauses 𝓛 mem run κs (book, tt)).ensures tt r (book, tt))
   one_messages_taken = only_this 𝓤 _ coded_bool (messages_taken_spec book.now) (λ r. refl)
 
+module _ {M : Type 1} {𝓤 : Ura M} (𝓛 : Logic 𝓤) (mem : Memory → SProp 𝓤) (run : Routine → Fun 𝓤) (κs : Lfts 1) (book : MutBor (List ℕ)) where
   pub one_add_message : (identifier : ℕ) → OfBook book.now
       → Only 𝓤 (λ (x : Added × List ℕ). (add-message.clauses 𝓛 mem run κs (book, (identifier, tt))).ensures tt x.0 (at_last book x.1, (identifier, tt)))
   one_add_message identifier h = one_judged 𝓤 _ book.now h (λ b. message_refusal b.messages identifier) (λ b. with_message b identifier) (λ b. message_answer b.messages identifier) (λ x. refl)

@@ -12,25 +12,25 @@ use Rattle.dash.proofs.drawn.Goals as goal
 pub returns-in-0 : goal.returns-in-0
 returns-in-0 c =
     ap (λ (x : Float). Shown (Value x)) c.in_units.ensures
-    ∙ ap (λ (n : ℕ). dash_coded n c.args.reading) (sym c.in-0.in-0-own.keys1)
+    ∙ ap (λ (n : ℕ). dash_coded n c.args.reading) (sym c.in-0.is)
 
 pub returns-in-1 : goal.returns-in-1
-returns-in-1 c = ap (λ (n : ℕ). dash_coded n c.args.reading) (sym c.in-1.in-1-own.keys2)
+returns-in-1 c = ap (λ (n : ℕ). dash_coded n c.args.reading) (sym c.in-1.is)
 
 pub returns-in-2 : goal.returns-in-2
-returns-in-2 c = ap (λ (n : ℕ). dash_coded n c.args.reading) (sym c.in-2.in-2-own.keys3)
+returns-in-2 c = ap (λ (n : ℕ). dash_coded n c.args.reading) (sym c.in-2.is)
 
 pub returns-in-3 : goal.returns-in-3
-returns-in-3 c = ap (λ (n : ℕ). dash_coded n c.args.reading) (sym c.in-3.in-3-own.keys4)
+returns-in-3 c = ap (λ (n : ℕ). dash_coded n c.args.reading) (sym c.in-3.is)
 
 pub returns-in-4 : goal.returns-in-4
-returns-in-4 c = ap (λ (n : ℕ). dash_coded n c.args.reading) (sym c.in-4.in-4-own.keys5)
+returns-in-4 c = ap (λ (n : ℕ). dash_coded n c.args.reading) (sym c.in-4.is)
 
 pub returns-in-5 : goal.returns-in-5
-returns-in-5 c = ap (λ (n : ℕ). dash_coded n c.args.reading) (sym c.in-5.in-5-own.keys6)
+returns-in-5 c = ap (λ (n : ℕ). dash_coded n c.args.reading) (sym c.in-5.is)
 
 pub returns-in-6 : goal.returns-in-6
-returns-in-6 c = ap (λ (n : ℕ). dash_coded n c.args.reading) (sym c.in-6.in-6-own.keys7)
+returns-in-6 c = ap (λ (n : ℕ). dash_coded n c.args.reading) (sym c.in-6.is)
 
 pub returns-in_default : goal.returns-in_default
 returns-in_default c = last_code c.args.code c.args.reading c.in_default.in_default-own.rest
