@@ -1,6 +1,8 @@
 // The text of a lent book. For planners' tools and gateways that hand a book on: `write` is the call. It has no `requires`, tests all
 // tables of the book first (refusal 12), knows the text's length before it writes a byte (refusal 71), writes nothing where it refuses,
 // and what it writes is the text of the book (specs/Answers.antt), as `reading: Written book_text` has it.
+#![tactic(auto)]
+
 mod lengths;
 mod lines;
 

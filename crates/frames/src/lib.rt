@@ -1,6 +1,8 @@
 // Reading and packing a frame by a lent book. `read` and `pack` are the calls for users: they have no `requires`, and whatever book,
 // identifier, frame, values and room are lent, they say what they answer and what every lent entry holds then (framing's specs/Reading
 // and specs/Packing). `find_message` is for a caller in this repository that has tested the book itself.
+#![tactic(auto)]
+
 mod lookup;
 mod tested;
 

@@ -1,5 +1,7 @@
 // The lines of a text, one after the other, into the lent words of a book: up to the first line that is refused. And the number of
 // the line that a route was read from. For the crate `book`; each line is read by the line reader, and what it adds is done by `tables`.
+#![tactic(auto)]
+
 ghost use Rattle.std.specs.Prelude.{◌≡◌, ◌≤◌, length, get_or};
 ghost use Rattle.record.specs.Limits.{text_limit};
 ghost use Rattle.books.specs.Book.{Book};

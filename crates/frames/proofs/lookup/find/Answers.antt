@@ -1,0 +1,25 @@
+-- `frames::lookup::find` meets its contract: what was passed, with the first place in the rest, is the first place.
+-- Assumes nothing.
+use mathlib.Core.Path.{◌≡◌}
+use Prim.Native.Nat.{◌≤◌, ◌-◌, ◌+◌}
+use native.Mathlib.Omega.{arith}
+use lib.ListN.{length, drop}
+use borrow.Author.Rules.{rules}
+use Rattle.frames.specs.Lookup.{first_at}
+use Rattle.frames.proofs.Lookups.{first_here, first_later, first_none, first_counts}
+use Rattle.frames.proofs.lookup.find.Goals as goal
+
+pub loop-i-init : goal.loop-i-init
+loop-i-init c = (omega arith, omega arith)
+
+pub returns-then-identifier-ids : goal.returns-then-identifier-ids
+returns-then-identifier-ids c = omega (arith, first_here c.args.identifier c.args.ids.now c.loop-i.i c.loop-i-test.true c.if-identifier-ids.true)
+
+pub loop-i-smaller : goal.loop-i-smaller
+loop-i-smaller c = omega arith
+
+pub loop-i-preserved : goal.loop-i-preserved
+loop-i-preserved c = (omega arith, first_counts c.args.identifier c.args.ids.now c.loop-i.i c.loop-i.invariant.1 (first_later c.args.identifier c.args.ids.now c.loop-i.i c.loop-i-test.true c.if-identifier-ids.false))
+
+pub returns : goal.returns
+returns c = omega (arith, first_none c.args.identifier c.args.ids.now c.loop-i.i c.loop-i-test.false)

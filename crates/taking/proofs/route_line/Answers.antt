@@ -1,0 +1,30 @@
+-- `taking::route_line` meets its contract: the answer for the rest is the answer for the whole. Assumes nothing.
+use Prim.Native.Nat.{◌-◌}
+use native.Mathlib.Omega.{arith}
+use mathlib.Core.Logic.{⊎_elim}
+use lib.ListN.{length}
+use borrow.Author.Rules.{rules}
+use Rattle.taking.proofs.Going.{read}
+use Rattle.taking.proofs.Seeking.{Seeking, start, not_there, found, one_less, as_many}
+use Rattle.taking.proofs.route_line.Goals as goal
+
+pub loop-at-init : goal.loop-at-init
+loop-at-init c = start _ _
+
+pub returns-then-left-eq0 : goal.returns-then-left-eq0
+returns-then-left-eq0 c = found c.loop-at.invariant c.loop-at-test.true _ c.read_at-read.ensures _ c.is_route.ensures c.if-is_route.true c.if-left-eq0.true
+
+pub overflow_sub-left : goal.overflow_sub-left
+overflow_sub-left c = omega arith
+
+pub overflow_add-n : goal.overflow_add-n
+overflow_add-n c = omega (arith, c.loop-at.invariant.numbered, c.loop-at.invariant.within, c.requires)
+
+pub loop-at-smaller : goal.loop-at-smaller
+loop-at-smaller c = let r = read _ _ c.loop-at-test.true _ c.read_at-read.ensures in omega (arith, r.further, r.within)
+
+pub loop-at-preserved : goal.loop-at-preserved
+loop-at-preserved c = ⊎_elim (λ w. rw w.2 (one_less c.loop-at.invariant c.loop-at-test.true _ c.read_at-read.ensures _ c.is_route.ensures w.0.taken w.1.left)) (λ w. rw w.1 (as_many c.loop-at.invariant c.loop-at-test.true _ c.read_at-read.ensures _ c.is_route.ensures w.0.left)) c.if-is_route.branch
+
+pub returns : goal.returns
+returns c = not_there c.loop-at.invariant c.loop-at-test.false
