@@ -1,6 +1,8 @@
 // The listing of frame lines by a lent book, from slice to slice. `list` answers for every input and has no `requires`: it tests the
 // book once, lists whole lines from the front as long as the next one's printout fits what is left of the room, and says how
 // much it used and wrote. The other functions are its rooms.
+#![tactic(auto)]
+
 mod line;
 mod message;
 mod room;

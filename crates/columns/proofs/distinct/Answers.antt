@@ -16,11 +16,6 @@ use Rattle.columns.proofs.Slots.{Used, unused, used_more, distinct_end, distinct
 use Rattle.columns.proofs.distinct.Goals as goal
 use Rattle.columns.proofs.distinct.Goals.{then-used-place-ne0+else-holds, else-used-place-ne0}
 
--- LEFT slice-aggregate-init
--- slice-aggregate-holds : tie.Need-slice-aggregate-init invariant-loop decreases-loop
--- slice-aggregate-holds c = sym (length-take-le _ _ (omega arith))
---
-
 pub length_of-left-requires : goal.length_of-left-requires
 length_of-left-requires c = omega arith
 

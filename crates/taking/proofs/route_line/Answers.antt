@@ -7,6 +7,7 @@ use borrow.Author.Rules.{rules}
 use Rattle.taking.proofs.Going.{read}
 use Rattle.taking.proofs.Seeking.{Seeking, start, not_there, found, one_less, as_many}
 use Rattle.taking.proofs.route_line.Goals as goal
+use Rattle.taking.proofs.route_line.Goals.{then-is_route+else-left-eq0, else-is_route}
 
 pub loop-at-init : goal.loop-at-init
 loop-at-init c = start _ _
@@ -24,7 +25,11 @@ pub loop-at-smaller : goal.loop-at-smaller
 loop-at-smaller c = let r = read _ _ c.loop-at-test.true _ c.read_at-read.ensures in omega (arith, r.further, r.within)
 
 pub loop-at-preserved : goal.loop-at-preserved
-loop-at-preserved c = ⊎_elim (λ w. rw w.2 (one_less c.loop-at.invariant c.loop-at-test.true _ c.read_at-read.ensures _ c.is_route.ensures w.0.taken w.1.left)) (λ w. rw w.1 (as_many c.loop-at.invariant c.loop-at-test.true _ c.read_at-read.ensures _ c.is_route.ensures w.0.left)) c.if-is_route.branch
+loop-at-preserved c =
+    elim c.if-is_route.branch [
+      | then-is_route+else-left-eq0 w ↦ rw w.left-is (one_less c.loop-at.invariant c.loop-at-test.true _ c.read_at-read.ensures _ c.is_route.ensures w.if-is_route.true w.if-left-eq0.false)
+      | else-is_route w ↦ rw w.left-is (as_many c.loop-at.invariant c.loop-at-test.true _ c.read_at-read.ensures _ c.is_route.ensures w.if-is_route.false)
+    ]
 
 pub returns : goal.returns
 returns c = not_there c.loop-at.invariant c.loop-at-test.false

@@ -4,16 +4,6 @@ use native.Mathlib.Omega.{arith}
 use Rattle.writing.proofs.Left.{Left, all_left, none_left, one_less}
 use Rattle.writing.proofs.put_digits.Goals as goal
 
--- LEFT nonzero-rem-digit-byte
--- rem-digit-byte : tie.Need-nonzero-rem-digit-byte invariant-loop decreases-loop
--- rem-digit-byte c = c.before.before.before.requires.some
---
-
--- LEFT nonzero-div-m
--- div-m : tie.Need-nonzero-div-m invariant-loop decreases-loop
--- div-m c = c.before.before.before.before.requires.some
---
-
 pub loop-j-init : goal.loop-j-init
 loop-j-init c = all_left _ _ _ _ _ c.requires
 

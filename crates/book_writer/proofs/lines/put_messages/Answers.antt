@@ -7,26 +7,6 @@ use Rattle.book_writer.proofs.Messages.{MessagesLeft, messages_left, next_messag
 use borrow.Author.Rules.{rules}
 use Rattle.book_writer.proofs.lines.put_messages.Goals as goal
 
--- LEFT slice-bounds-put-signals-start
--- part-put-signals-start : tie.Need-slice-bounds-put-signals-start invariant-loop decreases-loop
--- part-put-signals-start c = let x = next_message c.before.before.before.before.before.before.before.before.before.loop.invariant (omega (arith, c.before.before.before.before.before.before.before.before.loop-test.true)) in omega (arith, x.end_is, x.fits, c.before.before.before.before.before.before.wide.ensures)
---
-
--- LEFT slice-bounds-put-signals-end
--- part-put-signals-end : tie.Need-slice-bounds-put-signals-end invariant-loop decreases-loop
--- part-put-signals-end c = let x = next_message c.before.before.before.before.before.before.before.before.before.loop.invariant (omega (arith, c.before.before.before.before.before.before.before.before.loop-test.true)) in omega (arith, x.end_is, x.fits, c.before.before.before.before.before.before.wide.ensures)
---
-
--- LEFT slice-bounds-put-signals-start-2
--- part-put-signals-start-2 : tie.Need-slice-bounds-put-signals-start-2 invariant-loop decreases-loop
--- part-put-signals-start-2 c = let x = next_message c.before.before.before.before.before.before.before.before.before.before.loop.invariant (omega (arith, c.before.before.before.before.before.before.before.before.before.loop-test.true)) in omega (arith, x.end_is, x.fits, x.level, c.before.before.before.before.before.before.before.wide.ensures)
---
-
--- LEFT slice-bounds-put-signals-end-2
--- part-put-signals-end-2 : tie.Need-slice-bounds-put-signals-end-2 invariant-loop decreases-loop
--- part-put-signals-end-2 c = let x = next_message c.before.before.before.before.before.before.before.before.before.before.loop.invariant (omega (arith, c.before.before.before.before.before.before.before.before.before.loop-test.true)) in omega (arith, x.end_is, x.fits, x.level, c.before.before.before.before.before.before.before.wide.ensures)
---
-
 pub loop-i-init : goal.loop-i-init
 loop-i-init c = messages_left c.requires
 
@@ -41,6 +21,18 @@ slice_bounds-put_signals-count c = let x = next_message c.loop-i.invariant (omeg
 
 pub slice_bounds-put_signals-count-in-loop-i : goal.slice_bounds-put_signals-count-in-loop-i
 slice_bounds-put_signals-count-in-loop-i c = let x = next_message c.loop-i.invariant (omega (arith, c.loop-i-test.true)) in omega (arith, x.end_is, c.wide-end.ensures)
+
+pub slice_bounds-put_signals-start : goal.slice_bounds-put_signals-start
+slice_bounds-put_signals-start c = let x = next_message c.loop-i.invariant (omega (arith, c.loop-i-test.true)) in omega (arith, x.end_is, x.fits, c.wide-end.ensures)
+
+pub slice_bounds-put_signals-end : goal.slice_bounds-put_signals-end
+slice_bounds-put_signals-end c = let x = next_message c.loop-i.invariant (omega (arith, c.loop-i-test.true)) in omega (arith, x.end_is, x.fits, c.wide-end.ensures)
+
+pub slice_bounds-put_signals-start-in-loop-i : goal.slice_bounds-put_signals-start-in-loop-i
+slice_bounds-put_signals-start-in-loop-i c = let x = next_message c.loop-i.invariant (omega (arith, c.loop-i-test.true)) in omega (arith, x.end_is, x.fits, x.level, c.wide-end.ensures)
+
+pub slice_bounds-put_signals-end-in-loop-i : goal.slice_bounds-put_signals-end-in-loop-i
+slice_bounds-put_signals-end-in-loop-i c = let x = next_message c.loop-i.invariant (omega (arith, c.loop-i-test.true)) in omega (arith, x.end_is, x.fits, x.level, c.wide-end.ensures)
 
 pub put_signals-next-requires : goal.put_signals-next-requires
 put_signals-next-requires c = let x = next_message c.loop-i.invariant (omega (arith, c.loop-i-test.true)) in (in_step x _ _ c.wide-end.ensures refl, signals_fit x _ _ c.wide-end.ensures refl c.put_message-after_message.ensures)

@@ -5,10 +5,5 @@ use lib.Seq.{length-take-le}
 use borrow.Author.Rules.{rules}
 use Rattle.tables.proofs.judging.has_message.Goals as goal
 
--- LEFT slice-aggregate-init
--- slice-aggregate-holds : tie.Need-slice-aggregate-init
--- slice-aggregate-holds c = sym (length-take-le _ _ (omega arith))
---
-
 pub returns : goal.returns
 returns c = simp (sym c.ids-ids.ensures.0, sym c.wide-n.ensures) c.holds.ensures
