@@ -1,6 +1,8 @@
 // The reader of a route book: a text to the words of a book, or to a refusal with its line. `read` is the call for users; it has no
 // `requires`, and whatever text and words are lent it says what it answers and what the words are then (specs/Answered.antt).
 // It asks the gateway's checker for the verdict on the routes; `answer_judged` goes from a verdict, whoever gave it, to the answer.
+#![tactic(auto)]
+
 ghost use Rattle.answers.specs.Numbers.{said};
 ghost use Rattle.books.specs.Book.{Book};
 ghost use Rattle.reading.specs.Taken.{froms, tos};

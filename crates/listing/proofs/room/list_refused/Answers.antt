@@ -7,7 +7,7 @@ use borrow.Author.Rules.{rules}
 use Rattle.listing.proofs.room.list_refused.Goals as goal
 
 pub slice_bounds-fit-end : goal.slice_bounds-fit-end
-slice_bounds-fit-end c = aside_long c.Put-refused.ensures (omega (arith, length-replicate {A = ℕ} 64 0))
+slice_bounds-fit-end c = aside_long c.put_refused-length.ensures (omega (arith, length-replicate {A = ℕ} 64 0))
 
 pub returns : goal.returns
-returns c = fitted_as _ _ (aside_is c.Put-refused.ensures (omega (arith, length-replicate {A = ℕ} 64 0))) c.fit.ensures
+returns c = fitted_as _ _ (aside_is c.put_refused-length.ensures (omega (arith, length-replicate {A = ℕ} 64 0))) c.fit.ensures
