@@ -4,6 +4,8 @@
 // number, 0 where there is none. Each is thin over the library's own call and has its whole contract, in numbers. No function
 // has a `requires`: every number, slice and state is answered, and specs/ says what the call returns and leaves, for every
 // input. Assumes nothing of its own.
+#![tactic(auto)]
+
 mod book_text;
 mod booking;
 mod classing;
