@@ -19,6 +19,6 @@ module _ (froms tos : List ℕ) where
   chains_up_to zero p = []
   chains_up_to (suc d) p = chains_beginning tos (chains_up_to d) (routes_from froms p)
 
-  -- every chain from p: without closed chains none has more routes than the table (proofs/ChainLists.antt: chain-listed)
+  -- every chain from p: without closed chains none has more routes than the table (proofs/ChainLists.antt: chain_listed)
   unfoldable pub chains_from : ℕ → List (List ℕ)
   chains_from p = chains_up_to (length froms) p

@@ -25,6 +25,6 @@ module _ (froms tos : List ℕ) where
   spread_up_to (suc d) p = sends tos (spread_up_to d) (routes_from froms p)
 
   -- the spread of p: without closed chains no chain has more routes than the table, and this is the one list for each place that
-  -- obeys the rule (proofs/Spreads.antt: spread-rule, rule-spread)
+  -- obeys the rule (proofs/Spreads.antt: spread_rule, rule_spread)
   unfoldable pub spread_of : ℕ → List ℕ
   spread_of p = spread_up_to (length froms) p

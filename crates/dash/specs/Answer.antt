@@ -1,5 +1,5 @@
 -- "a call whose answer is either a reading in double precision or one of the five other classes by name. [..] Refusals: 3, then 26,
--- exactly when the old call gives them." The old call is the catalogue's classOf. Assumes nothing.
+-- exactly when the old call gives them." The old call is the catalogue's class_of. Assumes nothing.
 use Rattle.std.proofs.Math.Option.{Option, none, some}
 use Rattle.std.specs.Prelude.{ℕ, pos, Float}
 use Rattle.catalogue.specs.declared.Raw.{Raw}

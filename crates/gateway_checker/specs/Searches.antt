@@ -1,5 +1,5 @@
 -- What the searches over the masks of `reach` look for: the working side, which no entry point's contract names. `gateway_checker: Masks
--- back-same, none-begins, begins-same` tie it to chains, and `gateway_checker: Judging loop-by, sound-by, doubling-by` make the verdict of it.
+-- back_same, none_begins, begins_same` tie it to chains, and `gateway_checker: Judging loop_by, sound_by, doubling_by` make the verdict of it.
 -- Assumes nothing: these are definitions.
 use Rattle.std.specs.Prelude.{◌≡◌, Bool, true, ◌||◌, ℕ, ◌<◌, List, length, get_or}
 use Rattle.masks.specs.Bit.{width, bit, meeting}

@@ -9,7 +9,7 @@ ghost use Rattle.line_reader.specs.Reader.{reader_at_spec, next_line_spec};
 
 use line::{Line, ReadLine, line_at};
 
-#[derive(Drop)]
+#[derive(Clone, Copy)]
 pub struct LineReader<'a> {
     pub text: &'a [u8],
     pub at: usize,

@@ -1,5 +1,5 @@
 -- The numbers of the places of a column: the working side of the verdict, which no entry point's contract names. `verdict: Renaming
--- judged-places` ties it to chains: the verdict over numbers is the verdict over places. Assumes nothing: these are definitions.
+-- judged_places` ties it to chains: the verdict over numbers is the verdict over places. Assumes nothing: these are definitions.
 use Rattle.std.specs.Prelude.{◌≡◌, ℕ, ◌<◌, ◌≤◌, List, length, get_or}
 
 -- the place with index i stands first at r

@@ -31,7 +31,7 @@ refused_frame_line identifier number = printed_line (identifier_text identifier 
 abbrev pub ill_formed_line : List ℕ
 ill_formed_line = printed_line (no_word ∷ natural_text (frame_line_number IllFormed) ∷ [])
 
--- ---- room: no line is longer than listedLineRoom, no end of one (a word with its number) than endRoom, no word than wordRoom
+-- ---- room: no line is longer than listed_line_room, no end of one (a word with its number) than end_room, no word than word_room
 abbrev pub listed_line_room : ℕ
 listed_line_room = 64
 
