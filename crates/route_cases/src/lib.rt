@@ -15,12 +15,8 @@ fn print_place(rt: &impl Print, place: u32) {
 fn print_places(rt: &impl Print, word: &[u8], places: &[u32], n: usize) {
     print_bytes(rt, word);
     print_decimal(rt, n as u64);
-    let mut i: usize = 0;
-    while i < places.len() {
-        if i < n {
-            print_place(rt, places[i]);
-        }
-        i += 1;
+    for place in places.iter().take(n) {
+        print_place(rt, *place);
     }
     print_bytes(rt, b"\n");
 }
@@ -48,7 +44,14 @@ fn print_answer(
 }
 
 // Asks for a spread with a room of `size` entries, at most as many as a book has routes.
-pub fn print_spread(rt: &impl Print, word: &[u8], book: &[u32; BOOK_WORDS], bus: u32, identifier: u32, size: usize) {
+pub fn print_spread(
+    rt: &impl Print,
+    word: &[u8],
+    book: &[u32; BOOK_WORDS],
+    bus: u32,
+    identifier: u32,
+    size: usize,
+) {
     let mut room = [0u32; ROUTES];
     if size <= ROUTES {
         print_answer(rt, word, book, bus, identifier, &mut room[..size]);

@@ -21,14 +21,12 @@ fn book_on(line: [u8; LINE], n: usize) -> [u32; BOOK_WORDS] {
         return book;
     }
     book[ROUTE_COUNT] = n as u32;
-    let mut i: usize = 0;
-    while i < n {
+    for i in 0..n {
         let from = 16 * i;
         let to = from + 8;
         let end = from + 16;
         book[FROMS + i] = identifier_or_0(&line[from..to]);
         book[TOS + i] = identifier_or_0(&line[to..end]);
-        i += 1;
     }
     book
 }
