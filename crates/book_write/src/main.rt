@@ -16,8 +16,8 @@ use std::io;
 use std::io::{ErrorKind, Read};
 use streams::write_first;
 
-// The input, as far as there is room for it: how many bytes, or the error of a read that fails. It asks for a byte more than a text may have, no
-// more and no less, so that ENOUGH can be no other number.
+// The input, as far as there is room for it: how many bytes, or the error of a read that fails. It asks for a byte more than a text may
+// have, no more and no less, so that ENOUGH can be no other number.
 fn read_input<R: Read>(input: &mut R, text: &mut [u8]) -> io::Result<usize>
     requires { length text.old ≡ suc text_limit }
     ensures { IfOk result (λ n. n ≤ length text.new) }
