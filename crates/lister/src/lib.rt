@@ -29,8 +29,7 @@ fn read_book<R: Files>(rt: &R, text: &mut [u8]) -> usize {
     }
 }
 
-// A proved loop has to end, and nothing says that input does. So the loop counts its turns down, from a number that no run
-// uses up.
+// A proved loop has to end, and nothing says that input does. So the loop counts its turns, up to a number that no run uses up.
 fn list_input<R: Read>(
     rt: &impl Print,
     from: &mut R,
@@ -44,13 +43,11 @@ fn list_input<R: Read>(
         passing: false,
         more: true,
     };
-    let mut turns = u64::MAX;
-    while turns > 0 {
+    for _ in 0..u64::MAX {
         held = read_and_list(rt, from, book, &mut *input, &mut *out, held, figures);
         if !held.more {
             return;
         }
-        turns -= 1;
     }
 }
 
