@@ -1,10 +1,11 @@
 // Checks the route books on standard input, one after the other. Each is its length in eight hex digits and a newline, its bytes,
 // and a newline. Each gives the book checker's line.
+#![tactic(auto)]
+
 use book_streams::send_answer;
-use libc::STDIN_FILENO;
 use numerals::identifier_or_0;
 use parts::part_before;
-use streams::read_first;
+use streams::{read_first, read_full};
 
 const MOST_BOOKS: u32 = 1000000;
 
@@ -20,27 +21,26 @@ fn size_in(head: &[u8]) -> usize {
 }
 
 // The book that is the front of the text.
-fn check(text: &[u8], size: usize) {
+fn check(rt: &impl Print, text: &[u8], size: usize) {
     if size <= text.len() {
         let mut words = [0u32; record::BOOK_WORDS];
-        send_answer(book::read(part_before(text, size), &mut words));
+        let _ = send_answer(rt, book::read(part_before(text, size), &mut words));
     }
 }
 
-fn main() {
+fn main(rt: HostRuntime) {
+    let mut input = rt.stdin();
     let mut head = [0u8; 9];
     let mut text = [0u8; ROOM];
-    let mut books: u32 = 0;
-    while books < MOST_BOOKS {
-        books += 1;
-        if io::read_full(STDIN_FILENO, &mut head) < 9 {
+    for _ in 0..MOST_BOOKS {
+        if read_full(&mut input, &mut head) < 9 {
             return;
         }
         let size = size_in(&head);
         if size >= ROOM {
             return;
         }
-        read_first(&mut text, size + 1);
-        check(&text, size);
+        read_first(&mut input, &mut text, size + 1);
+        check(&rt, &text, size);
     }
 }

@@ -1,6 +1,8 @@
 // The lister for the dash: what frames carry, readings as the bits of doubles (crate `lister`).
+#![tactic(auto)]
+
 use signal_lines::Figures;
 
-fn main() {
-    lister::run(Figures::AsDoubles);
+fn main(rt: HostRuntime) {
+    lister::run(&rt, &mut rt.stdin(), Figures::AsDoubles);
 }

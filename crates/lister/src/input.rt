@@ -2,12 +2,12 @@
 ghost use Rattle.std.specs.Prelude.{◌≡◌, ◌+◌, ◌-◌, ◌≤◌, length, take, drop};
 ghost use Rattle.lister.specs.Whole.{WholeUsed};
 
-use libc::{STDIN_FILENO, STDOUT_FILENO};
 use listing::{Listed, list};
 use parts::{NEWLINE, find, part_before, part_from};
 use record::BOOK_WORDS;
 use signal_lines::{Figures, ILL_FORMED_LINE};
-use streams::write_first;
+use std::io::Read;
+use streams::{print_bytes, write_first};
 
 // Where the listing stands: how many bytes of an unfinished line the buffer holds, whether a line too long for it is passed
 // over, and whether there is more to read.
@@ -19,21 +19,26 @@ pub struct Held {
 }
 
 // The line of an ill-formed line.
-fn send_ill_formed() {
-    io::write_all(STDOUT_FILENO, &ILL_FORMED_LINE);
+fn send_ill_formed(rt: &impl Print) {
+    print_bytes(rt, &ILL_FORMED_LINE);
 }
 
 // Reads once, to after the first `held` bytes. 0: the input has ended.
-fn read_more(input: &mut [u8], held: usize) -> usize
+fn read_more<R: Read>(from: &mut R, input: &mut [u8], held: usize) -> usize
     requires { held ≤ length input.old }
     ensures { held + result ≤ length input.new }
 {
-    let got = libc::read(STDIN_FILENO, &mut input[held..]);
-    io::count(got, &input[held..])
+    from.read(&mut input[held..]).unwrap_or(0)
 }
 
 // Lists every whole line of a text, and answers how many bytes they are.
-fn list_whole(book: &[u32; BOOK_WORDS], text: &[u8], out: &mut [u8], figures: Figures) -> usize
+fn list_whole(
+    rt: &impl Print,
+    book: &[u32; BOOK_WORDS],
+    text: &[u8],
+    out: &mut [u8],
+    figures: Figures,
+) -> usize
     ensures { WholeUsed book.now text.now out.old result }
 {
     let mut used: usize = 0;
@@ -41,7 +46,7 @@ fn list_whole(book: &[u32; BOOK_WORDS], text: &[u8], out: &mut [u8], figures: Fi
         let rest = part_from(text, used);
         match list(book, rest, &mut *out, figures) {
             Listed::Lines(more, written) => {
-                write_first(&*out, written);
+                let _ = write_first(rt, &*out, written);
                 if more == 0 {
                     return used;
                 }
@@ -58,16 +63,13 @@ fn keep(input: &mut [u8], from: usize, size: usize) -> usize
     requires { (from ≤ size) × (size ≤ length input.old) }
     ensures { (result ≡ size - from) × (take result input.new ≡ take (size - from) (drop from input.old)) }
 {
-    let mut i: usize = 0;
-    while i < size - from {
-        input[i] = input[from + i];
-        i += 1;
-    }
-    i
+    input.copy_within(from..size, 0);
+    size - from
 }
 
 // Lists what stands in the buffer from `from` to before `size`. A line that fills the buffer is too long: it is ill formed.
 fn list_buffer(
+    rt: &impl Print,
     book: &[u32; BOOK_WORDS],
     input: &mut [u8],
     out: &mut [u8],
@@ -77,7 +79,7 @@ fn list_buffer(
 ) -> Held
     requires { (from ≤ size) × (size ≤ length input.old) }
 {
-    let used = list_whole(book, &input[from..size], &mut *out, figures);
+    let used = list_whole(rt, book, &input[from..size], &mut *out, figures);
     let begin = from + used;
     let left = keep(&mut *input, begin, size);
     if left < input.len() {
@@ -87,7 +89,7 @@ fn list_buffer(
             more: true,
         };
     }
-    send_ill_formed();
+    send_ill_formed(rt);
     Held {
         size: 0,
         passing: true,
@@ -96,7 +98,9 @@ fn list_buffer(
 }
 
 // Reads once, and lists what came. A last line without a newline is ill formed.
-pub fn read_and_list(
+pub fn read_and_list<R: Read>(
+    rt: &impl Print,
+    from: &mut R,
     book: &[u32; BOOK_WORDS],
     input: &mut [u8],
     out: &mut [u8],
@@ -112,10 +116,10 @@ pub fn read_and_list(
             more: false,
         };
     }
-    let got = read_more(&mut *input, before);
+    let got = read_more(from, &mut *input, before);
     if got == 0 {
         if before > 0 {
-            send_ill_formed();
+            send_ill_formed(rt);
         }
         return Held {
             size: 0,
@@ -133,7 +137,7 @@ pub fn read_and_list(
                 more: true,
             };
         }
-        return list_buffer(book, &mut *input, &mut *out, end + 1, size, figures);
+        return list_buffer(rt, book, &mut *input, &mut *out, end + 1, size, figures);
     }
-    list_buffer(book, &mut *input, &mut *out, 0, size, figures)
+    list_buffer(rt, book, &mut *input, &mut *out, 0, size, figures)
 }

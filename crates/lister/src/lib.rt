@@ -2,6 +2,8 @@
 // book that is refused gives the checker's line only. All that is printed comes from the library; here it is streamed: input of any
 // length goes through one buffer, and what is left of it at a buffer's end comes before what is read next. The programs `frame_list` and
 // `dash_list` differ in the figures that a value shows.
+#![tactic(auto)]
+
 mod input;
 
 use answers::Answer;
@@ -10,44 +12,49 @@ use book_streams::{ENOUGH, send_answer};
 use input::{Held, read_and_list};
 use record::BOOK_WORDS;
 use signal_lines::Figures;
+use std::fs;
+use std::fs::Files;
+use std::io::Read;
+use streams::read_full;
 
 const INPUT: usize = 65536;
 
 const OUTPUT: usize = 262144;
 
 // The book's text into a buffer; a file that can't be opened counts as empty text.
-fn read_book(text: &mut [u8]) -> usize {
-    let file = os::open_read(b"book.txt");
-    if file < 0 {
-        return 0;
+fn read_book<R: Files>(rt: &R, text: &mut [u8]) -> usize {
+    match fs::open(rt, "book.txt") {
+        Ok(mut file) => read_full(&mut file, text),
+        Err(_) => 0,
     }
-    let size = io::read_full(file, &mut *text);
-    libc::close(file);
-    size
 }
 
-// A proved loop has to end, and nothing says that input does. So the loop counts its turns down, from a number that no run
-// uses up.
-fn list_input(book: &[u32; BOOK_WORDS], input: &mut [u8], out: &mut [u8], figures: Figures) {
+// A proved loop has to end, and nothing says that input does. So the loop counts its turns, up to a number that no run uses up.
+fn list_input<R: Read>(
+    rt: &impl Print,
+    from: &mut R,
+    book: &[u32; BOOK_WORDS],
+    input: &mut [u8],
+    out: &mut [u8],
+    figures: Figures,
+) {
     let mut held = Held {
         size: 0,
         passing: false,
         more: true,
     };
-    let mut turns = u64::MAX;
-    while turns > 0 {
-        held = read_and_list(book, &mut *input, &mut *out, held, figures);
+    for _ in 0..u64::MAX {
+        held = read_and_list(rt, from, book, &mut *input, &mut *out, held, figures);
         if !held.more {
             return;
         }
-        turns -= 1;
     }
 }
 
 // A whole run.
-pub fn run(figures: Figures) {
+pub fn run<R: Files + Print, F: Read>(rt: &R, from: &mut F, figures: Figures) {
     let mut text = [0u8; ENOUGH];
-    let size = read_book(&mut text);
+    let size = read_book(rt, &mut text);
     if size > ENOUGH {
         return;
     }
@@ -56,8 +63,8 @@ pub fn run(figures: Figures) {
     if let Answer::Taken(_, _, _) = answer {
         let mut input = [0u8; INPUT];
         let mut out = [0u8; OUTPUT];
-        list_input(&words, &mut input, &mut out, figures);
+        list_input(rt, from, &words, &mut input, &mut out, figures);
         return;
     }
-    send_answer(answer);
+    let _ = send_answer(rt, answer);
 }

@@ -1,14 +1,17 @@
 // What the programs `spread_vectors` and `writer_vectors` share, which ask a lent book record, sound or damaged: an entry of the record set by
 // a line of standard input; and a number of two hex digits, for `routes_vectors` too.
+#![tactic(auto)]
+
 ghost use Rattle.std.specs.Prelude.{◌≡◌, [], ◌∷◌, ◌≤◌};
 ghost use Rattle.numerals.specs.Numeral.{numeral_from, or_zero};
 ghost use Rattle.record.specs.Columns.{book_words};
 
-use libc::STDIN_FILENO;
 use numerals::identifier_or_0;
 use record::{
     BOOK_WORDS, ENDS, FROMS, IDS, MESSAGE_COUNT, NUMBERS, ROUTE_COUNT, SIGNAL_COUNT, STARTS, TOS,
 };
+use std::io::Read;
+use streams::read_full;
 
 // The number that two digits 0-9 A-F write; 0 where they write none.
 pub fn short_hex(high: u8, low: u8) -> usize
@@ -35,9 +38,9 @@ fn column(letter: u8) -> usize
 }
 
 // What is left of a line after its `X`: a column's letter, an index in two digits, a value in eight, and its newline. Sets that entry.
-pub fn set_entry(book: &mut [u32; BOOK_WORDS]) {
+pub fn set_entry<R: Read>(input: &mut R, book: &mut [u32; BOOK_WORDS]) {
     let mut line = [0u8; 12];
-    io::read_full(STDIN_FILENO, &mut line);
+    read_full(input, &mut line);
     let index = short_hex(line[1], line[2]);
     let value = identifier_or_0(&line[3..11]);
     let start = column(line[0]);

@@ -3,9 +3,8 @@ ghost use Rattle.std.specs.Prelude.{◌≤◌};
 
 use crate::FILLING;
 use book_writer::Wrote;
-use libc::STDOUT_FILENO;
 use record::BOOK_WORDS;
-use streams::write_first;
+use streams::{print_bytes, print_decimal, write_first};
 
 fn one_if_filling(byte: u8) -> usize
     ensures { result ≤ 1 }
@@ -27,30 +26,30 @@ fn stayed(room: &[u8], place: usize) -> usize {
     count
 }
 
-fn print_line(word: &[u8], number: usize, bytes: usize) {
-    io::write_all(STDOUT_FILENO, word);
-    io::print_decimal(STDOUT_FILENO, number as u64);
-    io::write_all(STDOUT_FILENO, b"\t");
-    io::print_decimal(STDOUT_FILENO, bytes as u64);
-    io::write_all(STDOUT_FILENO, b"\n");
+fn print_line(rt: &impl Print, word: &[u8], number: usize, bytes: usize) {
+    print_bytes(rt, word);
+    print_decimal(rt, number as u64);
+    print_bytes(rt, b"\t");
+    print_decimal(rt, bytes as u64);
+    print_bytes(rt, b"\n");
 }
 
-fn print_text(room: &[u8], size: usize) {
+fn print_text(rt: &impl Print, room: &[u8], size: usize) {
     let rest = stayed(room, size);
-    print_line(b"text\t", size, rest);
-    write_first(room, size);
+    print_line(rt, b"text\t", size, rest);
+    let _ = write_first(rt, room, size);
 }
 
-fn print_refusal(room: &[u8], number: usize) {
+fn print_refusal(rt: &impl Print, room: &[u8], number: usize) {
     let whole = stayed(room, 0);
-    print_line(b"no\t", number, whole);
+    print_line(rt, b"no\t", number, whole);
 }
 
 // The room is as it is lent.
-pub fn print_answer(book: &[u32; BOOK_WORDS], room: &mut [u8]) {
+pub fn print_answer(rt: &impl Print, book: &[u32; BOOK_WORDS], room: &mut [u8]) {
     match book_writer::write(book, &mut *room) {
-        Wrote::Length(n) => print_text(&*room, n as usize),
-        Wrote::NotABook => print_refusal(&*room, 12),
-        Wrote::NoRoom => print_refusal(&*room, 71),
+        Wrote::Length(n) => print_text(rt, &*room, n as usize),
+        Wrote::NotABook => print_refusal(rt, &*room, 12),
+        Wrote::NoRoom => print_refusal(rt, &*room, 71),
     }
 }

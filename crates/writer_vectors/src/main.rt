@@ -3,15 +3,17 @@
 // in two digits and a value in eight: sets an entry; `W` and a room in eight digits, filled with `*`: asks for the text. That gives a
 // line, `text`, its length and how many bytes of the room behind it are still `*`, and then the text; or `no`, the refusal and how many
 // bytes of the room are.
+#![tactic(auto)]
+
 mod answer;
 
 use answer::print_answer;
-use libc::STDIN_FILENO;
 use numerals::identifier_or_0;
 use parts::part_before;
 use record::BOOK_WORDS;
 use record_cases::set_entry;
-use streams::read_first;
+use std::io::Read;
+use streams::{read_first, read_full};
 
 const MOST_LINES: u32 = 1000000;
 
@@ -22,9 +24,9 @@ const ROOM: usize = 8192;
 const FILLING: u8 = 42;
 
 // Eight digits and the end of their line.
-fn read_size() -> usize {
+fn read_size<R: Read>(input: &mut R) -> usize {
     let mut line = [0u8; 9];
-    io::read_full(STDIN_FILENO, &mut line);
+    read_full(input, &mut line);
     identifier_or_0(&line[0..8]) as usize
 }
 
@@ -35,38 +37,37 @@ fn take_first(text: &[u8], size: usize, book: &mut [u32; BOOK_WORDS]) {
     }
 }
 
-fn read_book(book: &mut [u32; BOOK_WORDS]) {
+fn read_book<R: Read>(input: &mut R, book: &mut [u32; BOOK_WORDS]) {
     let mut text = [0u8; ROOM];
-    let size = read_size();
+    let size = read_size(input);
     if size < ROOM {
-        read_first(&mut text, size + 1);
+        read_first(input, &mut text, size + 1);
         take_first(&text, size, book);
     }
 }
 
-fn ask(book: &[u32; BOOK_WORDS]) {
-    let size = read_size();
+fn ask<R: Read>(rt: &impl Print, input: &mut R, book: &[u32; BOOK_WORDS]) {
+    let size = read_size(input);
     let mut room = [FILLING; ROOM];
     if size <= ROOM {
-        print_answer(book, &mut room[..size]);
+        print_answer(rt, book, &mut room[..size]);
     }
 }
 
-fn main() {
+fn main(rt: HostRuntime) {
+    let mut input = rt.stdin();
     let mut book = [0u32; BOOK_WORDS];
     let mut letter = [0u8; 1];
-    let mut lines: u32 = 0;
-    while lines < MOST_LINES {
-        lines += 1;
-        if io::read_full(STDIN_FILENO, &mut letter) < 1 {
+    for _ in 0..MOST_LINES {
+        if read_full(&mut input, &mut letter) < 1 {
             return;
         }
         if letter[0] == b'B' {
-            read_book(&mut book);
+            read_book(&mut input, &mut book);
         } else if letter[0] == b'X' {
-            set_entry(&mut book);
+            set_entry(&mut input, &mut book);
         } else {
-            ask(&book);
+            ask(&rt, &mut input, &book);
         }
     }
 }
