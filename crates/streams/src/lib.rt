@@ -1,19 +1,48 @@
-// The front of a buffer from standard input and to standard output, for the programs of this repository. A front that is longer
-// than its buffer is left alone.
-use libc::{STDIN_FILENO, STDOUT_FILENO};
+// Standard input and standard output, for the programs of this repository. A read that fails ends the input, and of a print that
+// fails nothing is said, but by `write_first`. A front that is longer than its buffer is left alone.
+#![tactic(auto)]
+
+ghost use Rattle.std.specs.Prelude.{◌≤◌, length};
+
 use parts::part_before;
+use std::io;
+use std::io::{ErrorKind, Read};
+
+// Fills the buffer, as far as the input goes, and answers how many bytes it put there.
+pub fn read_full<R: Read>(input: &mut R, buffer: &mut [u8]) -> usize
+    ensures { result ≤ length buffer.new }
+{
+    let mut done: usize = 0;
+    while done < buffer.len() {
+        match input.read(&mut buffer[done..]) {
+            Ok(0) => return done,
+            Ok(more) => done += more,
+            Err(_) => return done,
+        }
+    }
+    done
+}
 
 // Fills the first `size` bytes, as far as the input goes.
-pub fn read_first(buffer: &mut [u8], size: usize) {
+pub fn read_first<R: Read>(input: &mut R, buffer: &mut [u8], size: usize) {
     if size <= buffer.len() {
-        io::read_full(STDIN_FILENO, &mut buffer[..size]);
+        read_full(input, &mut buffer[..size]);
     }
 }
 
-// Writes the first `size` bytes, and answers whether all of them were taken.
-pub fn write_first(buffer: &[u8], size: usize) -> bool {
+// Writes the first `size` bytes. An answer without an error says that all of them were taken.
+pub fn write_first(rt: &impl Print, buffer: &[u8], size: usize) -> io::Result<()> {
     if size > buffer.len() {
-        return false;
+        return Err(io::Error::from(ErrorKind::InvalidInput));
     }
-    io::write_all(STDOUT_FILENO, part_before(buffer, size))
+    rt.write_all(part_before(buffer, size))
+}
+
+pub fn print_bytes(rt: &impl Print, bytes: &[u8]) {
+    let _ = rt.write_all(bytes);
+}
+
+// The number in decimal digits.
+pub fn print_decimal(rt: &impl Print, number: u64) {
+    let _ = rt.print(number);
 }
