@@ -2,7 +2,8 @@
 // fails nothing is said, but by `write_first`. A front that is longer than its buffer is left alone.
 #![tactic(auto)]
 
-ghost use Rattle.std.specs.Prelude.{◌≤◌, length};
+ghost use Rattle.std.specs.Prelude.{◌≤◌, length, take};
+ghost use Rattle.std.specs.Io.KnownBytes.{Consumes};
 
 use parts::part_before;
 use std::io;
@@ -10,7 +11,8 @@ use std::io::{ErrorKind, Read};
 
 // Fills the buffer, as far as the input goes, and answers how many bytes it put there.
 pub fn read_full<R: Read>(input: &mut R, buffer: &mut [u8]) -> usize
-    ensures { result ≤ length buffer.new }
+    ensures within { result ≤ length buffer.new }
+    ensures bytes { Consumes (R.remaining input.old) (R.remaining input.new) (take result buffer.new) }
 {
     let mut done: usize = 0;
     while done < buffer.len() {
