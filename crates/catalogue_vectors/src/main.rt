@@ -1,159 +1,158 @@
 // Prints every row of the catalogue, and the class of the counts at its edges: 0, the limits and one beyond each, the ends
 // of every mark and one beyond each, all ones, and one too wide. Then the answer for numbers that no signal has.
+#![tactic(auto)]
+
 use catalogue::{Class, Raw};
-use libc::STDOUT_FILENO;
 use rows::{Mark, Row};
-use streams::write_first;
+use streams::{print_bytes, print_decimal, write_first};
 
 const ROWS: usize = 199;
 
-fn print(n: u32) {
-    io::write_all(STDOUT_FILENO, b"\t");
-    io::print_decimal(STDOUT_FILENO, n as u64);
+fn print(rt: &impl Print, n: u32) {
+    print_bytes(rt, b"\t");
+    print_decimal(rt, n as u64);
 }
 
-fn print_signed(n: i64) {
+fn print_signed(rt: &impl Print, n: i64) {
     let mut text = [0u8; 32];
     let count = printing::put_signed(&mut text, 0, n);
-    io::write_all(STDOUT_FILENO, b"\t");
-    write_first(&text, count);
+    print_bytes(rt, b"\t");
+    let _ = write_first(rt, &text, count);
 }
 
 fn wide(n: i32) -> i64 {
     n as i64
 }
 
-fn print_kind(kind: u8) {
+fn print_kind(rt: &impl Print, kind: u8) {
     if kind == rows::INVALID {
-        io::write_all(STDOUT_FILENO, b"\tinvalid");
+        print_bytes(rt, b"\tinvalid");
     } else if kind == rows::ABSENT {
-        io::write_all(STDOUT_FILENO, b"\tabsent");
+        print_bytes(rt, b"\tabsent");
     } else if kind == rows::ERROR {
-        io::write_all(STDOUT_FILENO, b"\terror");
+        print_bytes(rt, b"\terror");
     } else {
-        io::write_all(STDOUT_FILENO, b"\treserved");
+        print_bytes(rt, b"\treserved");
     }
 }
 
-fn print_mark(mark: Mark) {
+fn print_mark(rt: &impl Print, mark: Mark) {
     if mark.kind != rows::UNMARKED {
-        print_kind(mark.kind);
-        print(mark.first);
-        print(mark.last);
+        print_kind(rt, mark.kind);
+        print(rt, mark.first);
+        print(rt, mark.last);
     }
 }
 
-fn print_row(row: Row) {
-    io::write_all(STDOUT_FILENO, b"row");
-    print(row.number);
-    print(row.bits);
-    print(row.resolution as u32);
-    print_signed(wide(row.offset));
-    print(row.lowest);
-    print(row.highest);
-    print_mark(row.mark1);
-    print_mark(row.mark2);
-    print_mark(row.mark3);
-    io::write_all(STDOUT_FILENO, b"\n");
+fn print_row(rt: &impl Print, row: Row) {
+    print_bytes(rt, b"row");
+    print(rt, row.number);
+    print(rt, row.bits);
+    print(rt, row.resolution as u32);
+    print_signed(rt, wide(row.offset));
+    print(rt, row.lowest);
+    print(rt, row.highest);
+    print_mark(rt, row.mark1);
+    print_mark(rt, row.mark2);
+    print_mark(rt, row.mark3);
+    print_bytes(rt, b"\n");
 }
 
-fn print_count(word: &[u8], raw: Raw) {
-    io::write_all(STDOUT_FILENO, word);
-    print(raw.0);
+fn print_count(rt: &impl Print, word: &[u8], raw: Raw) {
+    print_bytes(rt, word);
+    print(rt, raw.0);
 }
 
-fn print_class(number: u32, count: u32) {
-    io::print_decimal(STDOUT_FILENO, number as u64);
-    print(count);
+fn print_class(rt: &impl Print, number: u32, count: u32) {
+    print_decimal(rt, number as u64);
+    print(rt, count);
     match catalogue::class_of(number, Raw(count)) {
         Class::Value(t) => {
-            io::write_all(STDOUT_FILENO, b"\tvalue");
-            print_signed(t.0);
+            print_bytes(rt, b"\tvalue");
+            print_signed(rt, t.0);
         }
-        Class::Invalid(raw) => print_count(b"\tinvalid", raw),
-        Class::Absent(raw) => print_count(b"\tabsent", raw),
-        Class::Error(raw) => print_count(b"\terror", raw),
-        Class::Reserved(raw) => print_count(b"\treserved", raw),
-        Class::Outside(raw) => print_count(b"\toutside", raw),
+        Class::Invalid(raw) => print_count(rt, b"\tinvalid", raw),
+        Class::Absent(raw) => print_count(rt, b"\tabsent", raw),
+        Class::Error(raw) => print_count(rt, b"\terror", raw),
+        Class::Reserved(raw) => print_count(rt, b"\treserved", raw),
+        Class::Outside(raw) => print_count(rt, b"\toutside", raw),
         Class::NotInCatalogue => {
-            io::write_all(STDOUT_FILENO, b"\tno\t3");
+            print_bytes(rt, b"\tno\t3");
         }
         Class::TooWide => {
-            io::write_all(STDOUT_FILENO, b"\tno\t26");
+            print_bytes(rt, b"\tno\t26");
         }
     }
-    io::write_all(STDOUT_FILENO, b"\n");
+    print_bytes(rt, b"\n");
 }
 
 // One below a count, if that is a count.
-fn below(number: u32, first: u32) {
+fn below(rt: &impl Print, number: u32, first: u32) {
     if first > 0 {
-        print_class(number, first - 1);
+        print_class(rt, number, first - 1);
     }
 }
 
 // One below an interval, its first and last, and one above, as far as these are counts.
-fn around(number: u32, first: u32, last: u32) {
-    below(number, first);
-    print_class(number, first);
-    print_class(number, last);
+fn around(rt: &impl Print, number: u32, first: u32, last: u32) {
+    below(rt, number, first);
+    print_class(rt, number, first);
+    print_class(rt, number, last);
     if last < 4294967295 {
-        print_class(number, last + 1);
+        print_class(rt, number, last + 1);
     }
 }
 
-fn around_mark(number: u32, mark: Mark) {
+fn around_mark(rt: &impl Print, number: u32, mark: Mark) {
     if mark.kind != rows::UNMARKED {
-        around(number, mark.first, mark.last);
+        around(rt, number, mark.first, mark.last);
     }
 }
 
 // All ones, and one more.
-fn at_width(number: u32, bits: u32) {
+fn at_width(rt: &impl Print, number: u32, bits: u32) {
     if bits < 32 {
         let codes = 1u32 << bits;
-        below(number, codes);
-        print_class(number, codes);
+        below(rt, number, codes);
+        print_class(rt, number, codes);
     } else {
-        print_class(number, 4294967295);
+        print_class(rt, number, 4294967295);
     }
 }
 
-fn print_edges(row: Row) {
+fn print_edges(rt: &impl Print, row: Row) {
     let number = row.number;
-    print_class(number, 0);
-    around(number, row.lowest, row.highest);
-    around_mark(number, row.mark1);
-    around_mark(number, row.mark2);
-    around_mark(number, row.mark3);
-    at_width(number, row.bits);
+    print_class(rt, number, 0);
+    around(rt, number, row.lowest, row.highest);
+    around_mark(rt, number, row.mark1);
+    around_mark(rt, number, row.mark2);
+    around_mark(rt, number, row.mark3);
+    at_width(rt, number, row.bits);
 }
 
-fn print_rows() {
-    let mut place: usize = 0;
-    while place < ROWS {
+fn print_rows(rt: &impl Print) {
+    for place in 0..ROWS {
         let row = rows::row_at(place);
-        print_row(row);
-        print_edges(row);
-        place += 1;
+        print_row(rt, row);
+        print_edges(rt, row);
     }
 }
 
 // No signal has these numbers.
-fn print_strangers() {
-    print_class(0, 0);
-    print_class(1, 0);
-    print_class(200, 0);
-    print_class(299, 0);
-    print_class(1400, 0);
-    print_class(1401, 0);
-    print_class(1928, 0);
-    print_class(2001, 0);
-    print_class(65535, 0);
-    print_class(4294967295, 0);
+fn print_strangers(rt: &impl Print) {
+    print_class(rt, 0, 0);
+    print_class(rt, 1, 0);
+    print_class(rt, 200, 0);
+    print_class(rt, 299, 0);
+    print_class(rt, 1400, 0);
+    print_class(rt, 1401, 0);
+    print_class(rt, 1928, 0);
+    print_class(rt, 2001, 0);
+    print_class(rt, 65535, 0);
+    print_class(rt, 4294967295, 0);
 }
 
-fn main() {
-    print_rows();
-    print_strangers();
+fn main(rt: HostRuntime) {
+    print_rows(&rt);
+    print_strangers(&rt);
 }

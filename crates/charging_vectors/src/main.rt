@@ -1,10 +1,12 @@
 // Runs the charging monitor over the observations on standard input. A line is a state's digit, or N for a new monitor, and
 // the eleven raw counts in eight hex digits each, in the order of `ChargeObservation`. Each gives a line: the next state's
 // digit, or `no` and the refusal.
+#![tactic(auto)]
+
 use catalogue::Raw;
 use charging::{ChargeAnswer, ChargeObservation, ChargeState, ChargeStateOrNone};
-use libc::{STDIN_FILENO, STDOUT_FILENO};
 use numerals::identifier_or_0;
+use streams::{print_bytes, print_decimal, read_full};
 
 const MOST_LINES: u32 = 1000000;
 
@@ -48,31 +50,30 @@ fn observed(line: [u8; 90]) -> ChargeObservation {
     }
 }
 
-fn step(state: ChargeState, seen: ChargeObservation) {
+fn step(rt: &impl Print, state: ChargeState, seen: ChargeObservation) {
     let after = charging::step(state, seen);
     let answer = after.answer;
     match answer {
         ChargeAnswer::Taken => {
             let next = after.state;
-            io::print_decimal(STDOUT_FILENO, next.number() as u64);
-            io::write_all(STDOUT_FILENO, b"\n");
+            print_decimal(rt, next.number() as u64);
+            print_bytes(rt, b"\n");
         }
         ChargeAnswer::TooWide => {
-            io::write_all(STDOUT_FILENO, b"no\t81\n");
+            print_bytes(rt, b"no\t81\n");
         }
     }
 }
 
-fn main() {
+fn main(rt: HostRuntime) {
+    let mut input = rt.stdin();
     let mut line = [0u8; 90];
-    let mut lines: u32 = 0;
-    while lines < MOST_LINES {
-        lines += 1;
-        if io::read_full(STDIN_FILENO, &mut line) < 90 {
+    for _ in 0..MOST_LINES {
+        if read_full(&mut input, &mut line) < 90 {
             return;
         }
         match state_of(line[0]) {
-            ChargeStateOrNone::Is(state) => step(state, observed(line)),
+            ChargeStateOrNone::Is(state) => step(&rt, state, observed(line)),
             ChargeStateOrNone::NoChargeState => return,
         }
     }

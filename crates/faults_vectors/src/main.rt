@@ -1,9 +1,10 @@
 // Runs the fault sum over the counts on standard input. A line is how many counts, in two hex digits, and the counts in
 // eight each. Each gives a line: `sum` and the parts of the sum, or `no` and the refusal.
+#![tactic(auto)]
+
 use faults::{FaultAnswer, FaultSum};
-use libc::{STDIN_FILENO, STDOUT_FILENO};
 use numerals::identifier_or_0;
-use streams::read_first;
+use streams::{print_bytes, print_decimal, read_first, read_full};
 
 const MOST_LINES: u32 = 1000000;
 
@@ -13,35 +14,35 @@ const MOST: usize = 32;
 // The longest line after its count: 32 counts and the newline.
 const LINE: usize = 257;
 
-fn print(n: u32) {
-    io::write_all(STDOUT_FILENO, b"\t");
-    io::print_decimal(STDOUT_FILENO, n as u64);
+fn print(rt: &impl Print, n: u32) {
+    print_bytes(rt, b"\t");
+    print_decimal(rt, n as u64);
 }
 
-fn print_test(test: bool) {
-    if test { print(1) } else { print(0) }
+fn print_test(rt: &impl Print, test: bool) {
+    if test { print(rt, 1) } else { print(rt, 0) }
 }
 
-fn print_sum(sum: FaultSum) {
-    io::write_all(STDOUT_FILENO, b"sum");
-    print(sum.highest);
-    print(sum.at_1);
-    print(sum.at_2);
-    print(sum.at_3);
-    print(sum.set);
-    print_test(sum.emergency);
-    print_test(sum.agrees);
-    io::write_all(STDOUT_FILENO, b"\n");
+fn print_sum(rt: &impl Print, sum: FaultSum) {
+    print_bytes(rt, b"sum");
+    print(rt, sum.highest);
+    print(rt, sum.at_1);
+    print(rt, sum.at_2);
+    print(rt, sum.at_3);
+    print(rt, sum.set);
+    print_test(rt, sum.emergency);
+    print_test(rt, sum.agrees);
+    print_bytes(rt, b"\n");
 }
 
-fn sum(counts: &[u32]) {
+fn sum(rt: &impl Print, counts: &[u32]) {
     match faults::sum(counts) {
-        FaultAnswer::Summed(sum) => print_sum(sum),
+        FaultAnswer::Summed(sum) => print_sum(rt, sum),
         FaultAnswer::NotTwentySeven => {
-            io::write_all(STDOUT_FILENO, b"no\t31\n");
+            print_bytes(rt, b"no\t31\n");
         }
         FaultAnswer::TooWide => {
-            io::write_all(STDOUT_FILENO, b"no\t32\n");
+            print_bytes(rt, b"no\t32\n");
         }
     }
 }
@@ -49,36 +50,33 @@ fn sum(counts: &[u32]) {
 // The counts of a line, eight digits each. Past the last stands what an earlier line left.
 fn counts_on(line: [u8; LINE]) -> [u32; MOST] {
     let mut counts = [0u32; MOST];
-    let mut i: usize = 0;
-    while i < MOST {
+    for i in 0..MOST {
         let at = 8 * i;
         let end = at + 8;
         counts[i] = identifier_or_0(&line[at..end]);
-        i += 1;
     }
     counts
 }
 
-fn sum_first(counts: &[u32], n: usize) {
+fn sum_first(rt: &impl Print, counts: &[u32], n: usize) {
     if n <= counts.len() {
-        sum(&counts[..n]);
+        sum(rt, &counts[..n]);
     }
 }
 
-fn main() {
+fn main(rt: HostRuntime) {
+    let mut input = rt.stdin();
     let mut head = [0u8; 2];
     let mut line = [0u8; LINE];
-    let mut lines: u32 = 0;
-    while lines < MOST_LINES {
-        lines += 1;
-        if io::read_full(STDIN_FILENO, &mut head) < 2 {
+    for _ in 0..MOST_LINES {
+        if read_full(&mut input, &mut head) < 2 {
             return;
         }
         let n = identifier_or_0(&[b'0', b'0', b'0', b'0', b'0', b'0', head[0], head[1]]) as usize;
         if MOST < n {
             return;
         }
-        read_first(&mut line, 8 * n + 1);
-        sum_first(&counts_on(line), n);
+        read_first(&mut input, &mut line, 8 * n + 1);
+        sum_first(&rt, &counts_on(line), n);
     }
 }

@@ -4,43 +4,50 @@ use crate::numbers::{
 };
 use framing::Packing;
 use record::BOOK_WORDS;
+use std::io::Read;
 
 // The most bytes and the most values of a case.
 const MOST_BYTES: usize = 16;
 
 const MOST_VALUES: usize = 64;
 
-fn print_frame(frame: &[u8]) {
+fn print_frame(rt: &impl Print, frame: &[u8]) {
     if frame.len() == 8 {
-        print(b"packed\t");
-        print_four(frame[0], frame[1], frame[2], frame[3]);
-        print_four(frame[4], frame[5], frame[6], frame[7]);
-        print(b"\n");
+        print(rt, b"packed\t");
+        print_four(rt, frame[0], frame[1], frame[2], frame[3]);
+        print_four(rt, frame[4], frame[5], frame[6], frame[7]);
+        print(rt, b"\n");
     }
 }
 
-fn pack_into(book: &[u32; BOOK_WORDS], identifier: u32, values: &[u32], frame: &mut [u8]) {
+fn pack_into(
+    rt: &impl Print,
+    book: &[u32; BOOK_WORDS],
+    identifier: u32,
+    values: &[u32],
+    frame: &mut [u8],
+) {
     match frames::pack(book, identifier, values, &mut *frame) {
-        Packing::Packed => print_frame(&*frame),
-        Packing::NotABook => print_refusal(12),
-        Packing::UnknownIdentifier => print_refusal(22),
-        Packing::WrongCountOfValues => print_refusal(25),
-        Packing::NotEightBytes => print_refusal(21),
-        Packing::TooWide => print_refusal(26),
-        Packing::ReservedOrOutside => print_refusal(27),
+        Packing::Packed => print_frame(rt, &*frame),
+        Packing::NotABook => print_refusal(rt, 12),
+        Packing::UnknownIdentifier => print_refusal(rt, 22),
+        Packing::WrongCountOfValues => print_refusal(rt, 25),
+        Packing::NotEightBytes => print_refusal(rt, 21),
+        Packing::TooWide => print_refusal(rt, 26),
+        Packing::ReservedOrOutside => print_refusal(rt, 27),
     }
 }
 
-fn read_values(values: &mut [u32]) {
-    let mut i: usize = 0;
-    while i < values.len() {
-        values[i] = read_eight_digits();
-        i += 1;
+fn read_values<R: Read>(input: &mut R, values: &mut [u32]) {
+    for i in 0..values.len() {
+        values[i] = read_eight_digits(input);
     }
 }
 
 // The first `size` bytes are lent, and the first `count` values given.
-fn pack_parts(
+fn pack_parts<R: Read>(
+    rt: &impl Print,
+    input: &mut R,
     book: &[u32; BOOK_WORDS],
     identifier: u32,
     size: usize,
@@ -51,19 +58,28 @@ fn pack_parts(
     if count > values.len() {
         return;
     }
-    read_values(&mut values[..count]);
+    read_values(input, &mut values[..count]);
     if size > frame.len() {
         return;
     }
-    pack_into(book, identifier, &values[..count], &mut frame[..size]);
+    pack_into(rt, book, identifier, &values[..count], &mut frame[..size]);
 }
 
-pub fn pack_case(book: &[u32; BOOK_WORDS]) {
-    let identifier = read_eight_digits();
-    let size = read_two_digits() as usize;
-    let count = read_two_digits() as usize;
+pub fn pack_case<R: Read>(rt: &impl Print, input: &mut R, book: &[u32; BOOK_WORDS]) {
+    let identifier = read_eight_digits(input);
+    let size = read_two_digits(input) as usize;
+    let count = read_two_digits(input) as usize;
     let mut values = [0u32; MOST_VALUES];
     let mut frame = [0u8; MOST_BYTES];
-    pack_parts(book, identifier, size, count, &mut values, &mut frame);
-    end_line();
+    pack_parts(
+        rt,
+        input,
+        book,
+        identifier,
+        size,
+        count,
+        &mut values,
+        &mut frame,
+    );
+    end_line(input);
 }

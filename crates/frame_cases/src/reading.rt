@@ -7,48 +7,53 @@ use crate::numbers::{
 };
 use framing::Reading;
 use record::BOOK_WORDS;
+use std::io::Read;
 
 // The most bytes and the most room of a case.
 const MOST_BYTES: usize = 16;
 
 const MOST_ROOM: usize = 64;
 
-fn print_word(code: u8) {
+fn print_word(rt: &impl Print, code: u8) {
     if code == 0 {
-        print(b"value");
+        print(rt, b"value");
     } else if code == 1 {
-        print(b"invalid");
+        print(rt, b"invalid");
     } else if code == 2 {
-        print(b"absent");
+        print(rt, b"absent");
     } else if code == 3 {
-        print(b"error");
+        print(rt, b"error");
     } else if code == 4 {
-        print(b"reserved");
+        print(rt, b"reserved");
     } else {
-        print(b"outside");
+        print(rt, b"outside");
     }
 }
 
-fn print_reading(raw: u32, code: u8, thousandths: i64) {
-    print(b"\t");
-    print_number(raw);
-    print(b"\t");
-    print_word(code);
-    print(b"\t");
-    print_signed(thousandths);
+fn print_reading(rt: &impl Print, raw: u32, code: u8, thousandths: i64) {
+    print(rt, b"\t");
+    print_number(rt, raw);
+    print(rt, b"\t");
+    print_word(rt, code);
+    print(rt, b"\t");
+    print_signed(rt, thousandths);
 }
 
-fn print_each(count: usize, raws: &[u32], classes: &[u8], thousandths: &[i64])
+fn print_each(rt: &impl Print, count: usize, raws: &[u32], classes: &[u8], thousandths: &[i64])
     requires { (count ≤ length raws.now) × (count ≤ length classes.now) × (count ≤ length thousandths.now) }
 {
-    let mut i: usize = 0;
-    while i < count {
-        print_reading(raws[i], classes[i], thousandths[i]);
-        i += 1;
+    for i in 0..count {
+        print_reading(rt, raws[i], classes[i], thousandths[i]);
     }
 }
 
-fn print_readings(count: usize, raws: &[u32], classes: &[u8], thousandths: &[i64]) {
+fn print_readings(
+    rt: &impl Print,
+    count: usize,
+    raws: &[u32],
+    classes: &[u8],
+    thousandths: &[i64],
+) {
     if count > raws.len() {
         return;
     }
@@ -58,13 +63,14 @@ fn print_readings(count: usize, raws: &[u32], classes: &[u8], thousandths: &[i64
     if count > thousandths.len() {
         return;
     }
-    print(b"read\t");
-    print_number((count % 65536) as u32);
-    print_each(count, raws, classes, thousandths);
-    print(b"\n");
+    print(rt, b"read\t");
+    print_number(rt, (count % 65536) as u32);
+    print_each(rt, count, raws, classes, thousandths);
+    print(rt, b"\n");
 }
 
 fn read_by(
+    rt: &impl Print,
     book: &[u32; BOOK_WORDS],
     identifier: u32,
     frame: &[u8],
@@ -80,25 +86,25 @@ fn read_by(
         &mut *classes,
         &mut *thousandths,
     ) {
-        Reading::Read(n) => print_readings(n as usize, &*raws, &*classes, &*thousandths),
-        Reading::NotABook => print_refusal(12),
-        Reading::NotEightBytes => print_refusal(21),
-        Reading::UnknownIdentifier => print_refusal(22),
-        Reading::WrongChecksum => print_refusal(23),
-        Reading::TooLittleRoom => print_refusal(24),
+        Reading::Read(n) => print_readings(rt, n as usize, &*raws, &*classes, &*thousandths),
+        Reading::NotABook => print_refusal(rt, 12),
+        Reading::NotEightBytes => print_refusal(rt, 21),
+        Reading::UnknownIdentifier => print_refusal(rt, 22),
+        Reading::WrongChecksum => print_refusal(rt, 23),
+        Reading::TooLittleRoom => print_refusal(rt, 24),
     }
 }
 
-fn read_bytes(frame: &mut [u8]) {
-    let mut i: usize = 0;
-    while i < frame.len() {
-        frame[i] = read_byte();
-        i += 1;
+fn read_bytes<R: Read>(input: &mut R, frame: &mut [u8]) {
+    for i in 0..frame.len() {
+        frame[i] = read_byte(input);
     }
 }
 
 // The first `count` bytes and the first `room` entries are lent.
-fn read_parts(
+fn read_parts<R: Read>(
+    rt: &impl Print,
+    input: &mut R,
     book: &[u32; BOOK_WORDS],
     identifier: u32,
     room: usize,
@@ -111,7 +117,7 @@ fn read_parts(
     if count > frame.len() {
         return;
     }
-    read_bytes(&mut frame[..count]);
+    read_bytes(input, &mut frame[..count]);
     if room > raws.len() {
         return;
     }
@@ -122,6 +128,7 @@ fn read_parts(
         return;
     }
     read_by(
+        rt,
         book,
         identifier,
         &frame[..count],
@@ -131,15 +138,17 @@ fn read_parts(
     );
 }
 
-pub fn read_case(book: &[u32; BOOK_WORDS]) {
-    let identifier = read_eight_digits();
-    let room = read_two_digits() as usize;
-    let count = read_two_digits() as usize;
+pub fn read_case<R: Read>(rt: &impl Print, input: &mut R, book: &[u32; BOOK_WORDS]) {
+    let identifier = read_eight_digits(input);
+    let room = read_two_digits(input) as usize;
+    let count = read_two_digits(input) as usize;
     let mut frame = [0u8; MOST_BYTES];
     let mut raws = [0u32; MOST_ROOM];
     let mut classes = [0u8; MOST_ROOM];
     let mut thousandths = [0i64; MOST_ROOM];
     read_parts(
+        rt,
+        input,
         book,
         identifier,
         room,
@@ -149,5 +158,5 @@ pub fn read_case(book: &[u32; BOOK_WORDS]) {
         &mut classes,
         &mut thousandths,
     );
-    end_line();
+    end_line(input);
 }

@@ -1,4 +1,6 @@
 // Reads the frames on standard input by the books there.
-fn main() {
-    frame_cases::run();
+#![tactic(auto)]
+
+fn main(rt: HostRuntime) {
+    frame_cases::run(&rt);
 }

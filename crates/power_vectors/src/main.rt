@@ -1,10 +1,12 @@
 // Runs the power monitor over the observations on standard input. A line is a state's digit, or N for a new monitor, the
 // eight raw counts in eight hex digits each, in the order of `Observation`, and the share likewise, or eight hyphens where none
 // is given. Each gives a line: the next state's digit, or `no` and the refusal.
+#![tactic(auto)]
+
 use catalogue::Raw;
-use libc::{STDIN_FILENO, STDOUT_FILENO};
 use numerals::identifier_or_0;
 use power::{Observation, PowerAnswer, Share, State, StateOrNone};
+use streams::{print_bytes, print_decimal, read_full};
 
 const MOST_LINES: u32 = 1000000;
 
@@ -48,40 +50,39 @@ fn observed(line: [u8; 74]) -> Observation {
     }
 }
 
-fn step(state: State, seen: Observation) {
+fn step(rt: &impl Print, state: State, seen: Observation) {
     let after = power::step(state, seen);
     let answer = after.answer;
     match answer {
         PowerAnswer::Taken => {
             let next = after.state;
-            io::print_decimal(STDOUT_FILENO, next.number() as u64);
-            io::write_all(STDOUT_FILENO, b"\n");
+            print_decimal(rt, next.number() as u64);
+            print_bytes(rt, b"\n");
         }
         PowerAnswer::NeitherOpenNorClosed => {
-            io::write_all(STDOUT_FILENO, b"no\t41\n");
+            print_bytes(rt, b"no\t41\n");
         }
         PowerAnswer::CommandTooHigh => {
-            io::write_all(STDOUT_FILENO, b"no\t42\n");
+            print_bytes(rt, b"no\t42\n");
         }
         PowerAnswer::ReadingTooHigh => {
-            io::write_all(STDOUT_FILENO, b"no\t43\n");
+            print_bytes(rt, b"no\t43\n");
         }
         PowerAnswer::ShareOutOfRange => {
-            io::write_all(STDOUT_FILENO, b"no\t44\n");
+            print_bytes(rt, b"no\t44\n");
         }
     }
 }
 
-fn main() {
+fn main(rt: HostRuntime) {
+    let mut input = rt.stdin();
     let mut line = [0u8; 74];
-    let mut lines: u32 = 0;
-    while lines < MOST_LINES {
-        lines += 1;
-        if io::read_full(STDIN_FILENO, &mut line) < 74 {
+    for _ in 0..MOST_LINES {
+        if read_full(&mut input, &mut line) < 74 {
             return;
         }
         match state_of(line[0]) {
-            StateOrNone::State(state) => step(state, observed(line)),
+            StateOrNone::State(state) => step(&rt, state, observed(line)),
             StateOrNone::NoState => return,
         }
     }

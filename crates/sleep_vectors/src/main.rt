@@ -1,11 +1,14 @@
 // Runs the sleep watch over the clock sequences on standard input. A line is a letter and a time in eight hex digits: N
 // starts a new watch, awake at that time; W is a call with wake on, O one with wake off. Each call gives a line, the
 // watch after it, or `no` and the refusal.
+#![tactic(auto)]
+
 ghost use Rattle.std.specs.Prelude.{◌≡◌, ◌-◌, ◌≤◌};
 
-use libc::{STDIN_FILENO, STDOUT_FILENO};
 use numerals::identifier_or_0;
 use sleep::{SleepAnswer, Watch};
+use std::io::Read;
+use streams::{print_bytes, print_decimal, read_full};
 
 // More turns than the input has lines.
 const MOST_TURNS: u32 = 1000000;
@@ -33,14 +36,14 @@ fn no_turn() -> Turn
 }
 
 // The turn of the next line, after one with so many left.
-fn next_turn(left: u32) -> Turn
+fn next_turn<R: Read>(input: &mut R, left: u32) -> Turn
     ensures { result.left ≤ left - 1 }
 {
     let mut line = [0u8; 10];
     if left < 2 {
         return no_turn();
     }
-    if io::read_full(STDIN_FILENO, &mut line) < 10 {
+    if read_full(input, &mut line) < 10 {
         return no_turn();
     }
     let time = identifier_or_0(&line[1..9]);
@@ -53,40 +56,41 @@ fn next_turn(left: u32) -> Turn
     }
 }
 
-fn first_turn() -> Turn {
-    next_turn(MOST_TURNS)
+fn first_turn<R: Read>(input: &mut R) -> Turn {
+    next_turn(input, MOST_TURNS)
 }
 
-fn print(watch: Watch, answer: SleepAnswer) {
+fn print(rt: &impl Print, watch: Watch, answer: SleepAnswer) {
     match answer {
-        SleepAnswer::Taken => print_watch(watch),
+        SleepAnswer::Taken => print_watch(rt, watch),
         SleepAnswer::ClockWentBack => {
-            io::write_all(STDOUT_FILENO, b"no\t51\n");
+            print_bytes(rt, b"no\t51\n");
         }
     }
 }
 
-fn print_watch(watch: Watch) {
+fn print_watch(rt: &impl Print, watch: Watch) {
     if watch.asleep {
-        io::write_all(STDOUT_FILENO, b"asleep\t");
+        print_bytes(rt, b"asleep\t");
     } else {
-        io::write_all(STDOUT_FILENO, b"awake\t");
+        print_bytes(rt, b"awake\t");
     }
-    io::print_decimal(STDOUT_FILENO, watch.last_wake as u64);
-    io::write_all(STDOUT_FILENO, b"\n");
+    print_decimal(rt, watch.last_wake as u64);
+    print_bytes(rt, b"\n");
 }
 
 // The main loop keeps one watch, and lends it to `update` at each turn.
-fn main() {
+fn main(rt: HostRuntime) {
+    let mut input = rt.stdin();
     let mut watch = Watch::new(0);
-    let mut turn = first_turn();
+    let mut turn = first_turn(&mut input);
     while 0 < turn.left {
         if turn.starts {
             watch = Watch::new(turn.time);
         } else {
             let answer = sleep::update(&mut watch, turn.time, turn.wake);
-            print(watch, answer);
+            print(&rt, watch, answer);
         }
-        turn = next_turn(turn.left);
+        turn = next_turn(&mut input, turn.left);
     }
 }
