@@ -3,7 +3,7 @@
 processor, what is wrong with a word that they don't know; what book_write says where a read or a write fails; when tools/fresh wants a
 new proof; that no archive of other sources is left; and on a copy of the tree, crate by crate, what is proved, and what is not.
 
-    python3 tools/commands_test.py
+    python3 tools/commands_test.py [PART...]     helps, lost_bytes, freshness, leftovers, progress; without a word all
 """
 
 import os
@@ -76,9 +76,9 @@ def freshness():
     with tempfile.TemporaryDirectory() as made:
         tree, copied = Path(made) / "tree", Path(made) / "copied"
         for name in ("tools", f"crates/{BELOW}"):
-            shutil.copytree(ROOT / name, tree / name)
+            shutil.copytree(ROOT / name, tree / name, ignore=shutil.ignore_patterns("out", "__pycache__"))
         shutil.copy(ROOT / "crates.txt", tree)
-        source, built = (f"crates/{BELOW}/src/lib.rt", f"target/bin/{BELOW}")
+        source, built, made_by_rt = (f"crates/{BELOW}/src/lib.rt", f"target/bin/{BELOW}", f"crates/{BELOW}/out/rlib")
         (tree / built).parent.mkdir(parents=True)
 
         def fresh(folder=tree):
@@ -107,6 +107,10 @@ def freshness():
             shutil.rmtree(copied)
             put_back(name)
             yield fresh(), f"not fresh, and {name} is as it was"
+        (tree / made_by_rt).mkdir(parents=True)
+        yield fresh(), "not fresh, and rt has made something in a crate's out/"
+        (tree / made_by_rt / "stamp").write_text("another")
+        yield fresh(), "not fresh, and what rt made is another"
         outside = Path(made) / "outside.rt"
         (tree / source).rename(outside)
         (tree / source).symlink_to(outside)
@@ -141,10 +145,14 @@ def leftovers():
 
 def progress():
     """Of a copy in which nothing is proved, twice at once: one run tells each crate with its number, the other waits and has nothing left
-    to prove; then of one that is not proved any more, what rt says of it and nothing else."""
+    to prove; then of one that is not proved any more, what rt says of it and nothing else. The copy's crates are others than those here,
+    by a line in each, since rt takes what another checkout on the machine has built of the same text."""
     with tempfile.TemporaryDirectory() as made, ThreadPoolExecutor(2) as pool:
         copy = Path(made) / "copy"
-        shutil.copytree(ROOT, copy, ignore=shutil.ignore_patterns("target", ".git", "__pycache__"))
+        shutil.copytree(ROOT, copy, ignore=shutil.ignore_patterns("target", "out", ".git", "__pycache__"))
+        for name in (SMALL, BELOW):
+            code = copy / f"crates/{name}/src/lib.rt"
+            code.write_text(f"// The copy in {made}.\n" + code.read_text())
         runs = list(pool.map(lambda _: call("tools/prove", "program", SMALL, folder=copy), range(2)))
         runs.sort(key=lambda run: "waiting for another run" in run[2])
         first = f"proving {SMALL} and what it stands on, 2 crates"
@@ -155,7 +163,7 @@ def progress():
         code = copy / f"crates/{SMALL}/src/lib.rt"
         code.write_text(code.read_text().replace("all == 0", "all == 1"))
         status, printed, said = call("tools/prove", "program", SMALL, folder=copy)
-        yield status == 1 and f"rt: {SMALL} NOT PROVED" in said and f"rt: {BELOW}" not in said, said
+        yield status == 1 and f"fn {SMALL}::" in said and "logic=not-proved" in said and f"fn {BELOW}::" not in said, said
 
 
 def lost_bytes():
@@ -189,7 +197,8 @@ def lost_bytes():
 
 def main():
     failed = False
-    for part in (helps, lost_bytes, freshness, leftovers, progress):
+    parts = {part.__name__: part for part in (helps, lost_bytes, freshness, leftovers, progress)}
+    for part in [parts[name] for name in sys.argv[1:]] or parts.values():
         answers = list(part())
         faults = [said for right, said in answers if not right]
         print(f"commands, {part.__name__}: {len(answers)} cases, {len(faults)} wrong")

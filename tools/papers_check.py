@@ -12,8 +12,12 @@ import re
 import sys
 from pathlib import Path
 
+from port_names import snake
+from sources import sources
+
 ROOT = Path(__file__).parent.parent
 PAPERS = [ROOT / "README.md", ROOT / "CHANGELOG.md", ROOT / "tools/README.md", *sorted((ROOT / "docs").rglob("*.md"))]
+HISTORY = ROOT / "docs/landings"  # which stays as it was written, in the names of an older Rattle
 CRATES = {folder.name for folder in (ROOT / "crates").iterdir()}
 
 
@@ -28,7 +32,13 @@ def declares(text, name):
     return re.search(rf"(?m)^ *(?:abbrev |unfoldable |pub )*(?:{kind} {name}(?![\w-])|{name}(?: {{.*}})? :)", text)
 
 
-def missing(reference):
+def now(name):
+    """What such an older name may be today: tools/port_names.py gave it in small letters, some with an ending."""
+    plain = snake(name.removesuffix("()")) if name[:1].islower() and "::" not in name else name
+    return name, plain, plain + "_law", plain + "_spec"
+
+
+def missing(reference, history=False):
     """What a reference in backquotes names and the tree does not have."""
     if edit := re.fullmatch(r"([a-z_]+)/(\w+)", reference):
         crate, name = edit.groups()
@@ -42,7 +52,7 @@ def missing(reference):
     text = "".join(path.read_text() for path in files) or source(crate)
     for name in ([first] if first else []) + items[1:] if files else items:
         other_file = (ROOT / f"crates/{crate}/specs/{name}.antt").exists()
-        if not other_file and not declares(text, name.removesuffix("()").split("::")[-1]):
+        if not other_file and not any(declares(text, one.removesuffix("()").split("::")[-1]) for one in (now(name) if history else [name])):
             yield name
 
 
@@ -60,7 +70,7 @@ def rested_on(named, specs):
         file = left.pop()
         if file not in seen:
             seen.add(file)
-            left += [other for other in re.findall(r"(?m)^(?:pub )?use Rattle·(\w+?)(?:·specs)?\.specs\.(\w+)", specs[file]) if other in specs]
+            left += [other for other in re.findall(r"(?m)^(?:pub )?use Rattle\.(\w+)\.specs\.(\w+)", specs[file]) if other in specs]
     return seen
 
 
@@ -92,7 +102,7 @@ def without_law(promises):
     for crate in sorted(path.parent.parent for path in ROOT.glob("crates/*/src/lib.rt")):
         laws = "".join(path.read_text() for path in crate.glob("proofs/OneOutcome.antt"))
         for name in public_functions(crate):
-            law = "one-" + name.replace("_", "-")
+            law = "one_" + name
             if not re.search(rf"(?m)^ *pub {law} :", laws) and f"`{crate.name}::{name}`" not in promises:
                 yield f"{crate.name}::{name}: no law {law}, and docs/PROMISES.md does not name it as part of a program"
 
@@ -124,9 +134,9 @@ MODULES = "|".join(sorted(Path(file).stem for file in BEFORE))
 
 
 def resting_on_before():
-    """The other files that use such a rule, by its name (..BeforeP and the request's number), or one of those modules."""
-    for path in sorted(path for kind in ("antt", "rt") for path in (ROOT / "crates").rglob(f"*.{kind}")):
-        found = re.search(rf"\w+BeforeP\d+|\.(?:{MODULES})\b", path.read_text())
+    """The other files that use such a rule, by its name (.._before_p and the request's number), or one of those modules."""
+    for path in sources("antt", "rt"):
+        found = re.search(rf"\w+_before_p\d+|\.(?:{MODULES})\b", path.read_text())
         if found and str(path.relative_to(ROOT / "crates")) not in BEFORE:
             yield f"{path.relative_to(ROOT)}: it rests on {found[0]}, which stands for a comparison alone"
 
@@ -153,7 +163,7 @@ def main():
     for paper in PAPERS:
         for number, line in enumerate(paper.read_text().split("\n"), 1):
             where = f"{paper.relative_to(ROOT)}:{number}"
-            faults += [f"{where}: `{reference}`: no {name}" for reference in re.findall(r"`([^`]+)`", line) for name in missing(reference)]
+            faults += [f"{where}: `{reference}`: no {name}" for reference in re.findall(r"`([^`]+)`", line) for name in missing(reference, paper.is_relative_to(HISTORY))]
             faults += [f"{where}: no {link}" for link in re.findall(r"\]\(([^)]+)\)", line) if not (paper.parent / link).exists()]
     promises = (ROOT / "docs/PROMISES.md").read_text()
     for edit in sorted(ROOT.glob("crates/*/must-fail/*.edit")):

@@ -32,8 +32,8 @@ PLACES = (
 
 # Of each file the lines that have a place, and what those of the list are there; a field has a place's name in small letters.
 LINES = {
-    "crates/tester/specs/Following.antt": (r"«?(\w+)»? = chargeSeenAt seen (\d+);", [(name.lower(), str(place)) for place, name, _ in PLACES]),
-    "crates/charging/specs/Observed.antt": (r"\((\d+), seen \.«?(\w+)»?\)", [(str(signal), name.lower()) for _, name, signal in PLACES]),
+    "crates/tester/specs/Following.antt": (r"«?(\w+)»? = charge_seen_at seen (\d+);", [(name.lower(), str(place)) for place, name, _ in PLACES]),
+    "crates/charging/specs/Observed.antt": (r"\((\d+), seen\.«?(\w+)»?\)", [(str(signal), name.lower()) for _, name, signal in PLACES]),
     "tester/example.c": (rf"\[{NAMED}(\w+)\] = (\d+),", [(name, str(signal)) for _, name, signal in PLACES]),
 }
 

@@ -8,10 +8,8 @@ from catalogue import load
 
 HEAD = """-- The limits that document 001 prints for each signal, lowest and highest, in thousandths of the printed unit. The 0~5 of 707, 708 and
 -- 709 is taken as volts; 1301 to 1304 are excepted. tools/printed_limits.py writes this file from the printed tables. Assumes nothing.
-use mathlib.Core.List.{List, [], _∷_}
-use Prim.Native.Nat.{ℕ}
-use lib.IntN.{ℤ}
-use Rattle·rows·specs.specs.Rows.{plus, minus}
+use Rattle.std.specs.Prelude.{List, [], ◌∷◌, ℕ, ℤ}
+use Rattle.rows.specs.Rows.{plus, minus}
 
 pub record PrintedLimits : Type 0 where
   pub number : ℕ
@@ -23,8 +21,8 @@ prints number lowest highest = record { number = number; lowest = lowest; highes
 
 -- ---- the list, table by table
 
-unfoldable pub printedLimits : List PrintedLimits
-printedLimits =
+unfoldable pub printed_limits : List PrintedLimits
+printed_limits =
 """
 IN_A_LINE = 4
 

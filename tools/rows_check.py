@@ -22,7 +22,7 @@ from rows_moved import PLAIN_FILE, PRINTED_FILE
 from shapes_code import FILES, shapes_of
 
 COLUMNS_FILE = "crates/rows/src/columns.rt"
-LIST_FILE, NUMBERS_FILE, ARMS_FILE, PROOF_FILE = FILES
+LIST_FILE, NUMBERS_FILE, ARMS_FILE = FILES
 # the text in front of a row's numbers and behind them, in each file that has a row in a line
 AROUND = {ROWS_FILE: ("row {} ", "  -- "), PRINTED_FILE: ("row\t{}\t", "\n"), PLAIN_FILE: ("{{ {}, ", "\n")}
 # The environment without git's own names, so that git works on the copy where a hook of git calls this script too.
@@ -118,7 +118,7 @@ def moved_row(copy, chosen):
 
 
 def its_code(copy, chosen):
-    """That row's entries, its shape, and no arm and no line of the proof."""
+    """That row's entries, its shape, and no arm."""
     status, printed, said = copy.run("rows_code.py")
     (copy.folder / COLUMNS_FILE).write_text(printed, encoding="utf-8")
     changed = copy.changed_lines(COLUMNS_FILE)
@@ -131,7 +131,7 @@ def its_code(copy, chosen):
     yield copy.changed_lines(NUMBERS_FILE) == [(f"        {chosen.one} => {old},", f"        {chosen.one} => {new},")], copy.changed_lines(NUMBERS_FILE)
     ((before, behind),) = copy.changed_lines(LIST_FILE)
     yield before.replace(f"({chosen.one}, {old})", f"({chosen.one}, {new})") == behind, behind
-    yield not copy.changed_lines(ARMS_FILE) and not copy.changed_lines(PROOF_FILE), "an arm or a proof changed"
+    yield not copy.changed_lines(ARMS_FILE), "an arm changed"
 
 
 def wrong_texts(chosen):
@@ -145,7 +145,7 @@ def wrong_texts(chosen):
     yield ROWS_FILE, rows.replace(line, re.sub(r"row (\d+) (\d+) \d+", r"row \1 \2 12345", line)), f"no shape has the numbers of the rows [{chosen.one}]: add one (the lowest free number is {chosen.free}) ("
     yield SHAPES_FILE, shapes.replace(shape, shape + again), "stands behind 99"
     yield SHAPES_FILE, shapes.replace("\n    ∷ []", f"\n{again}    ∷ []"), "two shapes have the same numbers"
-    yield SHAPES_FILE, re.sub(r"noShape = \d+", "noShape = 0", shapes), "has to be above all of them"
+    yield SHAPES_FILE, re.sub(r"no_shape = \d+", "no_shape = 0", shapes), "has to be above all of them"
 
 
 def wrong_lists(copy, chosen):
@@ -164,20 +164,18 @@ def wrong_lists(copy, chosen):
 
 
 def own_shape(copy, chosen):
-    """A shape more, above all others, for a signal that had one with others: its arm, its lines in the proof, and what is no shape."""
+    """A shape more, above all others, for a signal that had one with others: its arm, and what is no shape."""
     shapes = (ROOT / SHAPES_FILE).read_text(encoding="utf-8")
-    number = int(re.search(r"noShape = (\d+)", shapes)[1])
+    number = int(re.search(r"no_shape = (\d+)", shapes)[1])
     line = re.search(rf"(?m)^ +(?:∷ )?row {chosen.shapes[chosen.one]} .*\n", shapes)[0]
     wider = re.sub(r"row \d+ (\d+) \d+", rf"row {number} \1 12345", line)
     copy.change(SHAPES_FILE, "\n    ∷ []", "\n" + re.sub(r" +(?:∷ )?row", "    ∷ row", wider) + "    ∷ []")
-    copy.change(SHAPES_FILE, f"noShape = {number}", f"noShape = {number + 1}")
+    copy.change(SHAPES_FILE, f"no_shape = {number}", f"no_shape = {number + 1}")
     copy.change(ROWS_FILE, f"row {chosen.one} {chosen.rows[chosen.one].bits} {chosen.rows[chosen.one].resolution} ", f"row {chosen.one} {chosen.rows[chosen.one].bits} 12345 ")
     answer = copy.run("shapes_code.py", copy.folder)
     yield answer == (0, "", ""), f"a shape more: {answer}"
-    arms, proof = ((copy.folder / name).read_text(encoding="utf-8") for name in (ARMS_FILE, PROOF_FILE))
-    old_proof = (ROOT / PROOF_FILE).read_text(encoding="utf-8")
+    arms = (copy.folder / ARMS_FILE).read_text(encoding="utf-8")
     yield re.search(rf"(?m)^        {number} => \w+\(\s*\d+,\s+12345,", arms) is not None, arms
-    yield [proof.count(words) - old_proof.count(words) for words in ("(λ c κs. search", "(λ c. search arm)")] == [1, 1], proof
     changed = [(f"        {chosen.one} => {chosen.shapes[chosen.one]},", f"        {chosen.one} => {number},"), (f"        _ => {number},", f"        _ => {number + 1},")]
     yield copy.changed_lines(NUMBERS_FILE) == changed, copy.changed_lines(NUMBERS_FILE)
 

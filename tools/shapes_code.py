@@ -1,16 +1,18 @@
 #!/usr/bin/env python3
-"""What the code and its proof have of the shapes, from the rows and the shapes that the definitions list.
+"""What the code has of the shapes, from the rows and the shapes that the definitions list.
 
-    python3 tools/shapes_code.py DIR     writes into DIR what has to be in FILES: the shape of each signal as a list and as a `match`, the
-                                         arm of each shape, and two lines for it in the proof
+    python3 tools/shapes_code.py DIR     writes into DIR what has to be in FILES: the shape of each signal as a list and as a `match`, and
+                                         the arm of each shape
 
 Only these lines are written; the rest of each file is as it is in the tree. A mistake here can't make an answer wrong: the contracts of
-`shape_of` and `cut_of` hold the code against the definitions.
+`shape_of` and `cut_of` hold the code against the definitions. That each arm does what it is to do Rattle's own search finds: the proof has
+no line for it.
 """
 
 import re
 import sys
 from pathlib import Path
+from textwrap import fill
 
 from listed_rows import ROOT, ROWS_FILE, SHAPES_FILE, listed
 
@@ -20,10 +22,9 @@ FILES = {
     FOLDER + "specs/Signals.antt": ("signals =\n", "    ∷ []\n"),
     FOLDER + "src/shapes.rt": ("    match number {\n", "    }\n"),
     FOLDER + "src/by_shape.rt": ("    match shape {\n", "        _ =>"),
-    FOLDER + "proofs/by_shape/cut_shaped/Proof.antt": ("    (tie.spec\n", "    (λ c. ap "),
 }
 PAIRS_IN_A_LINE = 10
-WIDEST_CALL = 60  # rt fmt writes longer arguments one in a line
+WIDEST_CALL, WIDEST_LINE = 60, 100  # rt fmt writes longer arguments into lines of their own
 ARM_CALLS = ["no_mark", "one_mark", "two_marks", "three_marks"]  # by how many marks there are
 
 
@@ -32,7 +33,7 @@ ARM_CALLS = ["no_mark", "one_mark", "two_marks", "three_marks"]  # by how many m
 
 def no_shape():
     """The number of no shape, which stands below the list."""
-    return int(re.search(r"(?m)^noShape = (\d+)$", (ROOT / SHAPES_FILE).read_text(encoding="utf-8"))[1])
+    return int(re.search(r"(?m)^no_shape = (\d+)$", (ROOT / SHAPES_FILE).read_text(encoding="utf-8"))[1])
 
 
 def stop(words):
@@ -45,7 +46,7 @@ def shapes_of(rows, shapes):
     if len(by_shape) < len(shapes):
         stop("two shapes have the same numbers")
     if shapes[-1].number >= no_shape():
-        stop(f"{shapes[-1].number} is no number for a shape: noShape is {no_shape()}, and has to be above all of them")
+        stop(f"{shapes[-1].number} is no number for a shape: no_shape is {no_shape()}, and has to be above all of them")
     lacking = [row.number for row in rows if row.shape() not in by_shape]
     found = [(row.number, by_shape[row.shape()]) for row in rows if row.shape() in by_shape]
     unused = sorted(set(by_shape.values()) - {shape for _, shape in found})
@@ -75,13 +76,7 @@ def arm(shape):
     call = f"        {shape.number} => {ARM_CALLS[len(shape.marks)]}("
     if len(", ".join(words)) <= WIDEST_CALL:
         return call + ", ".join(words) + "),\n"
-    return call + "\n" + "".join(f"            {word},\n" for word in words) + "        ),\n"
-
-
-def proof_lines(shapes):
-    """What each arm asks, which is a kind for each mark, and then what it gives."""
-    asked = ["search (needs, kinded→)" if shape.marks else "search needs" for shape in shapes]
-    return "".join(f"    (λ c κs. {how})\n" for how in asked) + "    (λ c. search arm)\n" * len(shapes)
+    return call + "\n" + fill(", ".join(words) + ",", WIDEST_LINE, initial_indent=12 * " ", subsequent_indent=12 * " ") + "\n        ),\n"
 
 
 def with_lines(name, lines):
@@ -98,7 +93,7 @@ def main():
     rows, shapes = ([row for row, _ in listed(name)] for name in (ROWS_FILE, SHAPES_FILE))
     found = shapes_of(rows, shapes)
     number_arms = "".join(f"        {number} => {shape},\n" for number, shape in [*found, ("_", no_shape())])
-    for name, lines in zip(FILES, (pairs(found), number_arms, "".join(arm(shape) for shape in shapes), proof_lines(shapes))):
+    for name, lines in zip(FILES, (pairs(found), number_arms, "".join(arm(shape) for shape in shapes))):
         path = Path(sys.argv[1]) / name
         path.parent.mkdir(parents=True, exist_ok=True)
         path.write_text(with_lines(name, lines), encoding="utf-8")

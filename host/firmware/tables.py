@@ -139,11 +139,11 @@ def write(paper, tables):
 
 
 def main(figures, words):
-    """The command [print | write | check] [ARCHIVES]. The module that it is has PAPER, its paper, and NAME, its own name; make_archives(),
+    """The command [print | write | hold | check] [ARCHIVES]. The module that it is has PAPER, its paper, and NAME, its own name; make_archives(),
     into a folder; by_kit(), the tables for which nothing has to run, and RIGHT, what to say of them where they are as in the paper; and
     every_table()."""
     what = words[0] if words else "print"
-    if what not in ("print", "write", "check") or len(words) > 2:
+    if what not in ("print", "write", "hold", "check") or len(words) > 2:
         sys.exit(figures.__doc__)
     with tempfile.TemporaryDirectory() as made:
         work = Path(made)
@@ -152,7 +152,7 @@ def main(figures, words):
             figures.make_archives(folder)
         if what == "check":
             check(figures.PAPER, figures.NAME, figures.by_kit(folder), figures.RIGHT)
-        tables = figures.every_table(folder, work)
+        tables = figures.by_kit(folder) if what == "hold" else figures.every_table(folder, work)
         if what == "print":
             print("\n".join(f"{name}\n\n{made}" for name, made in tables.items()))
         else:
