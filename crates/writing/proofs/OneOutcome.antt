@@ -11,7 +11,6 @@ use prog.Routine.{Routine}
 use types.Logic.{Logic}
 use contract.Lifetimes.{Lfts}
 use contract.Monad.{Fun}
-use denote.Bor.{Bor}
 use denote.Ref.{MutBor, at_last}
 use Rattle.only.specs.Only.{Only, only_this}
 use Rattle.only.specs.Outcomes.{OneResult, result_is}

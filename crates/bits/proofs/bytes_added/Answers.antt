@@ -2,7 +2,6 @@
 -- Assumes nothing.
 use native.Mathlib.Omega.{arith}
 use Rattle.bits.specs.Word.{bytes_from}
-use borrow.Author.Rules.{rules}
 use Rattle.bits.proofs.bytes_added.Goals as goal
 
 pub returns : goal.returns

@@ -1,6 +1,5 @@
 -- `bits::checksum` meets its contract: the three callees' results, put into each other.
 -- Assumes nothing.
-use borrow.Author.Rules.{rules}
 use Rattle.bits.proofs.checksum.Goals as goal
 
 pub returns : goal.returns

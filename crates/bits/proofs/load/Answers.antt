@@ -2,7 +2,6 @@
 -- Assumes nothing.
 use native.Mathlib.Omega.{arith}
 use Rattle.bits.specs.Word.{word_of, word_from}
-use borrow.Author.Rules.{rules}
 use Rattle.bits.proofs.load.Goals as goal
 
 pub returns : goal.returns

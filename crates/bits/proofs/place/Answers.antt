@@ -6,7 +6,6 @@ use native.Mathlib.Omega.{arith}
 use lib.Pow.{shl_exact}
 use Rattle.bits.specs.Word.{field_of, placed, Fits}
 use Rattle.bits.proofs.Placing.{field_lt, field_le, placed_lt}
-use borrow.Author.Rules.{rules}
 use Rattle.bits.proofs.place.Goals as goal
 
 module _ (w : ℕ) {s b : ℕ} (f : Fits s b) where

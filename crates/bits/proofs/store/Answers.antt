@@ -6,7 +6,6 @@ use native.Mathlib.Omega.{arith}
 use lib.ListN.{length-set}
 use Rattle.bits.specs.Word.{bytes_from}
 use Rattle.bits.proofs.Weights.{sets_all}
-use borrow.Author.Rules.{rules}
 use Rattle.bits.proofs.store.Goals as goal
 
 pub bounds-frame-4 : goal.bounds-frame-4

@@ -1,7 +1,6 @@
 -- `bits::take` meets its contract: what lies past the count is shifted out. Assumes nothing.
 use Rattle.bits.proofs.Placing.{taken_out}
 use native.Mathlib.Omega.{arith}
-use borrow.Author.Rules.{rules}
 use Rattle.bits.proofs.take.Goals as goal
 
 pub window-requires : goal.window-requires

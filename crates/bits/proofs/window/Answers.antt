@@ -1,6 +1,5 @@
 -- `bits::window` meets its contract: what is shifted down and cut to 32 bits is a field of so many. Assumes nothing.
 use Rattle.bits.proofs.Placing.{field_is}
-use borrow.Author.Rules.{rules}
 use Rattle.bits.proofs.window.Goals as goal
 
 pub returns : goal.returns

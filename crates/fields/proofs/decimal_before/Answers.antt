@@ -1,9 +1,6 @@
 -- `fields::decimal_before` meets its contract: the answer for the rest, after the digits passed, is the answer for the whole. Assumes nothing.
-use borrow.Author.Rules.{rules}
-use Prim.Native.Nat.{◌-◌}
 use native.Mathlib.Omega.{arith}
-use lib.ListN.{length}
-use Rattle.fields.proofs.Run.{Passed, none_passed, small, no_stop, empty_field, one_digit, zero_first, all_digits, six_digits, no_digit, one_passed}
+use Rattle.fields.proofs.Run.{none_passed, small, no_stop, empty_field, one_digit, zero_first, all_digits, six_digits, no_digit, one_passed}
 use Rattle.fields.proofs.decimal_before.Goals as goal
 
 pub loop-i-init : goal.loop-i-init

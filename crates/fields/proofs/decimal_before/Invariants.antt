@@ -1,9 +1,7 @@
 -- `fields::decimal_before` meets its contract: the answer for the rest, after the digits passed, is the answer for the whole. Assumes nothing.
-use borrow.Author.Rules.{rules}
 use Prim.Native.Nat.{◌-◌}
-use native.Mathlib.Omega.{arith}
 use lib.ListN.{length}
-use Rattle.fields.proofs.Run.{Passed, none_passed, small, no_stop, empty_field, one_digit, zero_first, all_digits, six_digits, no_digit, one_passed}
+use Rattle.fields.proofs.Run.{Passed}
 use Rattle.fields.proofs.decimal_before.Given as goal
 
 abbrev pub invariant-loop-i : goal.invariant-loop-i

@@ -1,7 +1,6 @@
 -- `fields::identifier_before` meets its contract: the byte stands after 8 digits, or they are no identifier. Assumes nothing.
 use mathlib.Core.Path.{◌∙◌}
 use Rattle.fields.proofs.Eight.{too_short, not_there, eight}
-use borrow.Author.Rules.{rules}
 use Rattle.fields.proofs.identifier_before.Goals as goal
 
 pub returns-then-text-le-IDENTIFIER_DIGITS : goal.returns-then-text-le-IDENTIFIER_DIGITS

@@ -1,5 +1,4 @@
 -- `fields::of_eight_digits` meets its contract. Assumes nothing.
-use borrow.Author.Rules.{rules}
 use Rattle.fields.proofs.of_eight_digits.Goals as goal
 
 pub returns-in-Is : goal.returns-in-Is

@@ -1,6 +1,5 @@
 -- `line::ill_formed` meets its contract: the line ends at its newline, or with the text. Assumes nothing.
 use Rattle.line.proofs.Firsts.{ill_ended, ill_unended}
-use borrow.Author.Rules.{rules}
 use Rattle.line.proofs.ill_formed.Goals as goal
 
 pub returns-then-end-text : goal.returns-then-end-text

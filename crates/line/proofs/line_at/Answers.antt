@@ -1,7 +1,6 @@
 -- `line::line_at` meets its contract: it reads the first line of what is left from the place on. Assumes nothing.
 use native.Mathlib.Omega.{arith}
 use Rattle.line.proofs.Firsts.{no_line, first_left, fits}
-use borrow.Author.Rules.{rules}
 use Rattle.line.proofs.line_at.Goals as goal
 
 pub returns-then-at-text : goal.returns-then-at-text

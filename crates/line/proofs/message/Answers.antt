@@ -2,7 +2,6 @@
 use mathlib.Core.Path.{◌∙◌}
 use native.Mathlib.Omega.{arith}
 use Rattle.line.proofs.Rooms.{message_ill, message_well}
-use borrow.Author.Rules.{rules}
 use Rattle.line.proofs.message.Goals as goal
 
 pub part_from-fields-requires : goal.part_from-fields-requires

@@ -1,7 +1,6 @@
 -- `line::read_first` meets its contract: the tests that lead to each `return` say which kind of line it is. Assumes nothing.
 use mathlib.Core.Path.{◌∙◌}
 use Rattle.line.proofs.ByKind.{short, no_tab, no_kind}
-use borrow.Author.Rules.{rules}
 use Rattle.line.proofs.read_first.Goals as goal
 
 pub returns-then-text-lt2 : goal.returns-then-text-lt2

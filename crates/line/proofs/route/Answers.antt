@@ -3,7 +3,6 @@ use Rattle.line.proofs.Rooms.{inside, from_bus_ill, from_id_ill, to_bus_ill, to_
 use mathlib.Core.Path.{◌∙◌}
 use native.Mathlib.Omega.{arith}
 use Rattle.numerals.specs.Numeral.{decimal, identifier}
-use borrow.Author.Rules.{rules}
 use Rattle.line.proofs.route.Goals as goal
 
 pub part_from-fields-requires : goal.part_from-fields-requires

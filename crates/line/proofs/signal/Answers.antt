@@ -3,7 +3,6 @@ use Rattle.line.proofs.Rooms.{inside, signal_ill, start_ill, signal_few, signal_
 use mathlib.Core.Path.{◌∙◌}
 use native.Mathlib.Omega.{arith}
 use Rattle.numerals.specs.Numeral.{decimal}
-use borrow.Author.Rules.{rules}
 use Rattle.line.proofs.signal.Goals as goal
 
 pub part_from-fields-requires : goal.part_from-fields-requires

@@ -1,5 +1,4 @@
 -- `masks::with` meets its contract: a one at k joins the mask. Assumes nothing.
-use borrow.Author.Rules.{rules}
 use Rattle.masks.proofs.Bits.{bit_with}
 use Rattle.masks.proofs.with.Goals as goal
 

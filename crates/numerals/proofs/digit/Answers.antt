@@ -3,7 +3,6 @@ use mathlib.Core.Path.{sym}
 use borrow.Author.Tests.{lt-ltb}
 use Rattle.numerals.specs.Numeral.{digit_value}
 use Rattle.numerals.proofs.Digits.{value_low, value_between, value_high, value_above}
-use borrow.Author.Rules.{rules}
 use Rattle.numerals.proofs.digit.Goals as goal
 
 pub returns-then-b-lt48 : goal.returns-then-b-lt48

@@ -1,6 +1,5 @@
 -- `numerals::identifier_or_0` meets its contract. Assumes nothing.
 use mathlib.Core.Path.{sym, ap, ◌∙◌}
-use borrow.Author.Rules.{rules}
 use Rattle.numerals.specs.Numeral.{or_zero}
 use Rattle.numerals.proofs.identifier_or_0.Goals as goal
 

@@ -1,9 +1,6 @@
 -- `numerals::numeral` meets its contract: the answer for the rest, after the value of the digits passed, is the answer for the whole. Assumes nothing.
-use Rattle.numerals.proofs.Reading.{Passed, none_passed, all_passed, no_digit, one_passed, fits}
-use Prim.Native.Nat.{◌-◌}
+use Rattle.numerals.proofs.Reading.{none_passed, all_passed, no_digit, one_passed, fits}
 use native.Mathlib.Omega.{arith}
-use borrow.Author.Rules.{rules}
-use lib.ListN.{length}
 use Rattle.numerals.proofs.numeral.Goals as goal
 
 pub loop-i-init : goal.loop-i-init

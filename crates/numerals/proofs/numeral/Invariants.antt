@@ -1,8 +1,6 @@
 -- `numerals::numeral` meets its contract: the answer for the rest, after the value of the digits passed, is the answer for the whole. Assumes nothing.
-use Rattle.numerals.proofs.Reading.{Passed, none_passed, all_passed, no_digit, one_passed, fits}
+use Rattle.numerals.proofs.Reading.{Passed}
 use Prim.Native.Nat.{◌-◌}
-use native.Mathlib.Omega.{arith}
-use borrow.Author.Rules.{rules}
 use lib.ListN.{length}
 use Rattle.numerals.proofs.numeral.Given as goal
 

@@ -1,11 +1,8 @@
 -- `parts::find` meets its contract: what is passed and where the byte stands in the rest add up. Assumes nothing.
 use mathlib.Core.Path.{◌≡◌}
 use Prim.Native.Nat.{◌-◌, ◌+◌}
-use native.Mathlib.Omega.{arith}
-use borrow.Author.Rules.{rules}
 use lib.ListN.{length, drop}
 use Rattle.parts.specs.Parts.{index_of}
-use Rattle.parts.proofs.Seek.{find_none, find_here, find_later, find_after, index_of_le}
 use Rattle.parts.proofs.find.Given as goal
 
 abbrev pub invariant-loop-i : goal.invariant-loop-i

@@ -1,7 +1,6 @@
 -- `parts::part_after` meets its contract. Assumes nothing.
 use Prim.Native.Nat.{◌+◌}
 use Rattle.parts.proofs.Splits.{take_rest}
-use borrow.Author.Rules.{rules}
 use Rattle.parts.proofs.part_after.Goals as goal
 
 pub returns : goal.returns

@@ -1,7 +1,6 @@
 -- `parts::part_before` meets its contract. Assumes nothing.
 use mathlib.Core.Path.{sym}
 use lib.Seq.{length-take-le}
-use borrow.Author.Rules.{rules}
 use Rattle.parts.proofs.part_before.Goals as goal
 
 pub slice_bounds-result-end : goal.slice_bounds-result-end

@@ -1,6 +1,5 @@
 -- `parts::part_from` meets its contract. Assumes nothing.
 use Rattle.parts.proofs.Splits.{take_rest}
-use borrow.Author.Rules.{rules}
 use Rattle.parts.proofs.part_from.Goals as goal
 
 pub returns : goal.returns

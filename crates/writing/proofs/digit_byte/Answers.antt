@@ -1,7 +1,6 @@
 -- `writing::digit_byte` meets its contract. Assumes nothing.
 use borrow.Author.Tests.{lt-ltb, le-ltb}
 use Rattle.numerals.specs.Written.{digit_byte_spec}
-use borrow.Author.Rules.{rules}
 use Rattle.writing.proofs.digit_byte.Goals as goal
 
 pub returns-then-d-lt10 : goal.returns-then-d-lt10

@@ -2,7 +2,6 @@
 use native.Mathlib.Omega.{arith}
 use Rattle.numerals.specs.Written.{decimal_text}
 use Rattle.numerals.proofs.Decimals.{width_holds}
-use borrow.Author.Rules.{rules}
 use Rattle.writing.proofs.put_decimal.Goals as goal
 
 pub put_digits-requires : goal.put_digits-requires

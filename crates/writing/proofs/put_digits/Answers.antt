@@ -1,7 +1,7 @@
 -- `writing::put_digits` meets its contract: writing what is left gives the final list. Assumes nothing.
 use native.Mathlib.Nat.{mod-lt}
 use native.Mathlib.Omega.{arith}
-use Rattle.writing.proofs.Left.{Left, all_left, none_left, one_less}
+use Rattle.writing.proofs.Left.{all_left, none_left, one_less}
 use Rattle.writing.proofs.put_digits.Goals as goal
 
 pub loop-j-init : goal.loop-j-init

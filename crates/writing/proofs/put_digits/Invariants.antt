@@ -1,7 +1,5 @@
 -- `writing::put_digits` meets its contract: writing what is left gives the final list. Assumes nothing.
-use native.Mathlib.Nat.{mod-lt}
-use native.Mathlib.Omega.{arith}
-use Rattle.writing.proofs.Left.{Left, all_left, none_left, one_less}
+use Rattle.writing.proofs.Left.{Left}
 use Rattle.writing.proofs.put_digits.Given as goal
 
 abbrev pub invariant-loop-j : goal.invariant-loop-j

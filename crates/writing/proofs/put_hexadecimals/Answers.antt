@@ -2,7 +2,7 @@
 use native.Mathlib.Nat.{mod-lt}
 use native.Mathlib.Omega.{arith}
 use lib.Dec.{lit<}
-use Rattle.writing.proofs.Left.{Left, all_left, none_left, one_less}
+use Rattle.writing.proofs.Left.{all_left, none_left, one_less}
 use Rattle.writing.proofs.LookUp.{looked_up}
 use Rattle.writing.proofs.put_hexadecimals.Goals as goal
 

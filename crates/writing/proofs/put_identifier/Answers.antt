@@ -1,7 +1,6 @@
 -- `writing::put_identifier` meets its contract. Assumes nothing.
 use mathlib.Core.Path.{refl}
 use Rattle.numerals.specs.Written.{identifier_text}
-use borrow.Author.Rules.{rules}
 use Rattle.writing.proofs.put_identifier.Goals as goal
 
 pub returns : goal.returns

@@ -1,12 +1,10 @@
 -- `zeros::all_zero` meets its contract: what is gathered is 0 and the rest is zeros just where the whole is. Assumes nothing.
-use mathlib.Core.Path.{◌≡◌, refl, sym, ◌∙◌}
+use mathlib.Core.Path.{◌≡◌}
 use mathlib.Core.Bool.{◌&&◌}
 use Prim.Native.Nat.{◌-◌}
-use borrow.Author.Rules.{rules}
 use lib.Dec.{eqb}
 use lib.ListN.{length, drop}
 use Rattle.zeros.specs.Zeros.{zeros}
-use Rattle.zeros.proofs.Gathering.{zeros_step, zeros_end}
 use Rattle.zeros.proofs.all_zero.Given as goal
 
 abbrev pub invariant-loop-i : goal.invariant-loop-i

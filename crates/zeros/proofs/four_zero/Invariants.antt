@@ -1,13 +1,10 @@
 -- `zeros::four_zero` meets its contract: what is gathered is 0 and the rests are zeros just where all four are. Assumes nothing.
-use mathlib.Core.Path.{◌≡◌, refl, sym, ◌∙◌}
+use mathlib.Core.Path.{◌≡◌}
 use mathlib.Core.Bool.{◌&&◌}
 use Prim.Native.Nat.{◌-◌}
-use native.Mathlib.Omega.{arith}
-use borrow.Author.Rules.{rules}
 use lib.Dec.{eqb}
 use lib.ListN.{length, drop}
 use Rattle.zeros.specs.Zeros.{zeros}
-use Rattle.zeros.proofs.Gathering.{four_step, four_end}
 use Rattle.zeros.proofs.four_zero.Given as goal
 
 abbrev pub invariant-loop-at : goal.invariant-loop-at

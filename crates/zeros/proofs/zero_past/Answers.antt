@@ -5,7 +5,6 @@ use native.Mathlib.Omega.{arith}
 use lib.ListN.{length, drop, length-drop}
 use lib.Seq.{take_all}
 use Rattle.zeros.specs.Zeros.{zeros}
-use borrow.Author.Rules.{rules}
 use Rattle.zeros.proofs.zero_past.Goals as goal
 
 pub returns : goal.returns

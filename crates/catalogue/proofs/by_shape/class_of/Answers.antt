@@ -1,7 +1,6 @@
 -- `catalogue::by_shape::class_of` meets its contract: a number that is more than the count cut from it is too wide.
 -- Assumes nothing.
 use mathlib.Core.Path.{sym, ap, ◌∙◌}
-use borrow.Author.Rules.{rules}
 use Rattle.catalogue.specs.declared.Cut.{Cut}
 use Rattle.catalogue.proofs.Classing.{class_cut, cut_too_wide}
 use Rattle.catalogue.proofs.by_shape.class_of.Goals as goal

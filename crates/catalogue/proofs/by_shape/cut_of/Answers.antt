@@ -1,6 +1,5 @@
 -- `catalogue::by_shape::cut_of` meets its contract: what is cut does not ask for the row's number.
 -- Assumes nothing.
-use borrow.Author.Rules.{rules}
 use Rattle.catalogue.proofs.Classing.{shaped_cut}
 use Rattle.catalogue.proofs.by_shape.cut_of.Goals as goal
 

@@ -2,17 +2,11 @@
 -- `_` is no shape. Of each arm there is a line for what it asks, which has `kinded→` where the shape has a mark, and one for what it
 -- gives; tools/shapes_code.py writes them. Assumes nothing.
 -- what is cut in the row of the arm's shape is that in the row of the shape, which is the same
-use mathlib.Core.Path.{◌≡◌, sym, ap, subst}
-use mathlib.Core.Option.{Option}
+use mathlib.Core.Path.{◌≡◌, sym, subst}
 use Prim.Native.Nat.{ℕ}
-use borrow.Author.Rules.{rules}
-use Rattle.rows.specs.declared.Row.{Row}
-use Rattle.rows.proofs.Ruled.{kinded→}
 use Rattle.catalogue.specs.declared.Cut.{Cut}
 use Rattle.catalogue.specs.Shapes.{row_shaped}
 use Rattle.catalogue.specs.Cut.{cut_for}
-use Rattle.catalogue.proofs.Arms.{no_shape_law}
-use Rattle.catalogue.proofs.by_shape.cut_shaped.Goals as goal
 
 arm : (k s window : ℕ) (r : Cut) → s ≡ k → r ≡ cut_for (row_shaped k) window → r ≡ cut_for (row_shaped s) window
 arm k s window r e h = subst (λ (m : ℕ). r ≡ cut_for (row_shaped m) window) (sym e) h

@@ -1,8 +1,7 @@
 -- `catalogue::classes::class_in` meets its contract: each way rewrites with the tests that led there.
 -- Assumes nothing.
 -- the tests on the way
-use mathlib.Core.Path.{◌≡◌, sym, ap, ◌∙◌}
-use mathlib.Core.Bool.{false}
+use mathlib.Core.Path.{sym, ap, ◌∙◌}
 use Prim.Native.Nat.{◌*◌}
 use lib.IntN.{ℤ, pos, ◌+ℤ◌}
 use mir.Syntax.{w32}
@@ -10,7 +9,6 @@ use mir.Val.{SFits}
 use mir.ValLaws.{to_z-of_z}
 use borrow.Author.Rules.{rules}
 use Rattle.catalogue.specs.declared.Class.TheVariants.{Value}
-use Rattle.catalogue.specs.Class.{between}
 use Rattle.catalogue.proofs.Marks.{has_kind}
 use Rattle.catalogue.proofs.classes.class_in.Goals as goal
 

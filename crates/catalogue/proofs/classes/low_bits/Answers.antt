@@ -4,8 +4,7 @@ use mathlib.Core.Path.{◌≡◌, ap, ◌∙◌}
 use Prim.Native.Nat.{ℕ, ◌+◌, ◌*◌, ◌^◌, ◌%◌, ◌≤◌}
 use native.Mathlib.Nat.{one-mul, mod-le}
 use native.Mathlib.Omega.{arith}
-use borrow.Author.Rules.{rules}
-use lib.Pow.{shl_exact, pow_pos}
+use lib.Pow.{shl_exact}
 use Rattle.catalogue.proofs.classes.low_bits.Goals as goal
 
 power : (bits : ℕ) → 1 + bits ≤ 64 → (1 * 2 ^ bits) % 2 ^ 64 ≡ 2 ^ bits

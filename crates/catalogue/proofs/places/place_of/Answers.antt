@@ -1,6 +1,5 @@
 -- `catalogue::places::place_of` meets its contract: what it computes is the signal's place. Assumes nothing.
 use Rattle.catalogue.proofs.Placed.{place_above, in_above, in_ends, no_less, past_it, there}
-use borrow.Author.Rules.{rules}
 use Rattle.catalogue.proofs.places.place_of.Goals as goal
 
 pub returns-then-number-ge-NUMBER_LIMIT : goal.returns-then-number-ge-NUMBER_LIMIT

@@ -1,6 +1,5 @@
 -- `catalogue::widths::bits_at` meets its contract: the column has the signal's bits at its place. Assumes nothing.
 use mathlib.Core.Path.{sym}
-use borrow.Author.Rules.{rules}
 use Rattle.catalogue.proofs.Placed.{at_place, nowhere, no_bits, in_widths, its_bits}
 use Rattle.catalogue.proofs.widths.bits_at.Goals as goal
 

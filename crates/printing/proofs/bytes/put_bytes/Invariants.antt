@@ -1,8 +1,7 @@
 -- `printing::bytes::put_bytes` meets its contract: writing what is left gives the final list. Assumes nothing.
 use Prim.Native.Nat.{◌-◌}
-use native.Mathlib.Omega.{arith}
 use lib.ListN.{length}
-use Rattle.printing.proofs.Puts.{Written, none_written, byte_written, all_written}
+use Rattle.printing.proofs.Puts.{Written}
 use Rattle.printing.proofs.bytes.put_bytes.Given as goal
 
 abbrev pub invariant-loop-i : goal.invariant-loop-i

@@ -1,8 +1,6 @@
 -- `printing::numbers::digit_count` meets its contract: the digits counted and those of the rest are those of the number, and one. Assumes nothing.
-use mathlib.Core.Path.{◌≡◌, refl}
-use Prim.Native.Nat.{◌+◌}
+use mathlib.Core.Path.{refl}
 use native.Mathlib.Omega.{arith}
-use Rattle.printing.specs.Decimal.{digit_count_spec}
 use Rattle.printing.proofs.Counting.{one_digit, more_digits, count_few}
 use Rattle.printing.proofs.numbers.digit_count.Goals as goal
 

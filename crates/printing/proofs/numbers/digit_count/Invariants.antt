@@ -1,9 +1,7 @@
 -- `printing::numbers::digit_count` meets its contract: the digits counted and those of the rest are those of the number, and one. Assumes nothing.
-use mathlib.Core.Path.{◌≡◌, refl}
+use mathlib.Core.Path.{◌≡◌}
 use Prim.Native.Nat.{◌+◌}
-use native.Mathlib.Omega.{arith}
 use Rattle.printing.specs.Decimal.{digit_count_spec}
-use Rattle.printing.proofs.Counting.{one_digit, more_digits, count_few}
 use Rattle.printing.proofs.numbers.digit_count.Given as goal
 
 abbrev pub invariant-loop-rest : goal.invariant-loop-rest

@@ -1,6 +1,5 @@
 -- `printing::numbers::magnitude` meets its contract: one more than a number below 0 has its opposite in range. Assumes nothing.
 use Rattle.printing.proofs.Signs.{negative, positive, raised_fits, turned_fits, turned_cast, turned_sum, turned_back, positive_cast}
-use borrow.Author.Rules.{rules}
 use Rattle.printing.proofs.numbers.magnitude.Goals as goal
 
 pub overflow_add-result : goal.overflow_add-result

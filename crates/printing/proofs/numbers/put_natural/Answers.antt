@@ -2,7 +2,6 @@
 use native.Mathlib.Omega.{arith}
 use Rattle.printing.proofs.Counting.{count_few, count_holds}
 use Rattle.printing.proofs.Spelling.{natural_put}
-use borrow.Author.Rules.{rules}
 use Rattle.printing.proofs.numbers.put_natural.Goals as goal
 
 pub put_digits-requires : goal.put_digits-requires

@@ -5,7 +5,6 @@ use mir.Syntax.{w64}
 use mir.ValLaws.{to_z-of_z}
 use Rattle.printing.proofs.Signs.{negative, positive}
 use Rattle.printing.proofs.Spelling.{negative_put, positive_put}
-use borrow.Author.Rules.{rules}
 use Rattle.printing.proofs.numbers.put_signed.Goals as goal
 
 pub returns-then-z-lt0 : goal.returns-then-z-lt0

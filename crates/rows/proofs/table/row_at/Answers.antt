@@ -13,7 +13,6 @@ use mir.ValLaws.{to_z-of_z}
 use Rattle.rows.specs.declared.Mark.{Mark}
 use Rattle.rows.specs.declared.Row.{Row}
 use Rattle.rows.specs.Rows.{rows, row, mark, blank}
-use borrow.Author.Rules.{rules}
 use Rattle.rows.proofs.table.row_at.Goals as goal
 
 abbrev numbers : (Row → ℕ) → List Row → ℕ → ℕ
