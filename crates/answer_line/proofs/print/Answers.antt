@@ -1,6 +1,5 @@
 -- `answer_line::print` meets its contract: the answer says which line it is. Assumes nothing.
 use Rattle.answer_line.proofs.Pieces.{no_room, taken_printed, refused_printed}
-use borrow.Author.Rules.{rules}
 use Rattle.answer_line.proofs.print.Goals as goal
 
 pub returns-then-out-lt-LINE_ROOM : goal.returns-then-out-lt-LINE_ROOM

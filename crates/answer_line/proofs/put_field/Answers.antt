@@ -1,6 +1,5 @@
 -- `answer_line::put_field` meets its contract. Assumes nothing.
 use Rattle.printing.proofs.Puts.{and_then}
-use borrow.Author.Rules.{rules}
 use Rattle.answer_line.proofs.put_field.Goals as goal
 
 pub returns : goal.returns

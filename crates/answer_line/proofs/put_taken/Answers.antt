@@ -2,7 +2,6 @@
 use native.Mathlib.Omega.{arith}
 use Rattle.printing.proofs.Puts.{put_length}
 use Rattle.answer_line.proofs.Pieces.{field_few, taken_put}
-use borrow.Author.Rules.{rules}
 use Rattle.answer_line.proofs.put_taken.Goals as goal
 
 pub put_field-first-requires : goal.put_field-first-requires

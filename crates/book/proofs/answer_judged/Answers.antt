@@ -1,6 +1,5 @@
 -- `book::answer_judged` meets its contract: the verdict on the routes says which answer it is. Assumes nothing.
 use Rattle.book.proofs.Answers.{closed, doubled, sound}
-use borrow.Author.Rules.{rules}
 use Rattle.book.proofs.answer_judged.Goals as goal
 
 pub route_line-requires : goal.route_line-requires

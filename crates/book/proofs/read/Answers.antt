@@ -1,7 +1,6 @@
 -- `book::read` meets its contract: too long, a line refused, or by the verdict on the routes. Assumes nothing.
 use Rattle.book.proofs.Answers.{empty_too_long, refused_line_law, all_passed, judged_by}
 use native.Mathlib.Omega.{arith}
-use borrow.Author.Rules.{rules}
 use Rattle.book.proofs.read.Goals as goal
 
 pub returns-then-text-gt-TEXT_LIMIT : goal.returns-then-text-gt-TEXT_LIMIT

@@ -2,7 +2,6 @@
 use mathlib.Core.Path.{◌∙◌}
 use native.Mathlib.Omega.{arith}
 use Rattle.book.proofs.Routes.{count_few, on_routes}
-use borrow.Author.Rules.{rules}
 use Rattle.book.proofs.verdict_on.Goals as goal
 
 pub first-requires : goal.first-requires

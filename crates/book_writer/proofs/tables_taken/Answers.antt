@@ -1,9 +1,7 @@
 -- `book_writer::tables_taken` meets its contract: both tests tell. Assumes nothing.
 use mathlib.Core.Path.{sym, ◌∙◌}
 use mathlib.Core.Bool.{true≢false}
-use borrow.Author.Tests.{not-true, not-false}
 use Rattle.book_writer.proofs.Whole.{all_told}
-use borrow.Author.Rules.{rules}
 use Rattle.book_writer.proofs.tables_taken.Goals as goal
 
 pub returns-then-not-messages_taken : goal.returns-then-not-messages_taken

@@ -1,8 +1,6 @@
 -- `book_writer::write` meets its contract: all tables are tested first. Assumes nothing.
-use borrow.Author.Tests.{not-true, not-false}
 use Rattle.chains.proofs.Bools.{told_yes, told_no}
 use Rattle.book_writer.specs.Answers.{not_a_book, by_tables}
-use borrow.Author.Rules.{rules}
 use Rattle.book_writer.proofs.write.Goals as goal
 
 pub returns-then-not-tables_taken : goal.returns-then-not-tables_taken

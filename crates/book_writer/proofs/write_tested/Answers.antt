@@ -3,7 +3,6 @@ use native.Mathlib.Omega.{arith}
 use Rattle.printing.proofs.Puts.{put_length}
 use Rattle.book_writer.specs.Answers.{no_room}
 use Rattle.book_writer.proofs.Whole.{whole_long, head_fits, tail_fits, ends_there, wrote}
-use borrow.Author.Rules.{rules}
 use Rattle.book_writer.proofs.write_tested.Goals as goal
 
 pub returns-then-wide-room : goal.returns-then-wide-room

@@ -4,10 +4,8 @@ use mathlib.Core.Path.{sym, ap, ◌∙◌}
 use mathlib.Core.Bool.{Bool, cond}
 use native.Mathlib.Numerals.{unary_clauses}
 use native.Mathlib.Omega.{arith}
-use borrow.Author.Tests.{not-true, not-false}
 use Rattle.charging.specs.declared.ChargeState.TheVariants.{Start, Fault}
 use Rattle.charging.proofs.Next.{welded, is_fault, as_step, as_fault}
-use borrow.Author.Rules.{rules}
 use Rattle.charging.proofs.next_charge.Goals as goal
 
 -- the state kept comes before the start: where ready is taken for fault, this is the return that is wrong

@@ -1,7 +1,5 @@
 -- `charging::step` meets its contract: the test that led to each `return` says whether it is refused. Assumes nothing.
-use borrow.Author.Tests.{not-true, not-false}
 use Rattle.charging.specs.Refusals.{charge_step_of}
-use borrow.Author.Rules.{rules}
 use Rattle.charging.proofs.step.Goals as goal
 
 pub returns-then-not-all_fit : goal.returns-then-not-all_fit

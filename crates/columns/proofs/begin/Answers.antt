@@ -1,7 +1,6 @@
 -- `columns::begin` meets its contract: the signals of a message begin where those before it end. Assumes nothing.
 use mathlib.Core.Path.{◌∙◌}
 use Rattle.columns.proofs.Searching.{one_before}
-use borrow.Author.Rules.{rules}
 use Rattle.columns.proofs.begin.Goals as goal
 
 pub returns : goal.returns

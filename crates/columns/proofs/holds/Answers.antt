@@ -1,10 +1,7 @@
 -- `columns::holds` meets its contract: the answer for the rest from `at` is the answer for the whole. Assumes nothing.
-use mathlib.Core.Path.{◌≡◌, refl}
+use mathlib.Core.Path.{refl}
 use Prim.Native.Nat.{◌-◌}
 use native.Mathlib.Omega.{arith}
-use borrow.Author.Rules.{rules}
-use lib.ListN.{length, drop}
-use Rattle.books.specs.Lines.{is_in}
 use Rattle.columns.proofs.Searching.{in_none, in_here, in_later}
 use Rattle.columns.proofs.holds.Goals as goal
 

@@ -2,7 +2,6 @@
 use mathlib.Core.Path.{sym, ap, ◌∙◌}
 use Prim.Native.Nat.{ℕ}
 use lib.Ieee.{Float}
-use borrow.Author.Rules.{rules}
 use Rattle.dash.specs.declared.Dash.TheVariants.{Value}
 use Rattle.dash.specs.declared.DashAnswer.TheVariants.{Shown}
 use Rattle.dash.specs.Coded.{dash_coded}

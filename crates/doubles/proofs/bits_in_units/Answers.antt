@@ -3,7 +3,6 @@ use mathlib.Core.Path.{ap, subst⁻¹}
 use mathlib.Core.Bool.{not}
 use lib.Dec.{T}
 use lib.Ieee.{Float, binary64, is_nan, to_bits}
-use borrow.Author.Rules.{rules}
 use Rattle.doubles.proofs.Doubles.{no_nan}
 use Rattle.doubles.proofs.bits_in_units.Goals as goal
 

@@ -1,11 +1,9 @@
 -- `faults::all_below` meets its contract: what was seen and what is left make the whole. Assumes nothing.
 use Prim.Native.Nat.{◌+◌, ◌-◌, ◌≤◌}
-use mathlib.Core.Path.{◌≡◌, refl}
+use mathlib.Core.Path.{◌≡◌}
 use mathlib.Core.Bool.{◌&&◌}
-use borrow.Author.Rules.{rules}
 use Rattle.faults.specs.Rows.{rows_between}
 use Rattle.faults.specs.Counts.{raw_below, all_of}
-use Rattle.faults.proofs.Loops.{all_next, all_end}
 use Rattle.faults.proofs.all_below.Given as goal
 
 abbrev pub invariant-loop-row : goal.invariant-loop-row

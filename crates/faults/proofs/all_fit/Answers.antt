@@ -1,6 +1,5 @@
 -- `faults::all_fit` meets its contract: the six runs of one width each are all the rows. Assumes nothing.
 use Rattle.faults.proofs.Widths as Widths
-use borrow.Author.Rules.{rules}
 use Rattle.faults.proofs.all_fit.Goals as goal
 
 pub returns : goal.returns

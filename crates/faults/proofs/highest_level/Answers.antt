@@ -1,6 +1,5 @@
 -- `faults::highest_level` meets its contract. Assumes nothing.
 use Rattle.faults.proofs.Parts.{highest_parts}
-use borrow.Author.Rules.{rules}
 use Rattle.faults.proofs.highest_level.Goals as goal
 
 pub returns : goal.returns

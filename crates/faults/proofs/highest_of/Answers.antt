@@ -1,9 +1,7 @@
 -- `faults::highest_of` meets its contract: the highest so far and the highest of what is left make the whole. Assumes nothing.
-use Prim.Native.Nat.{◌+◌, ◌-◌, ◌≤◌, max}
-use mathlib.Core.Path.{◌≡◌}
+use Prim.Native.Nat.{◌-◌}
 use borrow.Author.Rules.{rules}
-use Rattle.faults.specs.Rows.{rows_between}
-use Rattle.faults.specs.Counts.{level_of_spec, highest_of_spec}
+use Rattle.faults.specs.Counts.{level_of_spec}
 use Rattle.faults.proofs.Loops.{highest_next, highest_end}
 use Rattle.faults.proofs.highest_of.Goals as goal
 

@@ -1,10 +1,8 @@
 -- `faults::how_many` meets its contract: what is counted and what is left make the whole. Assumes nothing.
 use Prim.Native.Nat.{◌+◌, ◌-◌, ◌≤◌}
-use mathlib.Core.Path.{◌≡◌, ◌∙◌}
-use borrow.Author.Rules.{rules}
+use mathlib.Core.Path.{◌≡◌}
 use Rattle.faults.specs.Rows.{row_count, rows_between}
 use Rattle.faults.specs.Counts.{stands_at_spec, how_many_spec}
-use Rattle.faults.proofs.Loops.{many_next, many_end}
 use Rattle.faults.proofs.how_many.Given as goal
 
 abbrev pub invariant-loop-row : goal.invariant-loop-row

@@ -1,5 +1,4 @@
 -- `faults::is_below` meets its contract: the raw count is compared. Assumes nothing.
-use borrow.Author.Rules.{rules}
 use Rattle.faults.proofs.is_below.Goals as goal
 
 pub returns : goal.returns

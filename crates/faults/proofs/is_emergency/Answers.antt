@@ -4,7 +4,6 @@ use mathlib.Core.Path.{◌≡◌}
 use mathlib.Core.Bool.{Bool, false, ◌||◌, or_assoc}
 use Rattle.faults.specs.Counts.{any_of}
 use Rattle.faults.specs.Sum.{is_emergency_spec}
-use borrow.Author.Rules.{rules}
 use Rattle.faults.proofs.is_emergency.Goals as goal
 
 together : {a b c d e f p q r s t u : Bool} → a ≡ p → b ≡ q → c ≡ r → d ≡ s → e ≡ t → f ≡ u

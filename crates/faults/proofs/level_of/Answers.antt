@@ -1,5 +1,4 @@
 -- `faults::level_of` meets its contract: the raw count is the level. Assumes nothing.
-use borrow.Author.Rules.{rules}
 use Rattle.faults.proofs.level_of.Goals as goal
 
 pub returns : goal.returns

@@ -1,6 +1,5 @@
 -- `faults::levels_at` meets its contract. Assumes nothing.
 use Rattle.faults.proofs.Parts.{many_parts}
-use borrow.Author.Rules.{rules}
 use Rattle.faults.proofs.levels_at.Goals as goal
 
 pub returns : goal.returns

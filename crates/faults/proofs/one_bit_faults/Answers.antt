@@ -1,6 +1,5 @@
 -- `faults::one_bit_faults` meets its contract. Assumes nothing.
 use Rattle.faults.proofs.Parts.{many_parts}
-use borrow.Author.Rules.{rules}
 use Rattle.faults.proofs.one_bit_faults.Goals as goal
 
 pub returns : goal.returns

@@ -1,5 +1,4 @@
 -- `faults::stands_at` meets its contract: the raw count is compared. Assumes nothing.
-use borrow.Author.Rules.{rules}
 use Rattle.faults.proofs.stands_at.Goals as goal
 
 pub returns : goal.returns

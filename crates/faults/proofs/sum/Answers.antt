@@ -1,7 +1,6 @@
 -- `faults::sum` meets its contract: the tests that led to each `return` pick the answer, and each part of the sum is its callee's. Assumes nothing.
-use borrow.Author.Tests.{eq-eqb, ne_eqb, not-true, not-false}
+use borrow.Author.Tests.{eq-eqb, ne_eqb}
 use Rattle.faults.specs.Sum.{answer_to}
-use borrow.Author.Rules.{rules}
 use Rattle.faults.proofs.sum.Goals as goal
 
 pub returns-then-counts-ne-ROW_COUNT : goal.returns-then-counts-ne-ROW_COUNT

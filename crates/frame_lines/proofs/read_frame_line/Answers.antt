@@ -1,7 +1,6 @@
 -- `frame_lines::read_frame_line` meets its contract: a tab after an identifier parts the two fields. Assumes nothing.
 use native.Mathlib.Omega.{arith}
 use Rattle.frame_lines.proofs.Cuts.{ill_formed_law, no_identifier, one_tab}
-use borrow.Author.Rules.{rules}
 use Rattle.frame_lines.proofs.read_frame_line.Goals as goal
 
 pub returns-then-line-le-IDENTIFIER_DIGITS : goal.returns-then-line-le-IDENTIFIER_DIGITS

@@ -1,9 +1,7 @@
 -- `frames::pack` meets its contract: a book that passes the test is packed by; another is refused before anything else.
 -- Assumes nothing.
 use mathlib.Core.Path.{sym, ◌∙◌}
-use borrow.Author.Tests.{not-true, not-false}
 use Rattle.frames.proofs.Entries.{pack_no_book, pack_book}
-use borrow.Author.Rules.{rules}
 use Rattle.frames.proofs.pack.Goals as goal
 
 pub returns-then-not-messages_taken : goal.returns-then-not-messages_taken

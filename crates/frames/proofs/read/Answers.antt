@@ -1,9 +1,7 @@
 -- `frames::read` meets its contract: a book that passes the test is read by; another is refused before anything else.
 -- Assumes nothing.
 use mathlib.Core.Path.{sym, ◌∙◌}
-use borrow.Author.Tests.{not-true, not-false}
 use Rattle.frames.proofs.Entries.{read_no_book, read_book}
-use borrow.Author.Rules.{rules}
 use Rattle.frames.proofs.read.Goals as goal
 
 pub returns-then-not-messages_taken : goal.returns-then-not-messages_taken

@@ -2,8 +2,6 @@
 use mathlib.Core.Path.{sym}
 use native.Mathlib.Omega.{arith}
 use Rattle.gateway_checker.proofs.Meeting.{bit_beyond}
-use borrow.Author.Rules.{rules}
-use borrow.Author.Rules.{rules}
 use Rattle.gateway_checker.proofs.among.Goals as goal
 
 pub returns : goal.returns

@@ -3,8 +3,7 @@ use Prim.Native.Nat.{◌-◌}
 use mathlib.Core.Path.{sym, ap₂, ◌∙◌}
 use mathlib.Core.Bool.{Bool, ◌||◌}
 use Rattle.gateway_checker.specs.Searches.{begins_by}
-use Rattle.gateway_checker.proofs.Found.{Passed, passed_start, passed_more, first_here, first_none}
-use borrow.Author.Rules.{rules}
+use Rattle.gateway_checker.proofs.Found.{passed_start, passed_more, first_here, first_none}
 use Rattle.gateway_checker.proofs.first_doubling.Goals as goal
 
 pub loop-i-init : goal.loop-i-init

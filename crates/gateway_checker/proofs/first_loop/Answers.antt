@@ -1,11 +1,10 @@
 -- `gateway_checker::first_loop` meets its contract: none of the routes passed leads on to where it starts. Assumes nothing.
 use Prim.Native.Nat.{ℕ, ◌-◌}
 use mathlib.Core.Path.{sym, ap, ◌∙◌}
-use lib.ListN.{length, get_or}
+use lib.ListN.{get_or}
 use Rattle.masks.specs.Bit.{bit}
 use Rattle.gateway_checker.specs.Searches.{leads_back}
-use Rattle.gateway_checker.proofs.Found.{Passed, passed_start, passed_more, first_here, first_none}
-use borrow.Author.Rules.{rules}
+use Rattle.gateway_checker.proofs.Found.{passed_start, passed_more, first_here, first_none}
 use Rattle.gateway_checker.proofs.first_loop.Goals as goal
 
 pub loop-i-init : goal.loop-i-init

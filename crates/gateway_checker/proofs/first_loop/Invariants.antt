@@ -1,11 +1,8 @@
 -- `gateway_checker::first_loop` meets its contract: none of the routes passed leads on to where it starts. Assumes nothing.
-use Prim.Native.Nat.{ℕ, ◌-◌}
-use mathlib.Core.Path.{sym, ap, ◌∙◌}
-use lib.ListN.{length, get_or}
-use Rattle.masks.specs.Bit.{bit}
+use Prim.Native.Nat.{◌-◌}
+use lib.ListN.{length}
 use Rattle.gateway_checker.specs.Searches.{leads_back}
-use Rattle.gateway_checker.proofs.Found.{Passed, passed_start, passed_more, first_here, first_none}
-use borrow.Author.Rules.{rules}
+use Rattle.gateway_checker.proofs.Found.{Passed}
 use Rattle.gateway_checker.proofs.first_loop.Given as goal
 
 abbrev pub invariant-loop-i : goal.invariant-loop-i

@@ -1,10 +1,6 @@
 -- `gateway_checker::forking` meets its contract: what was seen is what the routes passed lead on to, by where they start. Assumes nothing.
-use mathlib.Core.Path.{sym, ◌∙◌, subst}
-use mathlib.Core.Logic.{⊎_elim}
-use Prim.Native.Nat.{◌-◌, ◌+◌}
-use lib.ListN.{set}
-use Rattle.gateway_checker.proofs.Gathering.{Gathering, gathering_start, gathering_fork, gathering_keep, gathering_end}
-use borrow.Author.Rules.{rules}
+use Prim.Native.Nat.{◌-◌}
+use Rattle.gateway_checker.proofs.Gathering.{Gathering}
 use Rattle.gateway_checker.proofs.forking.Given as goal
 
 abbrev pub invariant-loop-t : goal.invariant-loop-t

@@ -1,7 +1,5 @@
 -- `gateway_checker::judge` meets its contract: the verdict on the numbers is that on the places. Assumes nothing.
 use Rattle.gateway_checker.proofs.Numbering.{low_numbers, judged_places}
-use borrow.Author.Rules.{rules}
-use borrow.Author.Rules.{rules}
 use Rattle.gateway_checker.proofs.judge.Goals as goal
 
 pub judge_numbered-requires : goal.judge_numbered-requires

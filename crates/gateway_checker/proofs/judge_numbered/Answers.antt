@@ -1,7 +1,5 @@
 -- `gateway_checker::judge_numbered` meets its contract: what the searches found over the masks is what there is to find over chains. Assumes nothing.
 use Rattle.gateway_checker.proofs.Judging.{loop_by, sound_by, doubling_by}
-use borrow.Author.Rules.{rules}
-use borrow.Author.Rules.{rules}
 use Rattle.gateway_checker.proofs.judge_numbered.Goals as goal
 
 pub returns-then-i-n : goal.returns-then-i-n

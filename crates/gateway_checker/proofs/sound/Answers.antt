@@ -3,7 +3,6 @@ use mathlib.Core.Path.{subst}
 use Rattle.verdict.specs.declared.Verdict.{Verdict}
 use Rattle.verdict.specs.Verdicts.{Judged}
 use Rattle.verdict.proofs.Once.{loop_unsound, doubling_unsound}
-use borrow.Author.Rules.{rules}
 use Rattle.gateway_checker.proofs.sound.Goals as goal
 
 pub returns-in-Loop : goal.returns-in-Loop

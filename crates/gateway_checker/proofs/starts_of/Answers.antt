@@ -1,15 +1,12 @@
 -- `gateway_checker::starts_of` meets its contract: the mask has where those of the routes passed start. Assumes nothing.
 use mathlib.Core.Path.{sym, ◌∙◌, subst}
 use mathlib.Core.Bool.{true≢false, and-eq-true_iff}
-use mathlib.Core.Logic.{⊎_elim}
 use Prim.Native.Nat.{◌-◌, ◌+◌}
 use native.Mathlib.Omega.{arith}
-use lib.ListN.{length}
 use lib.Dec.{ltb}
 use borrow.Author.Tests.{ltb-true, lt-ltb}
 use Rattle.masks.specs.Bit.{width}
 use Rattle.gateway_checker.proofs.Starting.{Starting, starting_start, starting_set, starting_keep, starting_end}
-use borrow.Author.Rules.{rules}
 use Rattle.gateway_checker.proofs.starts_of.Goals as goal
 use Rattle.gateway_checker.proofs.starts_of.Goals.{then-has-start, else-has-start}
 

@@ -1,6 +1,5 @@
 -- `line_writer::put_kind` meets its contract. Assumes nothing.
 use Rattle.printing.proofs.Puts.{and_then}
-use borrow.Author.Rules.{rules}
 use Rattle.line_writer.proofs.put_kind.Goals as goal
 
 pub returns : goal.returns

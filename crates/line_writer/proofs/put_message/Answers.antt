@@ -3,7 +3,6 @@ use native.Mathlib.Omega.{arith}
 use Rattle.printing.proofs.Puts.{put_identifier_law}
 use Rattle.reading.proofs.LineLengths.{message_long}
 use Rattle.line_writer.proofs.Pieces.{message_put}
-use borrow.Author.Rules.{rules}
 use Rattle.line_writer.proofs.put_message.Goals as goal
 
 pub put_kind-value-requires : goal.put_kind-value-requires

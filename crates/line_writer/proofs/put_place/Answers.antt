@@ -3,7 +3,6 @@ use native.Mathlib.Omega.{arith}
 use Rattle.printing.proofs.Puts.{put_identifier_law, put_decimal_law}
 use Rattle.reading.proofs.LineLengths.{bus_digit}
 use Rattle.line_writer.proofs.Pieces.{place_put}
-use borrow.Author.Rules.{rules}
 use Rattle.line_writer.proofs.put_place.Goals as goal
 
 pub put_decimal-after_bus-requires : goal.put_decimal-after_bus-requires

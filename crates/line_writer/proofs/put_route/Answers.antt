@@ -2,7 +2,6 @@
 use native.Mathlib.Omega.{arith}
 use Rattle.reading.proofs.LineLengths.{place_long, route_long}
 use Rattle.line_writer.proofs.Pieces.{route_put}
-use borrow.Author.Rules.{rules}
 use Rattle.line_writer.proofs.put_route.Goals as goal
 
 pub put_kind-first-requires : goal.put_kind-first-requires

@@ -4,7 +4,6 @@ use Rattle.printing.proofs.Puts.{put_decimal_law}
 use Rattle.reading.proofs.LineLengths.{signal_long}
 use Rattle.line_writer.proofs.Left.{signal_numbers_law}
 use Rattle.line_writer.proofs.Pieces.{signal_put}
-use borrow.Author.Rules.{rules}
 use Rattle.line_writer.proofs.put_signal.Goals as goal
 
 pub put_kind-first-requires : goal.put_kind-first-requires

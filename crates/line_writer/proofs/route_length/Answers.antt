@@ -1,7 +1,6 @@
 -- `line_writer::route_length` meets its contract: a number of 32 bits is a place, whose bus has one digit. Assumes nothing.
 use native.Mathlib.Omega.{arith}
 use Rattle.reading.proofs.LineLengths.{bus_digit, route_long}
-use borrow.Author.Rules.{rules}
 use Rattle.line_writer.proofs.route_length.Goals as goal
 
 pub overflow_add-result : goal.overflow_add-result

@@ -2,7 +2,6 @@
 use native.Mathlib.Omega.{arith}
 use Rattle.numerals.proofs.Decimals.{width_few}
 use Rattle.reading.proofs.LineLengths.{signal_long}
-use borrow.Author.Rules.{rules}
 use Rattle.line_writer.proofs.signal_length.Goals as goal
 
 pub overflow_add-result : goal.overflow_add-result

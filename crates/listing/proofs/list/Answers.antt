@@ -1,7 +1,6 @@
 -- `listing::list` meets its contract: the test of the book decides. Assumes nothing.
 use mathlib.Core.Path.{refl, sym, ◌∙◌}
 use Rattle.listing.specs.Listing.{listing}
-use borrow.Author.Rules.{rules}
 use Rattle.listing.proofs.list.Goals as goal
 
 pub list_lines-requires : goal.list_lines-requires

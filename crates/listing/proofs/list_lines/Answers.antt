@@ -2,11 +2,8 @@
 use mathlib.Core.Path.{ap, ◌∙◌}
 use Prim.Native.Nat.{◌-◌}
 use native.Mathlib.Omega.{arith}
-use borrow.Author.Rules.{rules}
 use lib.ListN.{length, length-drop}
-use Rattle.books.specs.Words.{messages_of}
-use Rattle.listing.specs.Printout.{printout}
-use Rattle.listing.proofs.Running.{Ran, none_ran, all_ran, no_end, no_room, line_ran, went, stayed, stayed_long}
+use Rattle.listing.proofs.Running.{none_ran, all_ran, no_end, no_room, line_ran, went, stayed, stayed_long}
 use Rattle.listing.proofs.list_lines.Goals as goal
 
 pub loop-used-init : goal.loop-used-init

@@ -1,7 +1,5 @@
 -- `numbering::enter` meets its contract: a place is new where its search stopped at an empty slot, and laid there. Assumes nothing.
 use Rattle.numbering.proofs.Laying.{laid_met, laid_new}
-use borrow.Author.Rules.{rules}
-use borrow.Author.Rules.{rules}
 use Rattle.numbering.proofs.enter.Goals as goal
 
 pub returns-then-key-eq0 : goal.returns-then-key-eq0

@@ -1,10 +1,8 @@
 -- `numbering::number_all` meets its contract: the first i places are laid and have their numbers. Assumes nothing.
-use mathlib.Core.List.{◌++◌}
 use Prim.Native.Nat.{◌-◌}
 use native.Mathlib.Omega.{arith}
 use lib.ListN.{length-append}
-use Rattle.numbering.proofs.Laying.{Numbering, numbering_start, numbering_more, numbering_end}
-use borrow.Author.Rules.{rules}
+use Rattle.numbering.proofs.Laying.{numbering_start, numbering_more, numbering_end}
 use Rattle.numbering.proofs.number_all.Goals as goal
 
 pub loop-i-init : goal.loop-i-init

@@ -1,10 +1,7 @@
 -- `numbering::number_all` meets its contract: the first i places are laid and have their numbers. Assumes nothing.
 use mathlib.Core.List.{◌++◌}
 use Prim.Native.Nat.{◌-◌}
-use native.Mathlib.Omega.{arith}
-use lib.ListN.{length-append}
-use Rattle.numbering.proofs.Laying.{Numbering, numbering_start, numbering_more, numbering_end}
-use borrow.Author.Rules.{rules}
+use Rattle.numbering.proofs.Laying.{Numbering}
 use Rattle.numbering.proofs.number_all.Given as goal
 
 abbrev pub invariant-loop-i : goal.invariant-loop-i

@@ -1,11 +1,8 @@
 -- `numbering::seek` meets its contract: the slots passed hold other places, and with an empty slot left the search stops. Assumes nothing.
-use mathlib.Core.Path.{sym, ◌∙◌}
 use mathlib.Core.List.{◌++◌}
 use Prim.Native.Nat.{◌-◌}
-use native.Mathlib.Omega.{arith}
 use Rattle.numbering.specs.Slots.{slot_count}
-use Rattle.numbering.proofs.Seeking.{Seeking, seeking_start, seeking_vain, seeking_empty, seeking_met, seeking_on}
-use borrow.Author.Rules.{rules}
+use Rattle.numbering.proofs.Seeking.{Seeking}
 use Rattle.numbering.proofs.seek.Given as goal
 
 abbrev pub invariant-loop-tries : goal.invariant-loop-tries

@@ -2,7 +2,6 @@
 use mathlib.Core.Path.{ap, ◌∙◌}
 use mathlib.Core.Bool.{Bool, ◌||◌}
 use Rattle.masks.specs.Bit.{bit}
-use borrow.Author.Rules.{rules}
 use Rattle.placing.proofs.filled_with.Goals as goal
 
 pub returns : goal.returns

@@ -1,7 +1,6 @@
 -- `placing::is_misplaced` meets its contract: each `return` is one case of the rule. Assumes nothing.
 use mathlib.Core.Path.{sym}
 use Rattle.placing.proofs.Placing.{past_end, sum_placed, counter_placed, well_placed}
-use borrow.Author.Rules.{rules}
 use Rattle.placing.proofs.is_misplaced.Goals as goal
 
 pub returns-then-start-bits-gt-FRAME_BITS : goal.returns-then-start-bits-gt-FRAME_BITS

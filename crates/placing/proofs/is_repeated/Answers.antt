@@ -1,7 +1,6 @@
 -- `placing::is_repeated` meets its contract: a number whose mark is not set stands nowhere among them. Assumes nothing.
 use mathlib.Core.Path.{sym, ◌∙◌}
 use Rattle.placing.proofs.Marks.{unmarked}
-use borrow.Author.Rules.{rules}
 use Rattle.placing.proofs.is_repeated.Goals as goal
 
 pub returns : goal.returns

@@ -1,6 +1,5 @@
 -- `placing::run` meets its contract: the bits of its value. Assumes nothing.
 use Rattle.placing.proofs.Runs.{run_bits}
-use borrow.Author.Rules.{rules}
 use Rattle.placing.proofs.run.Goals as goal
 
 pub returns : goal.returns

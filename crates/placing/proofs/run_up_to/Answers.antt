@@ -1,6 +1,5 @@
 -- `placing::run_up_to` meets its contract: the bits of its value. Assumes nothing.
 use Rattle.placing.proofs.Runs.{run_up_to_bits}
-use borrow.Author.Rules.{rules}
 use Rattle.placing.proofs.run_up_to.Goals as goal
 
 pub returns : goal.returns

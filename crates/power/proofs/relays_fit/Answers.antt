@@ -1,5 +1,4 @@
 -- `power::relays_fit` meets its contract. Assumes nothing.
-use borrow.Author.Rules.{rules}
 use Rattle.power.proofs.relays_fit.Goals as goal
 
 pub returns : goal.returns

@@ -1,7 +1,5 @@
 -- `power::step` meets its contract: the tests that led to each `return` say which refusal it is, or that there is none. Assumes nothing.
-use borrow.Author.Tests.{not-true, not-false}
 use Rattle.power.specs.Refusals.{step_of}
-use borrow.Author.Rules.{rules}
 use Rattle.power.proofs.step.Goals as goal
 
 pub returns-then-not-relays : goal.returns-then-not-relays

@@ -4,8 +4,7 @@ use Prim.Native.Nat.{◌-◌, ◌*◌, ◌<◌}
 use native.Mathlib.Omega.{arith}
 use lib.ListN.{length}
 use Rattle.masks.specs.Bit.{width}
-use Rattle.reach.proofs.Leading.{Leading, real_start, tells_one, leading_start, leading_more, leading_end}
-use borrow.Author.Rules.{rules}
+use Rattle.reach.proofs.Leading.{real_start, tells_one, leading_start, leading_more, leading_end}
 use Rattle.reach.proofs.fill.Goals as goal
 
 pub settle-requires : goal.settle-requires

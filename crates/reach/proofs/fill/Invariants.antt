@@ -1,11 +1,7 @@
 -- `reach::fill` meets its contract: the masks of the first i routes say what each leads on to. Assumes nothing.
-use mathlib.Core.Path.{refl}
-use Prim.Native.Nat.{◌-◌, ◌*◌, ◌<◌}
-use native.Mathlib.Omega.{arith}
+use Prim.Native.Nat.{◌-◌}
 use lib.ListN.{length}
-use Rattle.masks.specs.Bit.{width}
-use Rattle.reach.proofs.Leading.{Leading, real_start, tells_one, leading_start, leading_more, leading_end}
-use borrow.Author.Rules.{rules}
+use Rattle.reach.proofs.Leading.{Leading}
 use Rattle.reach.proofs.fill.Given as goal
 
 abbrev pub invariant-loop-i : goal.invariant-loop-i

@@ -3,8 +3,6 @@ use Prim.Native.Nat.{◌<◌}
 use native.Mathlib.Omega.{arith}
 use lib.ListN.{length}
 use Rattle.reach.proofs.Handed.{handing_one}
-use borrow.Author.Rules.{rules}
-use borrow.Author.Rules.{rules}
 use Rattle.reach.proofs.hand.Goals as goal
 
 pub returns : goal.returns

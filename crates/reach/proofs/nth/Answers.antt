@@ -1,8 +1,6 @@
 -- `reach::nth` meets its contract. Assumes nothing.
 use mathlib.Core.Path.{refl}
 use native.Mathlib.Omega.{arith}
-use borrow.Author.Rules.{rules}
-use borrow.Author.Rules.{rules}
 use Rattle.reach.proofs.nth.Goals as goal
 
 pub returns-then-down : goal.returns-then-down

@@ -1,11 +1,7 @@
 -- `reach::pass` meets its contract: the routes of the turns passed have handed on. Assumes nothing.
 use Prim.Native.Nat.{◌-◌, ◌≤◌}
-use native.Mathlib.Omega.{arith}
-use lib.ListN.{length}
 use Rattle.reach.specs.Handing.{Handing}
-use Rattle.reach.proofs.Handed.{handing_none, handing_both}
-use Rattle.reach.proofs.Passing.{Turned, turned_none, turned_more, turned_all, handing_for}
-use borrow.Author.Rules.{rules}
+use Rattle.reach.proofs.Passing.{Turned}
 use Rattle.reach.proofs.pass.Given as goal
 
 abbrev pub invariant-loop-t : goal.invariant-loop-t

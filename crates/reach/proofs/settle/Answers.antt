@@ -1,7 +1,6 @@
 -- `reach::settle` meets its contract: each pass but the last makes the masks grow, and they cannot grow for ever. Assumes nothing.
 use native.Mathlib.Omega.{arith}
-use Rattle.reach.proofs.Passing.{Settling, left, settling_start, settling_more, settling_less, settling_end}
-use borrow.Author.Rules.{rules}
+use Rattle.reach.proofs.Passing.{settling_start, settling_more, settling_less, settling_end}
 use Rattle.reach.proofs.settle.Goals as goal
 
 pub loop-new-init : goal.loop-new-init

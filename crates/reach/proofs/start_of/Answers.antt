@@ -1,7 +1,5 @@
 -- `reach::start_of` meets its contract. Assumes nothing.
 use native.Mathlib.Omega.{arith}
-use borrow.Author.Rules.{rules}
-use borrow.Author.Rules.{rules}
 use Rattle.reach.proofs.start_of.Goals as goal
 
 pub returns : goal.returns

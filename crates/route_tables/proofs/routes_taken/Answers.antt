@@ -5,11 +5,9 @@ use mathlib.Core.Path.{sym, ◌∙◌, subst}
 use mathlib.Core.Bool.{true≢false}
 use mathlib.Core.List.{List}
 use native.Mathlib.Omega.{arith}
-use borrow.Author.Tests.{not-true, not-false}
 use Rattle.chains.specs.Chain.{IsSound}
 use Rattle.chains.specs.Tells.{Tells}
 use Rattle.route_tables.proofs.Tested.{few_taken, froms_past, tos_past, tells}
-use borrow.Author.Rules.{rules}
 use Rattle.route_tables.proofs.routes_taken.Goals as goal
 
 pub returns-then-n-gt-ROUTES : goal.returns-then-n-gt-ROUTES

@@ -5,7 +5,7 @@ use mathlib.Core.Path.{◌≡◌, refl}
 use native.Mathlib.Omega.{arith}
 use lib.ListN.{length}
 use Rattle.record.specs.Limits.{route_limit}
-use Rattle.routes.proofs.Front.{Copied, copied_more, copied_end}
+use Rattle.routes.proofs.Front.{copied_more, copied_end}
 use Rattle.routes.proofs.copy.Goals as goal
 
 pub loop-i-init : goal.loop-i-init

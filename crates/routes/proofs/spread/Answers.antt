@@ -1,8 +1,6 @@
 -- `routes::spread` meets its contract: the tables are tested first. Assumes nothing.
-use borrow.Author.Tests.{not-true, not-false}
 use Rattle.chains.proofs.Bools.{told_yes, told_no}
 use Rattle.routes.specs.Answers.{not_a_book, by_routes}
-use borrow.Author.Rules.{rules}
 use Rattle.routes.proofs.spread.Goals as goal
 
 pub returns-then-not-routes_taken : goal.returns-then-not-routes_taken

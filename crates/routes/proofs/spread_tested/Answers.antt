@@ -3,7 +3,6 @@
 use native.Mathlib.Omega.{arith}
 use Rattle.routes.specs.Answers.{no_place}
 use Rattle.routes.proofs.Gathering.{ready, enough, too_small, written}
-use borrow.Author.Rules.{rules}
 use Rattle.routes.proofs.spread_tested.Goals as goal
 
 pub returns-then-bus-ge-BUSES : goal.returns-then-bus-ge-BUSES

@@ -1,6 +1,5 @@
 -- `sending::put` meets its contract: the entry at that number is the place, the others stay. Assumes nothing.
 use mathlib.Core.Path.{refl}
-use borrow.Author.Rules.{rules}
 use Rattle.sending.proofs.put.Goals as goal
 
 pub returns : goal.returns

@@ -4,7 +4,6 @@ use Rattle.printing.proofs.Puts.{put_within}
 use Rattle.printing.proofs.Spelling.{natural_few}
 use Rattle.signal_lines.specs.Printed.{end_room}
 use Rattle.signal_lines.proofs.Fields.{put_more, put_last}
-use borrow.Author.Rules.{rules}
 use Rattle.signal_lines.proofs.put_count.Goals as goal
 
 pub put_byte-requires : goal.put_byte-requires

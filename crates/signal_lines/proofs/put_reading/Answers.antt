@@ -4,7 +4,6 @@ use Rattle.printing.proofs.Puts.{put_within, put_identifier_law}
 use Rattle.printing.proofs.Spelling.{natural_few}
 use Rattle.signal_lines.specs.Printed.{listed_line_room}
 use Rattle.signal_lines.proofs.Fields.{put_more}
-use borrow.Author.Rules.{rules}
 use Rattle.signal_lines.proofs.put_reading.Goals as goal
 
 pub put_byte-third-requires : goal.put_byte-third-requires

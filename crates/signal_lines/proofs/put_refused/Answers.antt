@@ -3,7 +3,6 @@ use native.Mathlib.Omega.{arith}
 use Rattle.printing.proofs.Puts.{put_within, put_identifier_law}
 use Rattle.signal_lines.specs.Printed.{listed_line_room}
 use Rattle.signal_lines.proofs.Fields.{put_more}
-use borrow.Author.Rules.{rules}
 use Rattle.signal_lines.proofs.put_refused.Goals as goal
 
 pub returns : goal.returns

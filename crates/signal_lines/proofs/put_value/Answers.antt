@@ -1,6 +1,5 @@
 -- `signal_lines::put_value` meets its contract: a word, a tab, the figures, a newline. Assumes nothing.
 use native.Mathlib.Omega.{arith}
-use borrow.Author.Rules.{rules}
 use Rattle.printing.proofs.Puts.{put_within}
 use Rattle.signal_lines.specs.Printed.{end_room}
 use Rattle.signal_lines.proofs.Fields.{put_more, put_last}

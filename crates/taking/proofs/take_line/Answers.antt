@@ -1,7 +1,6 @@
 -- `taking::take_line` meets its contract: what the line says tells which of the adds was called. Assumes nothing.
 use mathlib.Core.Path.{refl}
 use Rattle.taking.proofs.Steps.{took_message, took_signal, took_route, took_none}
-use borrow.Author.Rules.{rules}
 use Rattle.taking.proofs.take_line.Goals as goal
 
 pub add_message-requires : goal.add_message-requires

@@ -1,9 +1,7 @@
 -- `taking::take_lines` meets its contract: the answer for the rest, after the book so far, is the answer for the whole. Assumes nothing.
 use Prim.Native.Nat.{◌-◌}
-use native.Mathlib.Omega.{arith}
 use lib.ListN.{length}
-use borrow.Author.Rules.{rules}
-use Rattle.taking.proofs.Going.{read, Going, start, all_taken, refused_here, goes_on}
+use Rattle.taking.proofs.Going.{Going}
 use Rattle.taking.proofs.take_lines.Given as goal
 
 abbrev pub invariant-loop-at : goal.invariant-loop-at

@@ -6,7 +6,6 @@ use Rattle.books.specs.Book.{all_placements}
 use Rattle.reading.proofs.LineLengths.{message_long}
 use Rattle.reading.proofs.TextLengths.{signal_bytes, signals_few, messages_long}
 use Rattle.book_writer.proofs.Shown.{ms, stand, limits, messages_counted, signals_counted, own_signals}
-use borrow.Author.Rules.{rules}
 use Rattle.book_writer.proofs.lengths.message_lines_length.Goals as goal
 
 pub first-requires : goal.first-requires

@@ -4,7 +4,6 @@ use native.Mathlib.Omega.{arith}
 use lib.ListN.{length}
 use Rattle.reading.specs.Written.{lines_text}
 use Rattle.book_writer.proofs.Shown.{routes_counted, own_routes}
-use borrow.Author.Rules.{rules}
 use Rattle.book_writer.proofs.lengths.route_lines_length.Goals as goal
 
 pub first-requires : goal.first-requires

@@ -1,19 +1,11 @@
 -- `book_writer::lengths::routes_length` meets its contract: what is summed so far, and what is left, is all. Assumes nothing.
 use Prim.Native.Nat.{◌-◌}
 use mathlib.Core.List.{map}
-use native.Mathlib.Omega.{arith}
-use lib.ListN.{length, length-map}
-use mathlib.Core.Path.{sym, ap}
-use Rattle.books.specs.Book.{Route}
-use Rattle.books.specs.Words.{routes_side_by_side}
+use lib.ListN.{length}
 use Rattle.books.proofs.Sides.{routes_from_on}
-use Rattle.books.proofs.RouteColumns.{side_froms}
 use Rattle.reading.specs.Written.{route_line}
-use Rattle.line_writer.proofs.Left.{LengthSoFar, none_summed, one_summed, all_summed}
+use Rattle.line_writer.proofs.Left.{LengthSoFar}
 use Rattle.book_writer.specs.ShownLines.{route_lines}
-use Rattle.book_writer.proofs.Columns.{route_next, routes_done}
-use Rattle.reading.proofs.TextLengths.{routes_few}
-use borrow.Author.Rules.{rules}
 use Rattle.book_writer.proofs.lengths.routes_length.Given as goal
 
 abbrev pub invariant-loop-i : goal.invariant-loop-i

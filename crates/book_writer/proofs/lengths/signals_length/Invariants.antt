@@ -1,16 +1,11 @@
 -- `book_writer::lengths::signals_length` meets its contract: what is summed so far, and what is left, is all. Assumes nothing.
 use Prim.Native.Nat.{◌-◌}
 use mathlib.Core.List.{map}
-use native.Mathlib.Omega.{arith}
 use lib.ListN.{length}
-use Rattle.books.specs.Words.{side_by_side}
-use Rattle.books.proofs.Sides.{rest, side_length}
+use Rattle.books.proofs.Sides.{rest}
 use Rattle.reading.specs.Written.{signal_line}
-use Rattle.line_writer.proofs.Left.{LengthSoFar, none_summed, one_summed, all_summed}
+use Rattle.line_writer.proofs.Left.{LengthSoFar}
 use Rattle.book_writer.specs.ShownLines.{signal_lines}
-use Rattle.book_writer.proofs.Columns.{signal_next, signals_done}
-use Rattle.reading.proofs.TextLengths.{signals_few}
-use borrow.Author.Rules.{rules}
 use Rattle.book_writer.proofs.lengths.signals_length.Given as goal
 
 abbrev pub invariant-loop-i : goal.invariant-loop-i

@@ -1,7 +1,6 @@
 -- `book_writer::lengths::text_length` meets its contract: both parts are the text. Assumes nothing.
 use native.Mathlib.Omega.{arith}
 use Rattle.book_writer.proofs.Whole.{whole_long, few_bytes}
-use borrow.Author.Rules.{rules}
 use Rattle.book_writer.proofs.lengths.text_length.Goals as goal
 
 pub overflow_add-result : goal.overflow_add-result

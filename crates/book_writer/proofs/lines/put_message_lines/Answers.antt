@@ -2,7 +2,6 @@
 use mathlib.Core.Path.{◌∙◌}
 use native.Mathlib.Omega.{arith}
 use Rattle.book_writer.proofs.Shown.{messages_counted, signals_counted, messages_fit, messages_put}
-use borrow.Author.Rules.{rules}
 use Rattle.book_writer.proofs.lines.put_message_lines.Goals as goal
 
 pub first-requires : goal.first-requires

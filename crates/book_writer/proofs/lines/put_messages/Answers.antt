@@ -2,9 +2,7 @@
 use mathlib.Core.Path.{refl}
 use Prim.Native.Nat.{◌-◌}
 use native.Mathlib.Omega.{arith}
-use lib.ListN.{length}
-use Rattle.book_writer.proofs.Messages.{MessagesLeft, messages_left, next_message, all_messages, message_fit, in_step, signals_fit, message_written}
-use borrow.Author.Rules.{rules}
+use Rattle.book_writer.proofs.Messages.{messages_left, next_message, all_messages, message_fit, in_step, signals_fit, message_written}
 use Rattle.book_writer.proofs.lines.put_messages.Goals as goal
 
 pub loop-i-init : goal.loop-i-init

@@ -1,10 +1,7 @@
 -- `book_writer::lines::put_messages` meets its contract: each turn writes the next message, and the others are left. Assumes nothing.
-use mathlib.Core.Path.{refl}
 use Prim.Native.Nat.{◌-◌}
-use native.Mathlib.Omega.{arith}
 use lib.ListN.{length}
-use Rattle.book_writer.proofs.Messages.{MessagesLeft, messages_left, next_message, all_messages, message_fit, in_step, signals_fit, message_written}
-use borrow.Author.Rules.{rules}
+use Rattle.book_writer.proofs.Messages.{MessagesLeft}
 use Rattle.book_writer.proofs.lines.put_messages.Given as goal
 
 abbrev pub invariant-loop-i : goal.invariant-loop-i

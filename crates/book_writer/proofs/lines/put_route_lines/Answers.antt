@@ -2,7 +2,6 @@
 use mathlib.Core.Path.{◌∙◌}
 use native.Mathlib.Omega.{arith}
 use Rattle.book_writer.proofs.Shown.{routes_counted, routes_level, routes_fit, routes_put}
-use borrow.Author.Rules.{rules}
 use Rattle.book_writer.proofs.lines.put_route_lines.Goals as goal
 
 pub first-requires : goal.first-requires

@@ -1,14 +1,9 @@
 -- `book_writer::lines::put_routes` meets its contract: writing the lines that are left gives the final list. Assumes nothing.
 use Prim.Native.Nat.{◌-◌}
-use mathlib.Core.List.{[], ◌∷◌, map}
+use mathlib.Core.List.{[], ◌∷◌}
 use native.Mathlib.Omega.{arith}
-use lib.ListN.{length}
-use Rattle.books.proofs.Sides.{routes_from_on}
-use Rattle.reading.specs.Written.{route_line}
 use Rattle.line_writer.proofs.Left.{LinesLeft, all_left, first_fit, lines_put, none_left}
-use Rattle.book_writer.specs.ShownLines.{route_lines}
 use Rattle.book_writer.proofs.Columns.{route_next, routes_done}
-use borrow.Author.Rules.{rules}
 use Rattle.book_writer.proofs.lines.put_routes.Goals as goal
 
 pub loop-i-init : goal.loop-i-init

@@ -1,14 +1,8 @@
 -- `book_writer::lines::put_signals` meets its contract: writing the lines that are left gives the final list. Assumes nothing.
-use mathlib.Core.Path.{◌≡◌}
-use Prim.Native.Nat.{◌+◌}
 use native.Mathlib.Nat.{zero-add}
-use mathlib.Core.List.{[], ◌∷◌, map}
+use mathlib.Core.List.{[], ◌∷◌}
 use native.Mathlib.Omega.{arith}
-use lib.ListN.{length}
-use Rattle.books.proofs.Sides.{rest}
-use Rattle.reading.specs.Written.{signal_line}
 use Rattle.line_writer.proofs.Left.{LinesLeft, all_left, first_fit, lines_put, none_left}
-use Rattle.book_writer.specs.ShownLines.{signal_lines}
 use Rattle.book_writer.proofs.Columns.{signal_next, signals_done}
 use Rattle.book_writer.proofs.lines.put_signals.Goals as goal
 

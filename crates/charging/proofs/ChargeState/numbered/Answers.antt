@@ -1,6 +1,5 @@
 -- `charging::ChargeState::numbered` meets its contract: a number over fault's is no state's, any other that of its step or of fault. Assumes nothing.
 use native.Mathlib.Omega.{arith}
-use borrow.Author.Rules.{rules}
 use borrow.Author.Tests.{le-leb, lt-leb}
 use Rattle.charging.specs.States.{charge_numbered}
 use Rattle.charging.proofs.ChargeState.numbered.Goals as goal

@@ -1,8 +1,6 @@
 -- `charging::conditions::holding` meets its contract: at each `return` the tests that led there say which conditions hold, and which is the
 -- first that does not. Assumes nothing.
-use borrow.Author.Tests.{not-true, not-false}
 use Rattle.charging.specs.Conditions.{conditions}
-use borrow.Author.Rules.{rules}
 use Rattle.charging.proofs.conditions.holding.Goals as goal
 
 pub returns-then-not-plug_is_seen : goal.returns-then-not-plug_is_seen

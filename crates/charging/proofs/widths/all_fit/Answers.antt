@@ -3,7 +3,6 @@ use mathlib.Core.Path.{◌≡◌, refl}
 use mathlib.Core.Bool.{Bool, true, false, ◌&&◌}
 use Rattle.charging.specs.declared.ChargeObservation.{ChargeObservation}
 use Rattle.charging.specs.Refusals.{fits_signal, counts_fit}
-use borrow.Author.Rules.{rules}
 use Rattle.charging.proofs.widths.all_fit.Goals as goal
 
 in_a_row : (a b c d e f g h i j k : Bool)

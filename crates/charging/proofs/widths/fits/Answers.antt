@@ -2,18 +2,10 @@
 -- what stands before `TooWide` in the enum is below its tag
 use mathlib.Core.Path.{◌≡◌, refl, ap, ◌∙◌}
 use mathlib.Core.Bool.{true, not}
-use mathlib.Core.List.{[], ◌∷◌}
-use mathlib.Core.Logic.{inl, inr}
-use Prim.Native.Nat.{ℕ}
-use native.Mathlib.Omega.{arith}
 use lib.Dec.{eqb}
-use types.Run.{OneOf}
-use denote.Enum.Declared.{tag_of}
 use Rattle.catalogue.specs.declared.Class.{Class}
 use Rattle.catalogue.specs.declared.Class.TheVariants.{Value, Invalid, Absent, Error, Reserved, Outside, NotInCatalogue, TooWide}
 use Rattle.catalogue.specs.Class.{class_number}
-use Rattle.catalogue.specs.contracts.Class.{the_type}
-use borrow.Author.Rules.{rules}
 use Rattle.charging.proofs.widths.fits.Goals as goal
 
 another : (k : Class) → (k ≡ TooWide → ⊥) → true ≡ not (eqb (class_number k) 26)

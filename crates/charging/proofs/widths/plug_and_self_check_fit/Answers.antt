@@ -1,5 +1,4 @@
 -- `charging::widths::plug_and_self_check_fit` meets its contract: each of its calls answers for one count. Assumes nothing.
-use borrow.Author.Rules.{rules}
 use Rattle.charging.proofs.widths.plug_and_self_check_fit.Goals as goal
 
 pub returns : goal.returns

@@ -1,5 +1,4 @@
 -- `charging::widths::welds_fit` meets its contract: each of its calls answers for one count. Assumes nothing.
-use borrow.Author.Rules.{rules}
 use Rattle.charging.proofs.widths.welds_fit.Goals as goal
 
 pub returns : goal.returns

@@ -1,11 +1,7 @@
 -- `frames::lookup::find` meets its contract: what was passed, with the first place in the rest, is the first place.
 -- Assumes nothing.
-use mathlib.Core.Path.{◌≡◌}
-use Prim.Native.Nat.{◌≤◌, ◌-◌, ◌+◌}
+use Prim.Native.Nat.{◌-◌}
 use native.Mathlib.Omega.{arith}
-use lib.ListN.{length, drop}
-use borrow.Author.Rules.{rules}
-use Rattle.frames.specs.Lookup.{first_at}
 use Rattle.frames.proofs.Lookups.{first_here, first_later, first_none, first_counts}
 use Rattle.frames.proofs.lookup.find.Goals as goal
 

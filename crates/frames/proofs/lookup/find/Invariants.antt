@@ -2,11 +2,8 @@
 -- Assumes nothing.
 use mathlib.Core.Path.{◌≡◌}
 use Prim.Native.Nat.{◌≤◌, ◌-◌, ◌+◌}
-use native.Mathlib.Omega.{arith}
 use lib.ListN.{length, drop}
-use borrow.Author.Rules.{rules}
 use Rattle.frames.specs.Lookup.{first_at}
-use Rattle.frames.proofs.Lookups.{first_here, first_later, first_none, first_counts}
 use Rattle.frames.proofs.lookup.find.Given as goal
 
 abbrev pub invariant-loop-i : goal.invariant-loop-i

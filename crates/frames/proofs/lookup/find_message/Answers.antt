@@ -9,7 +9,6 @@ use lib.ListN.{get_or}
 use Rattle.record.specs.Columns.{message_count_of, ends_of}
 use Rattle.frames.specs.Lookup.{Spans}
 use Rattle.frames.proofs.Lookups.{count_few, first_is, there_is, at_few, nothing, spans}
-use borrow.Author.Rules.{rules}
 use Rattle.frames.proofs.lookup.find_message.Goals as goal
 
 pub slice_bounds-find-end : goal.slice_bounds-find-end

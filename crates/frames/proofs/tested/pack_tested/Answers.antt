@@ -11,7 +11,6 @@ use Rattle.frames.specs.Lookup.{Finds, Spans}
 use Rattle.frames.specs.declared.lookup.MessageFound.{MessageFound}
 use Rattle.frames.specs.declared.lookup.MessageFound.TheVariants.{Signals}
 use Rattle.frames.proofs.Entries.{found, packable, many, pack_unknown, pack_count, pack_short, pack_known}
-use borrow.Author.Rules.{rules}
 use Rattle.frames.proofs.tested.pack_tested.Goals as goal
 
 spans : (w : List ℕ) (identifier from to : ℕ) (r : MessageFound) → r ≡ Signals from to → Finds w identifier r → Spans w identifier from to

@@ -4,7 +4,6 @@ use Prim.Native.Nat.{ℕ, ◌<◌}
 use lib.ListN.{get_or}
 use Rattle.books.specs.Words.{messages_of}
 use Rattle.frames.proofs.Entries.{read_short, read_eight}
-use borrow.Author.Rules.{rules}
 use Rattle.frames.proofs.tested.read_tested.Goals as goal
 
 pub returns-then-frame-ne-FRAME_BYTES : goal.returns-then-frame-ne-FRAME_BYTES

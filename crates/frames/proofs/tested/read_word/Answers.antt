@@ -11,7 +11,6 @@ use Rattle.frames.specs.Lookup.{Finds, Spans}
 use Rattle.frames.specs.declared.lookup.MessageFound.{MessageFound}
 use Rattle.frames.specs.declared.lookup.MessageFound.TheVariants.{Signals}
 use Rattle.frames.proofs.Entries.{found, readable, read_unknown, read_known}
-use borrow.Author.Rules.{rules}
 use Rattle.frames.proofs.tested.read_word.Goals as goal
 
 spans : (w : List ℕ) (identifier from to : ℕ) (r : MessageFound) → r ≡ Signals from to → Finds w identifier r → Spans w identifier from to

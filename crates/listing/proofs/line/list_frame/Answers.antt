@@ -3,7 +3,6 @@ use native.Mathlib.Omega.{arith}
 use Rattle.listing.proofs.Found.{found_signals, found_nothing, column_part, listable}
 use Rattle.listing.proofs.Prints.{frame_listed, frame_unknown}
 use Rattle.listing.proofs.Fits.{fitted_as}
-use borrow.Author.Rules.{rules}
 use Rattle.listing.proofs.line.list_frame.Goals as goal
 
 pub part-numbers-requires : goal.part-numbers-requires

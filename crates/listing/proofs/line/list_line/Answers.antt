@@ -3,7 +3,6 @@ use mathlib.Core.Path.{sym, ◌∙◌}
 use Rattle.frame_lines.proofs.Behind.{says_frame, says_fewer, says_ill}
 use Rattle.listing.proofs.Prints.{line_frame, line_fewer, line_ill}
 use Rattle.listing.proofs.Fits.{fitted_as}
-use borrow.Author.Rules.{rules}
 use Rattle.listing.proofs.line.list_line.Goals as goal
 
 pub returns-in-Frame : goal.returns-in-Frame

@@ -1,7 +1,6 @@
 -- `listing::message::list_message` meets its contract: the checksum decides. Assumes nothing.
 use Rattle.listing.proofs.Prints.{message_signals, message_refused}
 use Rattle.listing.proofs.Fits.{fitted_as}
-use borrow.Author.Rules.{rules}
 use Rattle.listing.proofs.message.list_message.Goals as goal
 
 pub returns-then-checked : goal.returns-then-checked

@@ -3,7 +3,6 @@ use Prim.Native.Nat.{ℕ}
 use native.Mathlib.Omega.{arith}
 use lib.ListN.{length-replicate}
 use Rattle.listing.proofs.Fits.{fits, fitted_as, aside_is, aside_long}
-use borrow.Author.Rules.{rules}
 use Rattle.listing.proofs.message.list_signals.Goals as goal
 
 pub put_signals-requires : goal.put_signals-requires

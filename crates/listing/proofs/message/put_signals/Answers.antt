@@ -2,13 +2,11 @@
 use mathlib.Core.Path.{ap, ◌∙◌, subst⁻¹}
 use Prim.Native.Nat.{◌-◌}
 use native.Mathlib.Omega.{arith}
-use borrow.Author.Rules.{rules}
-use lib.ListN.{length}
 use Rattle.catalogue.specs.declared.Cut.{Cut}
 use Rattle.doubles.specs.Doubles.{SmallIfValue}
 use Rattle.doubles.proofs.Values.{small_class}
 use Rattle.messages.proofs.Cuts.{class_there}
-use Rattle.listing.proofs.Walking.{Walked, none_walked, signal_walked, all_walked, room_left, fits_next}
+use Rattle.listing.proofs.Walking.{none_walked, signal_walked, all_walked, room_left, fits_next}
 use Rattle.listing.proofs.message.put_signals.Goals as goal
 
 pub loop-i-init : goal.loop-i-init

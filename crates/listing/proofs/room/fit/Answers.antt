@@ -1,6 +1,5 @@
 -- `listing::room::fit` meets its contract: a text that fits stands at its place, and one that does not leaves the room as it was. Assumes nothing.
 use Rattle.listing.proofs.Fits.{fits, too_long}
-use borrow.Author.Rules.{rules}
 use Rattle.listing.proofs.room.fit.Goals as goal
 
 pub returns-then-out-at : goal.returns-then-out-at

@@ -1,7 +1,6 @@
 -- `listing::room::list_ill_formed` meets its contract: the constant is the line. Assumes nothing.
 use Rattle.signal_lines.proofs.IllFormed.{spelt}
 use Rattle.listing.proofs.Fits.{fitted_as}
-use borrow.Author.Rules.{rules}
 use Rattle.listing.proofs.room.list_ill_formed.Goals as goal
 
 pub returns : goal.returns

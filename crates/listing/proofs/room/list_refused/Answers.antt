@@ -3,7 +3,6 @@ use Prim.Native.Nat.{ℕ}
 use native.Mathlib.Omega.{arith}
 use lib.ListN.{length-replicate}
 use Rattle.listing.proofs.Fits.{fitted_as, aside_is, aside_long}
-use borrow.Author.Rules.{rules}
 use Rattle.listing.proofs.room.list_refused.Goals as goal
 
 pub slice_bounds-fit-end : goal.slice_bounds-fit-end

@@ -2,7 +2,6 @@
 -- Assumes nothing.
 use mathlib.Core.Path.{sym, ◌∙◌}
 use Rattle.messages.proofs.Steps.{check_made, check_spared}
-use borrow.Author.Rules.{rules}
 use Rattle.messages.proofs.checksum.checked.Goals as goal
 
 pub returns-then-holds : goal.returns-then-holds

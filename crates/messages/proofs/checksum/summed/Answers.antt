@@ -2,7 +2,6 @@
 -- Assumes nothing.
 use mathlib.Core.Path.{sym, ◌∙◌}
 use Rattle.messages.proofs.Packs.{summed_there, summed_nowhere}
-use borrow.Author.Rules.{rules}
 use Rattle.messages.proofs.checksum.summed.Goals as goal
 
 pub returns-then-holds : goal.returns-then-holds

@@ -3,7 +3,6 @@
 use mathlib.Core.Path.{sym, ap, ◌∙◌}
 use Rattle.bits.specs.Word.{bytes_of}
 use Rattle.messages.proofs.Packs.{refused_wide, refused_barred, was_packed}
-use borrow.Author.Rules.{rules}
 use Rattle.messages.proofs.packing.pack_message.Goals as goal
 
 pub returns-in-Word : goal.returns-in-Word

@@ -1,20 +1,15 @@
 -- `messages::packing::put_all` meets its contract: at each turn, putting what is left gives the final word, or the refusal.
 -- Assumes nothing.
-use mathlib.Core.Path.{◌≡◌, refl, sym, ap, ◌∙◌}
+use mathlib.Core.Path.{◌≡◌}
 use mathlib.Core.List.{List}
 use Prim.Native.Nat.{ℕ, ◌+◌}
-use native.Mathlib.Omega.{arith}
 use lib.ListN.{length, drop}
-use borrow.Author.Rules.{rules}
-use Rattle.columns.proofs.Counting.{within, past}
 use Rattle.books.specs.Words.{side_by_side}
 use Rattle.framing.specs.Putting.{all_ones}
 use Rattle.messages.specs.Signals.{AllFit}
-use Rattle.messages.specs.declared.packing.PutWord.{PutWord}
 use Rattle.messages.specs.declared.packing.PutWord.TheVariants.{Word}
 use Rattle.messages.specs.Put.{put_all}
-use Rattle.messages.proofs.Steps.{rest, fits_at, fits_on}
-use Rattle.messages.proofs.Packs.{put_more, put_none, wide_stays, barred_stays}
+use Rattle.messages.proofs.Steps.{rest}
 use Rattle.messages.proofs.packing.put_all.Given as goal
 
 pub record Inv (numbers starts values : List ℕ) (word i left : ℕ) : Type 0 where

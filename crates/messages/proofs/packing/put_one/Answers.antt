@@ -9,7 +9,6 @@ use Rattle.framing.specs.Reading.{class_code}
 use Rattle.messages.specs.declared.packing.PutWord.TheVariants.{Word}
 use Rattle.messages.proofs.Cuts.{more_wide, count_narrow, not_wide, its_bits, its_count, its_code}
 use Rattle.messages.proofs.Packs.{fine_code, barred_code, put_skips, put_wide, put_fine, put_barred}
-use borrow.Author.Rules.{rules}
 use Rattle.messages.proofs.packing.put_one.Goals as goal
 
 pub returns-then-number-eq-CHECKSUM : goal.returns-then-number-eq-CHECKSUM

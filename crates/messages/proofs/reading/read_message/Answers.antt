@@ -3,10 +3,8 @@
 use mathlib.Core.Path.{◌≡◌, sym, ◌∙◌}
 use mathlib.Core.Bool.{true, false}
 use native.Mathlib.Omega.{arith}
-use borrow.Author.Tests.{not-true, not-false}
 use Rattle.messages.specs.Signals.{check_holds}
 use Rattle.messages.proofs.Readings.{refused_check, refused_room, was_read}
-use borrow.Author.Rules.{rules}
 use Rattle.messages.proofs.reading.read_message.Goals as goal
 
 pub returns-then-not-checked : goal.returns-then-not-checked

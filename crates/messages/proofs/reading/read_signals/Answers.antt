@@ -1,19 +1,15 @@
 -- `messages::reading::read_signals` meets its contract: at each turn, writing what is left gives the final lists.
 -- Assumes nothing.
-use mathlib.Core.Path.{◌≡◌, refl, ap, ◌∙◌}
-use mathlib.Core.List.{List}
-use Prim.Native.Nat.{ℕ, ◌+◌}
+use mathlib.Core.Path.{refl, ap, ◌∙◌}
 use native.Mathlib.Omega.{arith}
 use mir.Syntax.{w64}
 use mir.ValLaws.{to_z-of_z}
-use lib.ListN.{length}
-use lib.IntN.{ℤ}
 use borrow.Author.Rules.{rules}
 use Rattle.columns.proofs.Counting.{within, past}
 use Rattle.framing.specs.Reading.{class_code, thousandths_of_spec}
-use Rattle.messages.specs.Signals.{AllFit, raw_in, code_in, reading_in}
+use Rattle.messages.specs.Signals.{raw_in, code_in, reading_in}
 use Rattle.messages.proofs.Cuts.{count_there, class_there, its_reading, its_count, its_code}
-use Rattle.messages.proofs.Steps.{rest, placement_at, fits_at, fits_on, Writing, write_more, write_none, write_length}
+use Rattle.messages.proofs.Steps.{placement_at, fits_at, fits_on, write_more, write_none, write_length}
 use Rattle.messages.proofs.reading.read_signals.Goals as goal
 
 pub length_of-left-requires : goal.length_of-left-requires

@@ -1,5 +1,4 @@
 -- `power::Share::hundredths` meets its contract: each case has its number. Assumes nothing.
-use borrow.Author.Rules.{rules}
 use Rattle.power.proofs.Share.hundredths.Goals as goal
 
 pub returns-in-Named : goal.returns-in-Named

@@ -1,6 +1,5 @@
 -- `power::observed::all_open` meets its contract. Assumes nothing.
 use Rattle.power.proofs.PictureNumbers.{ooo}
-use borrow.Author.Rules.{rules}
 use Rattle.power.proofs.observed.all_open.Goals as goal
 
 pub returns : goal.returns

@@ -1,7 +1,6 @@
 -- `power::observed::relays_shown` meets its contract: with relays of 1 or 2 the sum stays small. Assumes nothing.
 use native.Mathlib.Omega.{arith}
 use Rattle.power.proofs.PictureNumbers.{first_fits, second_fits, third_fits}
-use borrow.Author.Rules.{rules}
 use Rattle.power.proofs.observed.relays_shown.Goals as goal
 
 pub overflow_mul-result : goal.overflow_mul-result

@@ -1,5 +1,4 @@
 -- `power::rules::by_rules` meets its contract: at each `return` the tests that led there say which rule holds. Assumes nothing.
-use borrow.Author.Rules.{rules}
 use Rattle.power.proofs.rules.by_rules.Goals as goal
 
 pub returns-then-shows_picture : goal.returns-then-shows_picture

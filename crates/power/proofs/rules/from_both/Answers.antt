@@ -1,6 +1,5 @@
 -- `power::rules::from_both` meets its contract: the only step from both is the one to on. Assumes nothing.
 use Rattle.power.specs.Rules.{step_else, rule3, rule4}
-use borrow.Author.Rules.{rules}
 use Rattle.power.proofs.rules.from_both.Goals as goal
 
 pub returns-then-shows_picture : goal.returns-then-shows_picture

@@ -1,6 +1,5 @@
 -- `power::rules::from_falling` meets its contract: the only step from falling is the one to off. Assumes nothing.
 use Rattle.power.specs.Rules.{step_else, rule3, rule4}
-use borrow.Author.Rules.{rules}
 use Rattle.power.proofs.rules.from_falling.Goals as goal
 
 pub returns-then-shows_picture : goal.returns-then-shows_picture

@@ -1,5 +1,4 @@
 -- `power::rules::from_fault` meets its contract. Assumes nothing.
-use borrow.Author.Rules.{rules}
 use Rattle.power.proofs.rules.from_fault.Goals as goal
 
 pub returns-then-all_open-left : goal.returns-then-all_open-left

@@ -1,6 +1,5 @@
 -- `power::rules::from_off` meets its contract: the only step from off is the one to rising. Assumes nothing.
 use Rattle.power.specs.Rules.{step_else, rule3, rule4}
-use borrow.Author.Rules.{rules}
 use Rattle.power.proofs.rules.from_off.Goals as goal
 
 pub returns-then-shows_picture-seen : goal.returns-then-shows_picture-seen

@@ -1,6 +1,5 @@
 -- `power::rules::from_on` meets its contract: the only step from on is the one to falling. Assumes nothing.
 use Rattle.power.specs.Rules.{step_else, rule3, rule4}
-use borrow.Author.Rules.{rules}
 use Rattle.power.proofs.rules.from_on.Goals as goal
 
 pub returns-then-shows_picture-down : goal.returns-then-shows_picture-down

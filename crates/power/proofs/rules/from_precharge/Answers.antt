@@ -1,6 +1,5 @@
 -- `power::rules::from_precharge` meets its contract: from precharge to both, or else to falling. Assumes nothing.
 use Rattle.power.specs.Rules.{step_else, rule3, rule4}
-use borrow.Author.Rules.{rules}
 use Rattle.power.proofs.rules.from_precharge.Goals as goal
 
 pub returns-then-shows_picture-seen : goal.returns-then-shows_picture-seen

@@ -1,6 +1,5 @@
 -- `power::rules::from_rising` meets its contract: from rising to precharge, or else to off. Assumes nothing.
 use Rattle.power.specs.Rules.{step_else, rule3, rule4}
-use borrow.Author.Rules.{rules}
 use Rattle.power.proofs.rules.from_rising.Goals as goal
 
 pub returns-then-shows_picture-seen : goal.returns-then-shows_picture-seen

@@ -1,5 +1,4 @@
 -- `power::shares::share_fits` meets its contract. Assumes nothing.
-use borrow.Author.Rules.{rules}
 use Rattle.power.proofs.shares.share_fits.Goals as goal
 
 pub returns : goal.returns

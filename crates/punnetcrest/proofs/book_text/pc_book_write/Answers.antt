@@ -1,6 +1,5 @@
 -- `punnetcrest::book_text::pc_book_write` meets its contract: in each arm the answer is the one that the arm names. Assumes nothing.
 use Rattle.punnetcrest.proofs.WriteNumbers.{as_wrote}
-use borrow.Author.Rules.{rules}
 use Rattle.punnetcrest.proofs.book_text.pc_book_write.Goals as goal
 
 pub returns-in-Length : goal.returns-in-Length

@@ -1,6 +1,5 @@
 -- `punnetcrest::booking::pc_book_read` meets its contract: the reader leaves the book, and its answer tells the number and the line. Assumes nothing.
 use Rattle.punnetcrest.proofs.BookNumbers.{as_read}
-use borrow.Author.Rules.{rules}
 use Rattle.punnetcrest.proofs.booking.pc_book_read.Goals as goal
 
 pub returns-in-Taken : goal.returns-in-Taken

@@ -1,5 +1,4 @@
 -- `punnetcrest::dashing::pc_dash` meets its contract: in each arm the answer is the one that the arm names. Assumes nothing.
-use borrow.Author.Rules.{rules}
 use Rattle.punnetcrest.proofs.DashNumbers.{in_numbers, shown_in_numbers}
 use Rattle.punnetcrest.proofs.dashing.pc_dash.Goals as goal
 

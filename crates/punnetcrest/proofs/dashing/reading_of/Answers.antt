@@ -1,6 +1,5 @@
 -- `punnetcrest::dashing::reading_of` meets its contract. Assumes nothing.
 use mathlib.Core.Path.{sym, ap, ◌∙◌}
-use borrow.Author.Rules.{rules}
 use Rattle.dash.specs.Answer.{shown_reading}
 use Rattle.punnetcrest.proofs.DashNumbers.{zero_as_coded}
 use Rattle.punnetcrest.proofs.dashing.reading_of.Goals as goal

@@ -1,6 +1,5 @@
 -- `punnetcrest::powering::pc_power_step_by` meets its contract: a number that stands for a state takes the library's own step, any other is kept. Assumes nothing.
 use Rattle.punnetcrest.proofs.PowerNumbers.{told, as_stepped}
-use borrow.Author.Rules.{rules}
 use Rattle.punnetcrest.proofs.powering.pc_power_step_by.Goals as goal
 
 pub returns-in-State : goal.returns-in-State

@@ -1,6 +1,5 @@
 -- `punnetcrest::sleeping::pc_sleep_watch` meets its contract. Two numbers that are no watch are returned as they came; any others are a watch,
 -- and the library's own call answers for it. Assumes nothing.
-use borrow.Author.Rules.{rules}
 use Rattle.punnetcrest.proofs.SleepNumbers.{no_watch, as_watched}
 use Rattle.punnetcrest.proofs.sleeping.pc_sleep_watch.Goals as goal
 

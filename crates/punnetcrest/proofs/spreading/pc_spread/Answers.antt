@@ -1,6 +1,5 @@
 -- `punnetcrest::spreading::pc_spread` meets its contract: in each arm the answer is the one that the arm names. Assumes nothing.
 use Rattle.punnetcrest.proofs.SpreadNumbers.{as_spread}
-use borrow.Author.Rules.{rules}
 use Rattle.punnetcrest.proofs.spreading.pc_spread.Goals as goal
 
 pub returns-in-Places : goal.returns-in-Places

@@ -1,7 +1,6 @@
 -- `punnetcrest::summing::pc_fault_sum` meets its contract: in each arm the answer is the one that the arm names, and the call returns and leaves
 -- what that answer says. Assumes nothing.
 use Rattle.punnetcrest.proofs.SumNumbers.{as_summed}
-use borrow.Author.Rules.{rules}
 use Rattle.punnetcrest.proofs.summing.pc_fault_sum.Goals as goal
 
 pub returns-in-Summed : goal.returns-in-Summed

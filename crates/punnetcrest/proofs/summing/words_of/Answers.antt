@@ -1,5 +1,4 @@
 -- `punnetcrest::summing::words_of` meets its contract: the numbers as they are, and 1 or 0 for the two tests. Assumes nothing.
-use borrow.Author.Rules.{rules}
 use Rattle.punnetcrest.proofs.summing.words_of.Goals as goal
 
 pub returns : goal.returns

@@ -1,6 +1,5 @@
 -- `punnetcrest::unpacking::pc_frame_read` meets its contract: the reader leaves the slices, and its answer tells the number and the count. Assumes nothing.
 use Rattle.punnetcrest.proofs.UnpackNumbers.{as_unpacked}
-use borrow.Author.Rules.{rules}
 use Rattle.punnetcrest.proofs.unpacking.pc_frame_read.Goals as goal
 
 pub returns : goal.returns

@@ -1,5 +1,4 @@
 -- `signal_lines::figures::put_double` meets its contract. Assumes nothing.
-use borrow.Author.Rules.{rules}
 use Rattle.signal_lines.proofs.Showing.{double_put}
 use Rattle.signal_lines.proofs.figures.put_double.Goals as goal
 

@@ -1,5 +1,5 @@
 -- `sleep::Watch::updated` meets its contract: at each `return` the tests that led there pick the case of `after_call`. Assumes nothing.
-use Rattle.std.proofs.Common.{rules, le-leb}
+use Rattle.std.proofs.Common.{le-leb}
 use borrow.Author.Tests.{lt-leb}
 use Rattle.sleep.specs.Watching.{after_call}
 use Rattle.sleep.proofs.Watch.updated.Goals as goal

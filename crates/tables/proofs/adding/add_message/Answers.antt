@@ -4,7 +4,6 @@ use mathlib.Core.Path.{refl, sym, ◌∙◌}
 use native.Mathlib.Omega.{arith}
 use Rattle.tables.proofs.Held.{messages_held, signals_held}
 use Rattle.tables.proofs.Stored.{message_stored_law}
-use borrow.Author.Rules.{rules}
 use Rattle.tables.proofs.adding.add_message.Goals as goal
 
 pub returns-then-identifier-ge-IDENTIFIER_LIMIT : goal.returns-then-identifier-ge-IDENTIFIER_LIMIT

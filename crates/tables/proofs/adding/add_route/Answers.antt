@@ -5,7 +5,6 @@ use Rattle.books.specs.Book.{route}
 use Rattle.tables.proofs.Held.{routes_held}
 use Rattle.tables.proofs.Stored.{route_stored_law}
 use Rattle.tables.proofs.Refused.{stays, takes, inside, from_over, to_over, route_full, route_free}
-use borrow.Author.Rules.{rules}
 use Rattle.tables.proofs.adding.add_route.Goals as goal
 
 pub returns-then-over_limit : goal.returns-then-over_limit

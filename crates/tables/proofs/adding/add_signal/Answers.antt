@@ -9,7 +9,6 @@ use Rattle.tables.proofs.Held.{messages_held, signals_held}
 use Rattle.tables.proofs.Stored.{signal_stored_law}
 use Rattle.tables.proofs.Room.{signal_room}
 use Rattle.tables.proofs.Kept.{fills_signal, signal_stays, signal_takes}
-use borrow.Author.Rules.{rules}
 use Rattle.tables.proofs.adding.add_signal.Goals as goal
 
 pub bits_at-bits-requires : goal.bits_at-bits-requires

@@ -1,8 +1,5 @@
 -- `tables::judging::has_message` meets its contract: the search in the part of the column that is in use. Assumes nothing.
 use mathlib.Core.Path.{sym}
-use native.Mathlib.Omega.{arith}
-use lib.Seq.{length-take-le}
-use borrow.Author.Rules.{rules}
 use Rattle.tables.proofs.judging.has_message.Goals as goal
 
 pub returns : goal.returns

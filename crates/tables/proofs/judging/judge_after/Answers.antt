@@ -9,7 +9,6 @@ use Rattle.placing.proofs.Placing.{not_past}
 use Rattle.placing.proofs.Filling.{meets_same}
 use Rattle.books.specs.Book.{placement}
 use Rattle.books.specs.Lines.{after_refusal}
-use borrow.Author.Rules.{rules}
 use Rattle.tables.proofs.judging.judge_after.Goals as goal
 
 pub is_repeated-requires : goal.is_repeated-requires

@@ -7,7 +7,6 @@ use Rattle.books.specs.Book.{last_placements, placement}
 use Rattle.placing.proofs.Placing.{unknown, over, known}
 use Rattle.tables.proofs.Held.{messages_held, signals_held, last_in, last_held}
 use Rattle.tables.proofs.Refused.{signal_unknown, signal_early, signal_later}
-use borrow.Author.Rules.{rules}
 use Rattle.tables.proofs.judging.judge_signal.Goals as goal
 
 pub returns-then-bits-eq0 : goal.returns-then-bits-eq0

@@ -1,6 +1,5 @@
 -- `tables::judging::last_begin` meets its contract: the last of the messages is at their count less one. Assumes nothing.
 use mathlib.Core.Path.{◌∙◌}
-use borrow.Author.Rules.{rules}
 use Rattle.tables.proofs.judging.last_begin.Goals as goal
 
 pub returns : goal.returns

@@ -1,5 +1,4 @@
 -- `tables::storing::put_message` meets its contract: its stores. Assumes nothing.
-use borrow.Author.Rules.{rules}
 use Rattle.tables.proofs.storing.put_message.Goals as goal
 
 pub returns : goal.returns

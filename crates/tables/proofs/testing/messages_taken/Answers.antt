@@ -8,14 +8,13 @@ use native.Mathlib.Omega.{arith}
 use lib.Dec.{eqb}
 use lib.ListN.{replicate, get_or, set}
 use lib.Seq.{get_or-set_other}
-use borrow.Author.Tests.{eqb-true, eqb-false, not-true, not-false}
+use borrow.Author.Tests.{eqb-true, eqb-false}
 use Rattle.books.proofs.Tests.{both_false}
 use Rattle.catalogue.specs.Places.{no_place_spec, checksum_place, counter_place}
 use Rattle.columns.specs.Identifiers.{distinct_after}
 use Rattle.placing.specs.Stamps.{fixed_place, fixed_stamp, Below}
 use Rattle.zeros.proofs.Gathering.{zero_at}
 use Rattle.tables.proofs.Tested.{many_messages, many_signals, rest_of_messages, rest_of_signals, repeated, last_part}
-use borrow.Author.Rules.{rules}
 use Rattle.tables.proofs.testing.messages_taken.Goals as goal
 
 abbrev stamped : List ℕ

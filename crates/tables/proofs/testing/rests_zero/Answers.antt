@@ -1,7 +1,6 @@
 -- `tables::testing::rests_zero` meets its contract: the halves of both rests are the rests. Assumes nothing.
 use mathlib.Core.Path.{◌∙◌}
 use Rattle.zeros.proofs.Gathering.{both_halves}
-use borrow.Author.Rules.{rules}
 use Rattle.tables.proofs.testing.rests_zero.Goals as goal
 
 pub returns : goal.returns

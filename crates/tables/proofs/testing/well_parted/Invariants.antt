@@ -1,14 +1,9 @@
 -- `tables::testing::well_parted` meets its contract: the answer for the messages from `at` on is the answer for all, and the stamps are below that of the next message. Assumes nothing.
-use mathlib.Core.Path.{◌≡◌, sym, ap, ◌∙◌}
-use Prim.Native.Nat.{ℕ, ◌+◌}
-use native.Mathlib.Omega.{arith}
-use borrow.Author.Tests.{not-true, not-false}
+use mathlib.Core.Path.{◌≡◌}
+use Prim.Native.Nat.{◌+◌}
 use lib.ListN.{length}
-use borrow.Author.Rules.{rules}
-use Rattle.columns.proofs.Counting.{within, past}
 use Rattle.placing.specs.Stamps.{Below}
-use Rattle.placing.proofs.Stamped.{below_as, its_answer, left_below}
-use Rattle.tables.proofs.Parted.{Reached, begin_parted, end_parted, refuse_back, refuse_past, refuse_message, next_parted}
+use Rattle.tables.proofs.Parted.{Reached}
 use Rattle.tables.proofs.testing.well_parted.Given as goal
 
 abbrev pub invariant-loop-left : goal.invariant-loop-left

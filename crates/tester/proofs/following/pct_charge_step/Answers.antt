@@ -1,6 +1,5 @@
 -- `tester::following::pct_charge_step` meets its contract: a number that stands for a state takes the monitor's own step, any other is kept. Assumes nothing.
 use Rattle.tester.proofs.ChargeNumbers.{told, as_stepped}
-use borrow.Author.Rules.{rules}
 use Rattle.tester.proofs.following.pct_charge_step.Goals as goal
 
 pub returns-in-Is : goal.returns-in-Is
