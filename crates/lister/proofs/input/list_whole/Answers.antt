@@ -1,0 +1,23 @@
+-- `lister::input::list_whole` meets its contract: it ends where no whole line is left. Assumes nothing.
+use Rattle.std.proofs.Common.{ap, ◌∙◌, length, arith}
+use lib.ListN.{length-drop}
+use Rattle.listing.proofs.Sizes.{list_long, list_used}
+use Rattle.lister.proofs.Whole.{none_used, no_book_law, all_used}
+use Rattle.lister.proofs.input.list_whole.Goals as goal
+
+pub returns-then-more-eq0 : goal.returns-then-more-eq0
+returns-then-more-eq0 g c = none_used _ _ c.loop-used.invariant.0 c.loop-used.invariant.1 c.part_from-rest.ensures c.list.ensures _ _ c.in-Lines.is c.if-more-eq0.true
+
+pub overflow_add-used : goal.overflow_add-used
+overflow_add-used g c =
+    omega (arith, list_used _ _ _ _ c.list.ensures _ _ c.in-Lines.is, ap length c.part_from-rest.ensures, length-drop c.loop-used.used c.args.text.now, c.loop-used-test.true)
+
+pub loop-used-preserved : goal.loop-used-preserved
+loop-used-preserved g c =
+    (omega (arith, list_used _ _ _ _ c.list.ensures _ _ c.in-Lines.is, ap length c.part_from-rest.ensures, length-drop c.loop-used.used c.args.text.now, c.loop-used-test.true), list_long _ _ _ _ c.list.ensures ∙ c.loop-used.invariant.1)
+
+pub returns-in-NotABook : goal.returns-in-NotABook
+returns-in-NotABook g c = no_book_law _ _ c.loop-used.invariant.0 c.loop-used.invariant.1 _ c.list.ensures c.in-NotABook.is
+
+pub returns : goal.returns
+returns g c = all_used c.loop-used.invariant.0 c.loop-used-test.false
