@@ -5,14 +5,14 @@
 
 mod numbers;
 mod packing;
-mod reading;
+mod unpacking;
 
 use numbers::{end_line, read_eight_digits};
 use packing::pack_case;
-use reading::read_case;
 use record::BOOK_WORDS;
 use std::io::Read;
 use streams::{read_first, read_full};
+use unpacking::read_case;
 
 const MOST_CASES: u32 = 1000000;
 
