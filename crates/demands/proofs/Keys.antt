@@ -80,6 +80,7 @@ module _ (text : List ℕ) where
   )
 
   pub keyed : (a i : ℕ) (c : List ℕ) (b j : ℕ) → LineChain (text_rlines text) a i c b j → Chain fs ts (place_key a i) c (place_key b j)
+  keyed a i [] b j w = elim w [ ]
   keyed a i (k ∷ c) b j w = walk_keyed a i (k ∷ c) b j w
 
   -- and back, where the lines pass: equal numbers are equal buses and identifiers
@@ -93,6 +94,7 @@ module _ (text : List ℕ) where
         (k_low, same.0, same.1, walk_unkeyed (get_or ts k 0) (r_line_at (text_rlines text) k).to_bus (r_line_at (text_rlines text) k).to_identifier c b j (to_at (meanings text) k) at.to.identified m w)
 
     pub unkeyed : (a i : ℕ) (c : List ℕ) (b j : ℕ) → i < identifier_limit → j < identifier_limit → Chain fs ts (place_key a i) c (place_key b j) → LineChain (text_rlines text) a i c b j
+    unkeyed a i [] b j l m w = elim w [ ]
     unkeyed a i (k ∷ c) b j l m w = walk_unkeyed (place_key a i) a i (k ∷ c) b j refl l m w
 
     -- the bus and identifier where a chain begins, and where it ends
@@ -107,6 +109,7 @@ module _ (text : List ℕ) where
       pub to_identified : to_identifier < identifier_limit
 
     pub ends : (p : ℕ) (c : List ℕ) (q : ℕ) → Chain fs ts p c q → Ends p q c
+    ends p [] q w = elim w [ ]
     ends p (k ∷ c) q w =
         let k_low : k < length (text_rlines text) = omega (arith, many, w.0) in
         let last = walk_last fs ts p k c q w in
