@@ -63,8 +63,12 @@ fn keep(input: &mut [u8], from: usize, size: usize) -> usize
     requires { (from ≤ size) × (size ≤ length input.old) }
     ensures { (result ≡ size - from) × (take result input.new ≡ take (size - from) (drop from input.old)) }
 {
-    input.copy_within(from..size, 0);
-    size - from
+    let mut i: usize = 0;
+    while i < size - from {
+        input[i] = input[from + i];
+        i += 1;
+    }
+    i
 }
 
 // Lists what stands in the buffer from `from` to before `size`. A line that fills the buffer is too long: it is ill formed.
