@@ -37,7 +37,7 @@ def words(text):
 
 def has(text, name):
     """Whether the text has the name, or of an operator all its parts."""
-    if "◌" in name:
+    if not RUN.fullmatch(name) or "◌" in name:
         return all(part in text for part in name.split("◌") if part)
     return name in words(text)
 
