@@ -78,7 +78,7 @@ def snake(name):
         head, *rest = name.split("-")
         return name if not rest else head + "".join(r[:1].upper() + r[1:] for r in rest)
     words = name.replace("-", "_")
-    words = re.sub(r"(?<=[a-z0-9'])(?=[A-Z])", "_", words)
+    words = re.sub(r"(?<=[a-z0-9'])(?=[A-Z])|(?<=[A-Z])(?=[A-Z][a-z])", "_", words)
     return words.lower()
 
 

@@ -18,7 +18,7 @@ use Rattle.reading.specs.Reading.{passed, refusal_of, with_line, numbered_with, 
 use Rattle.reading.specs.Taken.{froms, tos}
 use Rattle.reading.proofs.Passing.{went}
 use Rattle.demands.specs.Text.{line_route, r_routes, text_routes}
-use Rattle.demands.specs.RLines.{RLine, no_line_spec, r_lines_in, text_rlines, r_line_at, LineWalk, LineChain, InLimits, AllInLimits, none, more}
+use Rattle.demands.specs.RLines.{RLine, no_line_spec, r_lines_in, text_r_lines, r_line_at, LineWalk, LineChain, InLimits, AllInLimits, none, more}
 
 in_limits_at : {ls : List RLine} → AllInLimits ls → (k : ℕ) → k < length ls → InLimits (r_line_at ls k)
 in_limits_at none k h = absurd (omega arith)
@@ -41,7 +41,7 @@ lines_in_limits n b at (l ∷ ls) e =
         more (record { from = record { on_bus = a.from_bus; identified = a.from_identifier }; to = record { on_bus = a.to_bus; identified = a.to_identifier } }) h
     by line.IllFormed e h = h
 
-pub text_in_limits : (text : List ℕ) {b : Book} {at : List ℕ} → lines_read text ≡ passed b at → AllInLimits (text_rlines text)
+pub text_in_limits : (text : List ℕ) {b : Book} {at : List ℕ} → lines_read text ≡ passed b at → AllInLimits (text_r_lines text)
 unfolding lines_read
 text_in_limits text e = lines_in_limits 1 no_book [] (meanings text) e
 
@@ -67,33 +67,33 @@ module _ (text : List ℕ) where
   abbrev ts : List ℕ
   ts = tos (text_routes text)
 
-  pub many : length fs ≡ length (text_rlines text)
+  pub many : length fs ≡ length (text_r_lines text)
   many = length-map (text_routes text) (λ (r : Route). r.from) ∙ lines_count (meanings text)
 
   -- a chain of R lines is one of their routes
-  walk_keyed : (a i : ℕ) (c : List ℕ) (b j : ℕ) → LineWalk (text_rlines text) a i c b j → Walk fs ts (place_key a i) c (place_key b j)
+  walk_keyed : (a i : ℕ) (c : List ℕ) (b j : ℕ) → LineWalk (text_r_lines text) a i c b j → Walk fs ts (place_key a i) c (place_key b j)
   walk_keyed a i [] b j (e, f) = rw (e, f) refl
   walk_keyed a i (k ∷ c) b j (l, e, f, w) = (
     omega (arith, many),
     from_at (meanings text) k ∙ rw (e, f) refl,
-    subst (λ (p : ℕ). Walk fs ts p c (place_key b j)) (sym (to_at (meanings text) k)) (walk_keyed (r_line_at (text_rlines text) k).to_bus (r_line_at (text_rlines text) k).to_identifier c b j w),
+    subst (λ (p : ℕ). Walk fs ts p c (place_key b j)) (sym (to_at (meanings text) k)) (walk_keyed (r_line_at (text_r_lines text) k).to_bus (r_line_at (text_r_lines text) k).to_identifier c b j w),
   )
 
-  pub keyed : (a i : ℕ) (c : List ℕ) (b j : ℕ) → LineChain (text_rlines text) a i c b j → Chain fs ts (place_key a i) c (place_key b j)
+  pub keyed : (a i : ℕ) (c : List ℕ) (b j : ℕ) → LineChain (text_r_lines text) a i c b j → Chain fs ts (place_key a i) c (place_key b j)
   keyed a i [] b j w = elim w [ ]
   keyed a i (k ∷ c) b j w = walk_keyed a i (k ∷ c) b j w
 
   -- and back, where the lines pass: equal numbers are equal buses and identifiers
-  module _ (limits : AllInLimits (text_rlines text)) where
-    walk_unkeyed : (p : ℕ) (a i : ℕ) (c : List ℕ) (b j : ℕ) → p ≡ place_key a i → i < identifier_limit → j < identifier_limit → Walk fs ts p c (place_key b j) → LineWalk (text_rlines text) a i c b j
+  module _ (limits : AllInLimits (text_r_lines text)) where
+    walk_unkeyed : (p : ℕ) (a i : ℕ) (c : List ℕ) (b j : ℕ) → p ≡ place_key a i → i < identifier_limit → j < identifier_limit → Walk fs ts p c (place_key b j) → LineWalk (text_r_lines text) a i c b j
     walk_unkeyed p a i [] b j q l m e = says_both a i b j l m (sym q ∙ e)
     walk_unkeyed p a i (k ∷ c) b j q l m (h, f, w) =
-        let k_low : k < length (text_rlines text) = omega (arith, many) in
+        let k_low : k < length (text_r_lines text) = omega (arith, many) in
         let at = in_limits_at limits k k_low in
-        let same = says_both (r_line_at (text_rlines text) k).bus (r_line_at (text_rlines text) k).identifier a i at.from.identified l (sym (from_at (meanings text) k) ∙ f ∙ q) in
-        (k_low, same.0, same.1, walk_unkeyed (get_or ts k 0) (r_line_at (text_rlines text) k).to_bus (r_line_at (text_rlines text) k).to_identifier c b j (to_at (meanings text) k) at.to.identified m w)
+        let same = says_both (r_line_at (text_r_lines text) k).bus (r_line_at (text_r_lines text) k).identifier a i at.from.identified l (sym (from_at (meanings text) k) ∙ f ∙ q) in
+        (k_low, same.0, same.1, walk_unkeyed (get_or ts k 0) (r_line_at (text_r_lines text) k).to_bus (r_line_at (text_r_lines text) k).to_identifier c b j (to_at (meanings text) k) at.to.identified m w)
 
-    pub unkeyed : (a i : ℕ) (c : List ℕ) (b j : ℕ) → i < identifier_limit → j < identifier_limit → Chain fs ts (place_key a i) c (place_key b j) → LineChain (text_rlines text) a i c b j
+    pub unkeyed : (a i : ℕ) (c : List ℕ) (b j : ℕ) → i < identifier_limit → j < identifier_limit → Chain fs ts (place_key a i) c (place_key b j) → LineChain (text_r_lines text) a i c b j
     unkeyed a i [] b j l m w = elim w [ ]
     unkeyed a i (k ∷ c) b j l m w = walk_unkeyed (place_key a i) a i (k ∷ c) b j refl l m w
 
@@ -111,14 +111,14 @@ module _ (text : List ℕ) where
     pub ends : (p : ℕ) (c : List ℕ) (q : ℕ) → Chain fs ts p c q → Ends p q c
     ends p [] q w = elim w [ ]
     ends p (k ∷ c) q w =
-        let k_low : k < length (text_rlines text) = omega (arith, many, w.0) in
+        let k_low : k < length (text_r_lines text) = omega (arith, many, w.0) in
         let last = walk_last fs ts p k c q w in
-        let v_low : last.0 < length (text_rlines text) = omega (arith, many, last.1) in
+        let v_low : last.0 < length (text_r_lines text) = omega (arith, many, last.1) in
         record {
-          bus = (r_line_at (text_rlines text) k).bus;
-          identifier = (r_line_at (text_rlines text) k).identifier;
-          to_bus = (r_line_at (text_rlines text) last.0).to_bus;
-          to_identifier = (r_line_at (text_rlines text) last.0).to_identifier;
+          bus = (r_line_at (text_r_lines text) k).bus;
+          identifier = (r_line_at (text_r_lines text) k).identifier;
+          to_bus = (r_line_at (text_r_lines text) last.0).to_bus;
+          to_identifier = (r_line_at (text_r_lines text) last.0).to_identifier;
           from = sym w.1 ∙ from_at (meanings text) k;
           to = sym last.2 ∙ to_at (meanings text) last.0;
           identified = (in_limits_at limits k k_low).from.identified;

@@ -17,7 +17,7 @@ use Rattle.reading.specs.Taken.{froms, tos}
 use Rattle.reading.proofs.Counts.{text_counted}
 use Rattle.book.specs.Answered.{Answered, too_long, bad_line, closed_chain, two_chains, taken_with}
 use Rattle.demands.specs.Text.{text_routes, line_of, LowestLine}
-use Rattle.demands.specs.RLines.{text_rlines, OnLoop, BeginsPair}
+use Rattle.demands.specs.RLines.{text_r_lines, OnLoop, BeginsPair}
 use Rattle.demands.proofs.LineNumbers.{rising, kept, routes_of_text}
 use Rattle.demands.proofs.Keys.{text_in_limits}
 use Rattle.demands.proofs.ByLines.{loop_keyed, loop_unkeyed, pair_keyed, pair_unkeyed}
@@ -56,28 +56,28 @@ begins_route : (fs ts : List ℕ) (k : ℕ) → BeginsDoubling fs ts k → k < l
 begins_route fs ts k (p, q, c, d, h) = h.one.0
 
 module _ (text : List ℕ) (n : ℕ) (w : List ℕ) where
-  pub loop_line : Answered text (refused 10 n) w → LowestLine text (OnLoop (text_rlines text)) n
+  pub loop_line : Answered text (refused 10 n) w → LowestLine text (OnLoop (text_r_lines text)) n
   loop_line a = from (refused 10 n) w refl a
     where
-      from : (s : Said) (v : List ℕ) → s ≡ refused 10 n → Answered text s v → LowestLine text (OnLoop (text_rlines text)) n
+      from : (s : Said) (v : List ℕ) → s ≡ refused 10 n → Answered text s v → LowestLine text (OnLoop (text_r_lines text)) n
       from s v e (too_long h) = apart (λ z. omega arith) e
       from s v e (bad_line {why = why} {n = m} h r) = apart (λ z. omega (arith, (line_low text why m r).most)) e
       from s v e (closed_chain {b = b} {at = at} {i = i} p l) =
           let same : get_or at i 0 ≡ n = cc in
-          subst (LowestLine text (OnLoop (text_rlines text))) same
+          subst (LowestLine text (OnLoop (text_r_lines text))) same
           (same_lowest (loop_unkeyed text (text_in_limits text p.read)) (loop_keyed text) (lowest_line text b at p.read OnClosed i (λ fs ts k h. (closed_back fs ts k h).0) l.0 l.1))
       from s v e (two_chains p free l) = apart (λ z. omega arith) e
       from s v e (taken_with t) = not_taken e
 
-  pub doubling_line : Answered text (refused 11 n) w → LowestLine text (BeginsPair (text_rlines text)) n
+  pub doubling_line : Answered text (refused 11 n) w → LowestLine text (BeginsPair (text_r_lines text)) n
   doubling_line a = from (refused 11 n) w refl a
     where
-      from : (s : Said) (v : List ℕ) → s ≡ refused 11 n → Answered text s v → LowestLine text (BeginsPair (text_rlines text)) n
+      from : (s : Said) (v : List ℕ) → s ≡ refused 11 n → Answered text s v → LowestLine text (BeginsPair (text_r_lines text)) n
       from s v e (too_long h) = apart (λ z. omega arith) e
       from s v e (bad_line {why = why} {n = m} h r) = apart (λ z. omega (arith, (line_low text why m r).most)) e
       from s v e (closed_chain p l) = apart (λ z. omega arith) e
       from s v e (two_chains {b = b} {at = at} {i = i} p free l) =
           let same : get_or at i 0 ≡ n = cc in
-          subst (LowestLine text (BeginsPair (text_rlines text))) same
+          subst (LowestLine text (BeginsPair (text_r_lines text))) same
           (same_lowest (pair_unkeyed text (text_in_limits text p.read)) (pair_keyed text) (lowest_line text b at p.read BeginsDoubling i begins_route l.0 l.1))
       from s v e (taken_with t) = not_taken e

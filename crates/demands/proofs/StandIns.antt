@@ -13,7 +13,7 @@ use Rattle.line.specs.Meaning.{meaning_of, line_meaning, of_fields, of_kind, of_
 use Rattle.books.specs.Words.{words_of}
 use Rattle.reading.specs.Reading.{meanings}
 use Rattle.routes.specs.Answers.{IsPlace, SpreadAnswer}
-use Rattle.demands.specs.RLines.{RLine, r_lines_in, text_rlines, ListsPlaces}
+use Rattle.demands.specs.RLines.{RLine, r_lines_in, text_r_lines, ListsPlaces}
 use Rattle.demands.specs.Examples.{fork_text, fork_book}
 use Rattle.demands.proofs.Witnesses.{ok_0_0_2}
 use Rattle.demands.proofs.Spreading.{spread_of_taken, routes_enough}
@@ -24,7 +24,7 @@ fork_lines =
     record { bus = 0; identifier = 419373555; to_bus = 1; to_identifier = 419373555 }
     ∷ record { bus = 0; identifier = 419373555; to_bus = 2; to_identifier = 419373520 } ∷ []
 
-lines_are : text_rlines fork_text ≡ fork_lines
+lines_are : text_r_lines fork_text ≡ fork_lines
 unfolding r_lines_in meanings lines lines_of split on_first meaning_of line_meaning of_fields of_kind of_route identifier decimal numeral_from digit_value needless_zero
 lines_are = refl
 
@@ -35,6 +35,6 @@ first_route_only room h {why} {n} {after} x e =
     let p : IsPlace 0 419373555 = record { on_bus = omega arith; identified = omega arith } in
     let enough = routes_enough fork_text ok_0_0_2 0 419373555 p room (subst (λ (ls : List RLine). length ls ≤ length room) (sym lines_are) h) in
     let s = spread_of_taken fork_text ok_0_0_2 0 419373555 p room x enough in
-    let l : ListsPlaces fork_lines 0 419373555 (place_key 1 419373555 ∷ []) = subst (λ (ls : List RLine). ListsPlaces ls 0 419373555 (place_key 1 419373555 ∷ [])) lines_are (subst (ListsPlaces (text_rlines fork_text) 0 419373555) e s.lists) in
+    let l : ListsPlaces fork_lines 0 419373555 (place_key 1 419373555 ∷ []) = subst (λ (ls : List RLine). ListsPlaces ls 0 419373555 (place_key 1 419373555 ∷ [])) lines_are (subst (ListsPlaces (text_r_lines fork_text) 0 419373555) e s.lists) in
     ⊎_elim (λ (e : place_key 2 419373520 ≡ place_key 1 419373555). omega arith) (λ m. Memᴰ.not-nil m)
     (Memᴰ.cases_cons (l.every 2 419373520 (1 ∷ []) (omega arith, refl, refl, (refl, refl))))

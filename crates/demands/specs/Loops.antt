@@ -4,7 +4,7 @@ use Rattle.std.specs.Prelude.{◌≡◌, ℕ, ◌≤◌, List}
 use Rattle.answers.specs.Numbers.{Said, taken, refused}
 use Rattle.books.specs.Book.{Book}
 use Rattle.book.specs.Answered.{Passes}
-use Rattle.demands.specs.RLines.{RLine, text_rlines, Returning, Joining}
+use Rattle.demands.specs.RLines.{RLine, text_r_lines, Returning, Joining}
 
 -- some chain of the R lines returns to the bus and identifier it left
 pub record Returns (ls : List RLine) : Type 0 where
@@ -32,19 +32,19 @@ pub record LinesPass (text : List ℕ) : Type 0 where
 -- its lines pass, and some chain of its routes returns to the bus and identifier it left
 pub record Loops (text : List ℕ) : Type 0 where
   pub passes : LinesPass text
-  pub returns : Returns (text_rlines text)
+  pub returns : Returns (text_r_lines text)
 
 -- its lines pass, and no chain of its routes returns, but two different chains join the same two places
 pub record OnlyDoubles (text : List ℕ) : Type 0 where
   pub passes : LinesPass text
-  pub none_returns : Returns (text_rlines text) → ⊥
-  pub doubles : Doubles (text_rlines text)
+  pub none_returns : Returns (text_r_lines text) → ⊥
+  pub doubles : Doubles (text_r_lines text)
 
 -- its lines pass, and neither is so
 pub record Otherwise (text : List ℕ) : Type 0 where
   pub passes : LinesPass text
-  pub none_returns : Returns (text_rlines text) → ⊥
-  pub none_doubles : Doubles (text_rlines text) → ⊥
+  pub none_returns : Returns (text_r_lines text) → ⊥
+  pub none_doubles : Doubles (text_r_lines text) → ⊥
 
 -- the answer is this refusal, at some line
 pub record RefusedWith (why : ℕ) (s : Said) : Type 0 where

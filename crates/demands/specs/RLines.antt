@@ -36,8 +36,8 @@ r_lines_in (line.Signal n s ∷ ls) = r_lines_in ls
 r_lines_in (line.Route a i b j ∷ ls) = record { bus = a; identifier = i; to_bus = b; to_identifier = j } ∷ r_lines_in ls
 r_lines_in (line.IllFormed ∷ ls) = r_lines_in ls
 
-abbrev pub text_rlines : List ℕ → List RLine
-text_rlines text = r_lines_in (meanings text)
+abbrev pub text_r_lines : List ℕ → List RLine
+text_r_lines text = r_lines_in (meanings text)
 
 -- what stands where there is no such line
 abbrev pub no_line_spec : RLine

@@ -12,7 +12,6 @@ use prog.Routine.{Routine}
 use types.Logic.{Logic}
 use contract.Lifetimes.{Lfts}
 use contract.Monad.{Fun}
-use denote.Bor.{Bor}
 use denote.Ref.{MutBor, at_last}
 use denote.Triple.Clauses.{AtExit}
 use Rattle.only.specs.Only.{Only}

@@ -6,9 +6,9 @@ use lib.Dec.{eqb}
 use borrow.Author.Tests.{le-leb, lt-leb}
 use Rattle.sleep.specs.declared.Updated.{Updated}
 use Rattle.sleep.specs.Watching.{sleep_refusal, watch_of, after_call}
-use Rattle.punnetcrest.specs.Sleeping.{not_asleep_state, watched_in_numbers, watched}
+use Rattle.punnetcrest.specs.Sleeping.{not_a_sleep_state, watched_in_numbers, watched}
 
-pub no_watch : (last_wake_spec asleep time wake : ℕ) → 1 < asleep → (not_asleep_state, (last_wake_spec, asleep)) ≡ watched last_wake_spec asleep time wake
+pub no_watch : (last_wake_spec asleep time wake : ℕ) → 1 < asleep → (not_a_sleep_state, (last_wake_spec, asleep)) ≡ watched last_wake_spec asleep time wake
 unfolding watched
 no_watch last_wake_spec asleep time wake h = rw (lt-leb asleep 1 h)
 

@@ -15,8 +15,8 @@ abbrev pub power_start : ℕ
 power_start = state_number starts_as
 
 -- 91, the face's own refusal: *state is no state's number
-abbrev pub not_apower_state : ℕ
-not_apower_state = 91
+abbrev pub not_a_power_state : ℕ
+not_a_power_state = 91
 
 -- the observation that is lent as eight raw counts: the relays 302, 303 and 301, then 1601, 1604, 203, 201 and 202; and the share with it
 abbrev seen_at : List ℕ → ℕ → Raw
@@ -42,7 +42,7 @@ stepped_in_numbers s = (power_refusal s.answer, state_number s.state)
 -- the step from the state that a number stands for; a number that stands for none is kept
 abbrev pub stepped_from : StateOrNone → ℕ → List ℕ → Share → ℕ × ℕ
 stepped_from (State from) kept seen share = stepped_in_numbers (step_of from (seen_in seen share))
-stepped_from NoState kept seen share = (not_apower_state, kept)
+stepped_from NoState kept seen share = (not_a_power_state, kept)
 
 -- pc_power_step_by with the share that it names, and pc_power_step with none given
 abbrev pub stepped : ℕ → List ℕ → Share → ℕ × ℕ

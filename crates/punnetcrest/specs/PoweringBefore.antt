@@ -6,12 +6,12 @@ use Rattle.power.specs.declared.StateOrNone.{StateOrNone}
 use Rattle.power.specs.declared.StateOrNone.TheVariants.{State, NoState}
 use Rattle.power.specs.States.{state_numbered}
 use Rattle.power.specs.Before.{step_before_p6}
-use Rattle.punnetcrest.specs.Powering.{not_apower_state, seen_in, stepped_in_numbers}
+use Rattle.punnetcrest.specs.Powering.{not_a_power_state, seen_in, stepped_in_numbers}
 
 -- the step before P6 looks at no share, so any may stand in the observation
 abbrev pub stepped_from_before_p6 : StateOrNone → ℕ → List ℕ → ℕ × ℕ
 stepped_from_before_p6 (State from) kept seen = stepped_in_numbers (step_before_p6 from (seen_in seen NoneGiven))
-stepped_from_before_p6 NoState kept seen = (not_apower_state, kept)
+stepped_from_before_p6 NoState kept seen = (not_a_power_state, kept)
 
 -- pc_power_step, as it was
 abbrev pub stepped_before_p6 : ℕ → List ℕ → ℕ × ℕ

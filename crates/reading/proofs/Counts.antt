@@ -8,7 +8,7 @@ use lib.ListN.{length}
 use Rattle.line.specs.declared.Line.{Line}
 use Rattle.line.specs.declared.Line.TheVariants as line
 use Rattle.record.specs.Place.{place_key, place_limit, key_fits}
-use Rattle.books.specs.Book.{Book, Message, Placement, Route, no_book, fresh, all_placements, route_between}
+use Rattle.books.specs.Book.{Book, Placement, Route, no_book, fresh, all_placements, route_between}
 use Rattle.books.specs.Lines.{route_refusal}
 use Rattle.books.proofs.RouteLines.{route_allowed}
 use Rattle.books.proofs.Ends.{count_last, length_more, one_more}

@@ -7,7 +7,7 @@ use mathlib.Core.List.{List, [], ◌∷◌, ◌++◌}
 use lib.ListN.{length}
 use Rattle.line.specs.declared.Line.{Line}
 use Rattle.line.specs.declared.Line.TheVariants as line
-use Rattle.books.specs.Book.{Book, Message, no_book}
+use Rattle.books.specs.Book.{Book, no_book}
 use Rattle.books.specs.Built.{Built, none, message, signal}
 use Rattle.reading.specs.Reading.{Outcome, passed, onward, refusal_of, with_line, numbered_with, read_from, meanings, lines_read}
 

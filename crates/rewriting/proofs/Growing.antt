@@ -22,7 +22,7 @@ use Rattle.reading.specs.Written.{route_line, message_lines}
 use Rattle.reading.proofs.Passing.{went, same_book}
 use Rattle.reading.proofs.Bytes.{ill_passes, says_itself}
 use Rattle.reading.proofs.Writes.{lines_message, lines_signal}
-use Rattle.rewriting.specs.LineKinds.{line_bytes, text_lines, is_mor_sline, is_rline, message_lines_of, route_lines_of, MSAndRLines, no_line, m_or_s_line, r_line}
+use Rattle.rewriting.specs.LineKinds.{line_bytes, text_lines, is_m_or_s_line, is_r_line, message_lines_of, route_lines_of, MSAndRLines, no_line, m_or_s_line, r_line}
 
 -- the lines of a book's messages, and those of its routes, as bytes
 abbrev pub message_texts : Book → List (List ℕ)
@@ -33,8 +33,8 @@ route_texts b = map line_text (map route_line b.routes)
 
 -- the book c is the book b with some lines more
 record Grown (b c : Book) (ls : List (List ℕ)) : Type 0 where
-  pub messages : message_texts c ≡ message_texts b ++ those is_mor_sline ls
-  pub routes : route_texts c ≡ route_texts b ++ those is_rline ls
+  pub messages : message_texts c ≡ message_texts b ++ those is_m_or_s_line ls
+  pub routes : route_texts c ≡ route_texts b ++ those is_r_line ls
 
 after : (P : List ℕ → Bool) (x : List (List ℕ)) {y z : List (List ℕ)} (l : List ℕ) (ls : List (List ℕ))
     → y ≡ x ++ those P (l ∷ []) → z ≡ y ++ those P ls → z ≡ x ++ those P (l ∷ ls)
@@ -44,8 +44,8 @@ after P x l ls e f =
 
 grown_on : {b c d : Book} (l : List ℕ) (ls : List (List ℕ)) → Grown b d (l ∷ []) → Grown d c ls → Grown b c (l ∷ ls)
 grown_on {b} l ls g h = record {
-  messages = after is_mor_sline (message_texts b) l ls g.messages h.messages;
-  routes = after is_rline (route_texts b) l ls g.routes h.routes;
+  messages = after is_m_or_s_line (message_texts b) l ls g.messages h.messages;
+  routes = after is_r_line (route_texts b) l ls g.routes h.routes;
 }
 
 -- ---- one line more
@@ -67,7 +67,7 @@ texts_more ls l = map-append line_text ls (l ∷ [])
 
 -- a line that is taken is of one kind, and the book has it among those of its kind
 grown_with : (b : Book) (l : Line) → refusal_of b l ≡ 0 → Grown b (with_line b l) (line_text l ∷ [])
-unfolding refusal_of with_line line_text fields_of join is_mor_sline is_rline
+unfolding refusal_of with_line line_text fields_of join is_m_or_s_line is_r_line
 grown_with b (line.Message i) e = record {
   messages = ap (map line_text) (lines_message b.messages i) ∙ texts_more (message_lines b.messages) (line.Message i);
   routes = sym (append-nil (route_texts b));
@@ -84,7 +84,7 @@ grown_with b (line.Route x i y j) e = record {
 grown_with b line.IllFormed e = ill_passes b e
 
 kind_with : (b : Book) (l : Line) {ts : List TextLine} → refusal_of b l ≡ 0 → MSAndRLines ts → MSAndRLines (ended (line_text l) ∷ ts)
-unfolding line_text fields_of join is_mor_sline is_rline
+unfolding line_text fields_of join is_m_or_s_line is_r_line
 kind_with b (line.Message i) e k = m_or_s_line refl k
 kind_with b (line.Signal n s) e k = m_or_s_line refl k
 kind_with b (line.Route x i y j) e k = r_line refl k

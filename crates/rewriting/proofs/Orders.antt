@@ -16,7 +16,7 @@ use Rattle.reading.specs.Reading.{passed, refusal_of, with_line, numbered_with, 
 use Rattle.reading.proofs.Passing.{went, goes_on, same_book}
 use Rattle.reading.proofs.Bytes.{says_itself}
 use Rattle.reading.proofs.Writes.{only_messages}
-use Rattle.rewriting.specs.LineKinds.{line_bytes, text_lines, is_mor_sline, is_rline, message_lines_of, route_lines_of, MSAndRLines, no_line, m_or_s_line, r_line}
+use Rattle.rewriting.specs.LineKinds.{line_bytes, text_lines, is_m_or_s_line, is_r_line, message_lines_of, route_lines_of, MSAndRLines, no_line, m_or_s_line, r_line}
 use Rattle.rewriting.proofs.Growing.{every_line, message_lines_law, route_lines_law}
 use Rattle.rewriting.proofs.Parted.{m_or_s_only, r_only}
 
@@ -28,25 +28,25 @@ data OfMessage : Line → Type 0 where
 data OfRoute : Line → Type 0 where
   an_r : {x i y j : ℕ} → OfRoute (line.Route x i y j)
 
-of_message_law : (m : Line) → is_mor_sline (line_text m) ≡ true → OfMessage m
-unfolding line_text fields_of join is_mor_sline
+of_message_law : (m : Line) → is_m_or_s_line (line_text m) ≡ true → OfMessage m
+unfolding line_text fields_of join is_m_or_s_line
 of_message_law (line.Message i) k = an_m
 of_message_law (line.Signal n s) k = an_s
 of_message_law (line.Route x i y j) k = absurd (true≢false (sym k))
 of_message_law line.IllFormed k = absurd (true≢false (sym k))
 
-of_route_law : (m : Line) → is_rline (line_text m) ≡ true → OfRoute m
-unfolding line_text fields_of join is_rline
+of_route_law : (m : Line) → is_r_line (line_text m) ≡ true → OfRoute m
+unfolding line_text fields_of join is_r_line
 of_route_law (line.Message i) k = absurd (true≢false (sym k))
 of_route_law (line.Signal n s) k = absurd (true≢false (sym k))
 of_route_law (line.Route x i y j) k = an_r
 of_route_law line.IllFormed k = absurd (true≢false (sym k))
 
-says_message : (b : Book) (l : List ℕ) → refusal_of b (line_meaning l) ≡ 0 → is_mor_sline l ≡ true → OfMessage (line_meaning l)
-says_message b l e k = of_message_law (line_meaning l) (ap is_mor_sline (sym (says_itself b l e).text) ∙ k)
+says_message : (b : Book) (l : List ℕ) → refusal_of b (line_meaning l) ≡ 0 → is_m_or_s_line l ≡ true → OfMessage (line_meaning l)
+says_message b l e k = of_message_law (line_meaning l) (ap is_m_or_s_line (sym (says_itself b l e).text) ∙ k)
 
-says_route : (b : Book) (l : List ℕ) → refusal_of b (line_meaning l) ≡ 0 → is_rline l ≡ true → OfRoute (line_meaning l)
-says_route b l e k = of_route_law (line_meaning l) (ap is_rline (sym (says_itself b l e).text) ∙ k)
+says_route : (b : Book) (l : List ℕ) → refusal_of b (line_meaning l) ≡ 0 → is_r_line l ≡ true → OfRoute (line_meaning l)
+says_route b l e k = of_route_law (line_meaning l) (ap is_r_line (sym (says_itself b l e).text) ∙ k)
 
 -- ---- M and S lines ask the messages alone, R lines the routes alone
 abbrev only_routes : List Route → Book
@@ -90,8 +90,8 @@ routes_after ls to e p = subst (λ (rs : List Route). RoutesPass rs ls to) e p
 
 -- both, of lines in some order
 record BothPass (b : Book) (ls : List (List ℕ)) (c : Book) : Type 0 where
-  pub messages : MessagesPass b.messages (those is_mor_sline ls) c.messages
-  pub routes : RoutesPass b.routes (those is_rline ls) c.routes
+  pub messages : MessagesPass b.messages (those is_m_or_s_line ls) c.messages
+  pub routes : RoutesPass b.routes (those is_r_line ls) c.routes
 
 -- ---- lines that pass, pass by kind
 apart : (n : ℕ) (b : Book) (at : List ℕ) {ts : List TextLine} {c : Book} {to : List ℕ} → MSAndRLines ts
@@ -104,8 +104,8 @@ apart n b at {c = c} (m_or_s_line {l} {ls} k ks) e =
     let h = apart (suc n) (with_line b m) (numbered_with at n m) ks w.after in
     let f = by_messages b (says_message b l w.taken k) in
     record {
-      messages = rw k (sym f.refusal ∙ w.taken, messages_after (those is_mor_sline (map line_bytes ls)) c.messages f.messages h.messages);
-      routes = rw (m_or_s_only l k) (routes_after (those is_rline (map line_bytes ls)) c.routes f.routes h.routes);
+      messages = rw k (sym f.refusal ∙ w.taken, messages_after (those is_m_or_s_line (map line_bytes ls)) c.messages f.messages h.messages);
+      routes = rw (m_or_s_only l k) (routes_after (those is_r_line (map line_bytes ls)) c.routes f.routes h.routes);
     }
 apart n b at {c = c} (r_line {l} {ls} k ks) e =
     let m = line_meaning l in
@@ -113,8 +113,8 @@ apart n b at {c = c} (r_line {l} {ls} k ks) e =
     let h = apart (suc n) (with_line b m) (numbered_with at n m) ks w.after in
     let f = by_routes b (says_route b l w.taken k) in
     record {
-      messages = rw (r_only l k) (messages_after (those is_mor_sline (map line_bytes ls)) c.messages f.messages h.messages);
-      routes = rw k (sym f.refusal ∙ w.taken, routes_after (those is_rline (map line_bytes ls)) c.routes f.routes h.routes);
+      messages = rw (r_only l k) (messages_after (those is_m_or_s_line (map line_bytes ls)) c.messages f.messages h.messages);
+      routes = rw k (sym f.refusal ∙ w.taken, routes_after (those is_r_line (map line_bytes ls)) c.routes f.routes h.routes);
     }
 
 -- ---- lines that pass by kind, pass
@@ -133,20 +133,20 @@ together : (n : ℕ) (b : Book) (at : List ℕ) {ts : List TextLine} {c : Book} 
 unfolding read_from PassesTo
 together n b at no_line h = (at, ap (λ (x : Book). passed x at) (same_parts h.messages h.routes))
 together n b at {c = c} (m_or_s_line {l} {ls} k ks) h =
-    let p : MessagesPass b.messages (l ∷ those is_mor_sline (map line_bytes ls)) c.messages = rw k at h.messages in
-    let q : RoutesPass b.routes (those is_rline (map line_bytes ls)) c.routes = rw (m_or_s_only l k) at h.routes in
+    let p : MessagesPass b.messages (l ∷ those is_m_or_s_line (map line_bytes ls)) c.messages = rw k at h.messages in
+    let q : RoutesPass b.routes (those is_r_line (map line_bytes ls)) c.routes = rw (m_or_s_only l k) at h.routes in
     let f = by_messages b (says_message (only_messages b.messages) l p.0 k) in
     line_before n b at l ls c (f.refusal ∙ p.0) (together (suc n) _ _ ks (record {
-      messages = messages_after (those is_mor_sline (map line_bytes ls)) c.messages (sym f.messages) p.1;
-      routes = routes_after (those is_rline (map line_bytes ls)) c.routes (sym f.routes) q;
+      messages = messages_after (those is_m_or_s_line (map line_bytes ls)) c.messages (sym f.messages) p.1;
+      routes = routes_after (those is_r_line (map line_bytes ls)) c.routes (sym f.routes) q;
     }))
 together n b at {c = c} (r_line {l} {ls} k ks) h =
-    let p : MessagesPass b.messages (those is_mor_sline (map line_bytes ls)) c.messages = rw (r_only l k) at h.messages in
-    let q : RoutesPass b.routes (l ∷ those is_rline (map line_bytes ls)) c.routes = rw k at h.routes in
+    let p : MessagesPass b.messages (those is_m_or_s_line (map line_bytes ls)) c.messages = rw (r_only l k) at h.messages in
+    let q : RoutesPass b.routes (l ∷ those is_r_line (map line_bytes ls)) c.routes = rw k at h.routes in
     let f = by_routes b (says_route (only_routes b.routes) l q.0 k) in
     line_before n b at l ls c (f.refusal ∙ q.0) (together (suc n) _ _ ks (record {
-      messages = messages_after (those is_mor_sline (map line_bytes ls)) c.messages (sym f.messages) p;
-      routes = routes_after (those is_rline (map line_bytes ls)) c.routes (sym f.routes) q.1;
+      messages = messages_after (those is_m_or_s_line (map line_bytes ls)) c.messages (sym f.messages) p;
+      routes = routes_after (those is_r_line (map line_bytes ls)) c.routes (sym f.routes) q.1;
     }))
 
 -- ---- of a text

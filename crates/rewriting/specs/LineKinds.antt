@@ -15,33 +15,33 @@ unfoldable pub text_lines : List ℕ → List (List ℕ)
 text_lines text = map line_bytes (lines text)
 
 -- M and S lines, and R lines: by the first byte
-unfoldable pub is_mor_sline : List ℕ → Bool
-is_mor_sline [] = false
-is_mor_sline (k ∷ l) = eqb k letter_m || eqb k letter_s
+unfoldable pub is_m_or_s_line : List ℕ → Bool
+is_m_or_s_line [] = false
+is_m_or_s_line (k ∷ l) = eqb k letter_m || eqb k letter_s
 
-unfoldable pub is_rline : List ℕ → Bool
-is_rline [] = false
-is_rline (k ∷ l) = eqb k letter_r
+unfoldable pub is_r_line : List ℕ → Bool
+is_r_line [] = false
+is_r_line (k ∷ l) = eqb k letter_r
 
 -- the M and S lines of a text, and its R lines: as they stand, each in their order
 unfoldable pub message_lines_of : List ℕ → List (List ℕ)
-message_lines_of text = those is_mor_sline (text_lines text)
+message_lines_of text = those is_m_or_s_line (text_lines text)
 
 unfoldable pub route_lines_of : List ℕ → List (List ℕ)
-route_lines_of text = those is_rline (text_lines text)
+route_lines_of text = those is_r_line (text_lines text)
 
 -- lines that are each ended by a newline, and each an M or S line or an R line
 pub data MSAndRLines : List TextLine → Type 0 where
   no_line : MSAndRLines []
-  m_or_s_line : {l : List ℕ} {ls : List TextLine} → is_mor_sline l ≡ true → MSAndRLines ls → MSAndRLines (ended l ∷ ls)
-  r_line : {l : List ℕ} {ls : List TextLine} → is_rline l ≡ true → MSAndRLines ls → MSAndRLines (ended l ∷ ls)
+  m_or_s_line : {l : List ℕ} {ls : List TextLine} → is_m_or_s_line l ≡ true → MSAndRLines ls → MSAndRLines (ended l ∷ ls)
+  r_line : {l : List ℕ} {ls : List TextLine} → is_r_line l ≡ true → MSAndRLines ls → MSAndRLines (ended l ∷ ls)
 
 -- R lines alone
 pub data AllRLines : List (List ℕ) → Type 0 where
   no_more : AllRLines []
-  r_next : {l : List ℕ} {ls : List (List ℕ)} → is_rline l ≡ true → AllRLines ls → AllRLines (l ∷ ls)
+  r_next : {l : List ℕ} {ls : List (List ℕ)} → is_r_line l ≡ true → AllRLines ls → AllRLines (l ∷ ls)
 
 -- lines with the R lines last: some that are no R lines, then R lines alone
 pub data RoutesLast : List (List ℕ) → Type 0 where
   r_lines : {ls : List (List ℕ)} → AllRLines ls → RoutesLast ls
-  no_r_line : {l : List ℕ} {ls : List (List ℕ)} → is_rline l ≡ false → RoutesLast ls → RoutesLast (l ∷ ls)
+  no_r_line : {l : List ℕ} {ls : List (List ℕ)} → is_r_line l ≡ false → RoutesLast ls → RoutesLast (l ∷ ls)

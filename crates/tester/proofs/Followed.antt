@@ -18,7 +18,7 @@ use Rattle.charging.specs.Met.{EveryCondition}
 use Rattle.charging.proofs.Numbers.{number_tells, step_number_law}
 use Rattle.charging.proofs.Answers.{refused, kept_or_next}
 use Rattle.charging.proofs.Ready.{ready_only}
-use Rattle.tester.specs.Following.{not_acharge_state, charge_seen_in, charge_in_numbers, charge_from, charge_followed}
+use Rattle.tester.specs.Following.{not_a_charge_state, charge_seen_in, charge_in_numbers, charge_from, charge_followed}
 
 module _ (state : ℕ) (seen : List ℕ) where
   -- PCT_DONE and PCT_CHARGE_READY
@@ -30,7 +30,7 @@ module _ (state : ℕ) (seen : List ℕ) where
       go NoChargeState done ready = absurd (omega (arith, done))
 
   -- PCT_NOT_A_CHARGE_STATE: of a number over fault's, and of no other
-  pub no_state : 7 < state → charge_followed state seen ≡ (not_acharge_state, state)
+  pub no_state : 7 < state → charge_followed state seen ≡ (not_a_charge_state, state)
   unfolding charge_numbered
   no_state h = ap (λ (b : Bool). charge_from (cond b (Is (step_with_spec state)) NoChargeState) state seen) (lt-leb state 7 h)
 
@@ -38,10 +38,10 @@ module _ (state : ℕ) (seen : List ℕ) where
   unfolding charge_numbered
   of_a_state h = ap (λ (b : Bool). charge_from (cond b (Is (step_with_spec state)) NoChargeState) state seen) (le-leb state 7 h)
 
-  pub only_no_state : (charge_followed state seen).0 ≡ not_acharge_state → 7 < state
+  pub only_no_state : (charge_followed state seen).0 ≡ not_a_charge_state → 7 < state
   only_no_state e = go (leb state 7) refl
     where
-      other : (fits : Bool) → charge_refusal (charge_step_of (step_with_spec state) (charge_seen_in seen)).answer ≡ cond fits 0 81 → charge_refusal (charge_step_of (step_with_spec state) (charge_seen_in seen)).answer ≡ not_acharge_state → ⊥
+      other : (fits : Bool) → charge_refusal (charge_step_of (step_with_spec state) (charge_seen_in seen)).answer ≡ cond fits 0 81 → charge_refusal (charge_step_of (step_with_spec state) (charge_seen_in seen)).answer ≡ not_a_charge_state → ⊥
       other true f g = omega (arith, f, g)
       other false f g = omega (arith, f, g)
 

@@ -13,8 +13,8 @@ abbrev pub first_charge : ℕ
 first_charge = charge_number charge_start
 
 -- 93, the face's own refusal: *state is no state's number
-abbrev pub not_acharge_state : ℕ
-not_acharge_state = 93
+abbrev pub not_a_charge_state : ℕ
+not_a_charge_state = 93
 
 -- the observation that is lent as eleven raw counts: of 1708, 1605, 311, 313, 325, 327, 301, 302, 1709, 304 and 306
 abbrev charge_seen_at : List ℕ → ℕ → Raw
@@ -42,7 +42,7 @@ charge_in_numbers s = (charge_refusal s.answer, charge_number s.state)
 -- the step from the state that a number stands for; a number that stands for none is kept
 abbrev pub charge_from : ChargeStateOrNone → ℕ → List ℕ → ℕ × ℕ
 charge_from (Is from) kept seen = charge_in_numbers (charge_step_of from (charge_seen_in seen))
-charge_from NoChargeState kept seen = (not_acharge_state, kept)
+charge_from NoChargeState kept seen = (not_a_charge_state, kept)
 
 -- pct_charge_step
 abbrev pub charge_followed : ℕ → List ℕ → ℕ × ℕ
