@@ -124,9 +124,10 @@ static void call_spread(void) {
     refusal = ENTER(pc_spread, book, 0, 0, places, PC_MOST_ROUTES, &count);
 }
 
-/* A message with a checksum, and one chain of so many routes. */
+/* A message with a checksum, one more whose identifier is 251 above, so that the test of a book compares the two, and one chain of so many
+   routes. */
 static void make_text(int routes) {
-    int length = sprintf(text, "M\t18FF21F3\nS\t203\t0\nS\t204\t16\nS\t504\t56\nS\t503\t60\n");
+    int length = sprintf(text, "M\t18FF21F3\nS\t203\t0\nS\t204\t16\nS\t504\t56\nS\t503\t60\nM\t18FF22EE\n");
     for (int i = 0; i < routes; i++)
         length += sprintf(text + length, "R\t0\t%08X\t0\t%08X\n", (unsigned)i, (unsigned)i + 1);
 }

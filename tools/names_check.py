@@ -13,7 +13,7 @@ FILES = sources("antt", "rt")
 WORD = r"[^\s(){}\[\].,;·⌜⌝&*!←]"
 RUN = re.compile(rf"{WORD}+")
 USE = re.compile(r"^(?:ghost )?use\s+[^\s;{]+\.\{([^}]*)\};?[ \t]*\n", re.M)
-SAME = {"Line::Message", "Line::Route", "StateOrNone::State"}  # what the line says, and the state
+SAME = {"Line::Message", "Line::Route"}  # what the line says
 DECLARED = re.compile(rf"( *)(?:abbrev |unfoldable |pub )*(?:(?:record|data) ({WORD}+)|({WORD}+)(?: {{.*}})? :)")
 
 
@@ -31,6 +31,8 @@ def words(text):
         is_behind = run.start() == end + 1 and text[end] == "."
         if not is_behind or before[:1].isupper():
             found.add(run[0])
+        if "::proofs::" in run[0] or "::specs::" in run[0]:  # cited by a `#[tactic(..)]`
+            found.add(run[0].rsplit("::", 1)[1])
         before, end = run[0], run.end()
     return found
 

@@ -112,7 +112,7 @@ def asking(promises):
     table = promises.partition("### Entry points")[2].partition("### Wrong programs")[0]
     named = [(crate, name.split("::")[-1]) for crate, calls in re.findall(r"(?m)^\| `(\w+)` \| ([^|]+) \|", table) for name in re.findall(r"`([\w:]+)\(", calls)]
     for crate, name in named:
-        heads = re.findall(rf'(?ms)^ *pub (?:extern "C" )?fn {name}\(.*?^ *\{{$', source(crate))
+        heads = re.findall(rf'(?ms)^ *(?:pub (?:extern "C" )?)?fn {name}\(.*?\{{$', source(crate))
         if len(heads) != 1 or re.search(r"(?m)^ *requires ", heads[0]):
             yield f"docs/PROMISES.md: the entry point {crate}: {name}() has a `requires`, or there is not just one of that name"
     calls = {(path.parts[-3], name) for path in ROOT.glob("crates/*/src/*.rt") for name in re.findall(r'pub extern "C" fn (\w+)', path.read_text())}

@@ -11,7 +11,7 @@ from listed_rows import ROWS_FILE, listed
 HEAD = """// The columns of the constant table: for each row of specs/Rows.antt its entry, with the signal's number behind it. tools/rows_code.py
 // writes this file from there: change a row there, and `tools/vectors write` changes it here.
 """
-KINDS = {"unmarked": 0, "invalid": 1, "absent": 2, "error": 3, "reserved": 4}  # the constants of crates/rows/src/lib.rt
+KINDS = {"unmarked": 0, "invalid": 1, "absent": 2, "error": 3, "reserved": 4}  # as `kind_of` in crates/rows/src/table.rt reads them
 UNMARKED = ("unmarked", 1, 0)
 FRAME_BITS = 64
 

@@ -71,7 +71,7 @@ def pairs(found):
 def arm(shape):
     """The arm of a shape, laid out as rt fmt does."""
     numbers = [shape.bits, shape.resolution, shape.offset, shape.lowest, shape.highest]
-    marks = [part for kind, first, last in shape.marks for part in (kind.upper(), first, last)]
+    marks = [part for kind, first, last in shape.marks for part in (kind.capitalize(), first, last)]
     words = [str(word) for word in [*numbers, *marks, "window"]]
     call = f"        {shape.number} => {ARM_CALLS[len(shape.marks)]}("
     if len(", ".join(words)) <= WIDEST_CALL:

@@ -11,11 +11,7 @@ use Rattle.printing.specs.Decimal.{natural_text}
 use Rattle.printing.proofs.Puts.{and_then}
 use Rattle.printing.proofs.Counting.{count_few}
 use Rattle.printing.proofs.Spelling.{natural_long}
-use Rattle.answers.specs.declared.Refusal.{Refusal}
-use Rattle.answers.specs.declared.Answer.{Answer}
-use Rattle.answers.specs.declared.Answer.TheVariants as answer
-use Rattle.answers.specs.Numbers.{number, said}
-use Rattle.answer_line.specs.Printed.{ok, no, taken_line, refused_line, answer_line_spec, field_room, line_room, printed}
+use Rattle.answer_line.specs.Printed.{ok, no, taken_line, refused_line, field_room, line_room, printed}
 
 -- a field is no longer than its room
 pub field_few : {old new : List ℕ} {at n next : ℕ} → Put old at (9 ∷ natural_text n) new next → n < 4294967296 → next ≤ at + field_room
@@ -42,17 +38,8 @@ pub no_room : (out text : List ℕ) → length out < line_room → ◌≡◌ {A 
 unfolding printed
 no_room out text h = rw (lt-ltb _ _ h)
 
-with_room : {out new : List ℕ} {r : ℕ} (text : List ℕ) → line_room ≤ length out → Put out 0 text new r → ◌≡◌ {A = ℕ × List ℕ} (r, new) (printed out text)
+pub with_room : {out new : List ℕ} {r : ℕ} (text : List ℕ) → line_room ≤ length out → Put out 0 text new r → ◌≡◌ {A = ℕ × List ℕ} (r, new) (printed out text)
 unfolding printed
 with_room {out} {new} {r} text h p =
     let e : r ≡ length text = omega (arith, p.now_at) in
     rw (le-ltb _ _ h) (λ i. (e i, p.now_there i))
-
--- the line of an answer by its case
-module _ {out new : List ℕ} {r : ℕ} (h : line_room ≤ length out) {a : Answer} where
-  pub taken_printed : (m s n : ℕ) → a ≡ answer.Taken m s n → Put out 0 (taken_line m s n) new r → ◌≡◌ {A = ℕ × List ℕ} (r, new) (printed out (answer_line_spec (said a)))
-  taken_printed m s n e p = rw e (with_room (taken_line m s n) h p)
-
-  pub refused_printed : (why : Refusal) (line : ℕ) {n : ℕ} → a ≡ answer.Refused why line → n ≡ number why → Put out 0 (refused_line n line) new r
-      → ◌≡◌ {A = ℕ × List ℕ} (r, new) (printed out (answer_line_spec (said a)))
-  refused_printed why line e q p = rw (e, ← q) (with_room (refused_line _ line) h p)

@@ -1,9 +1,9 @@
 -- "Refusal numbers": document 01's number for each refusal, and what each answer says. Assumes nothing: these are definitions.
-use Rattle.std.specs.Prelude.{ℕ}
+use Rattle.std.specs.Prelude.{ℕ, Result, Ok, Err}
 use Rattle.answers.specs.declared.Refusal.{Refusal}
 use Rattle.answers.specs.declared.Refusal.TheVariants as refusal
-use Rattle.answers.specs.declared.Answer.{Answer}
-use Rattle.answers.specs.declared.Answer.TheVariants as answer
+use Rattle.answers.specs.declared.Counts.{Counts}
+use Rattle.answers.specs.declared.Refused.{Refused}
 
 abbrev pub number : Refusal → ℕ
 number refusal.TooLong = 1
@@ -23,6 +23,6 @@ pub data Said : Type 0 where
   taken : ℕ → ℕ → ℕ → Said
   refused : ℕ → ℕ → Said
 
-abbrev pub said : Answer → Said
-said (answer.Taken m s r) = taken m s r
-said (answer.Refused why line) = refused (number why) line
+abbrev pub said : Result Counts Refused → Said
+said (Ok counts) = taken counts.messages counts.signals counts.routes
+said (Err r) = refused (number r.why) r.line

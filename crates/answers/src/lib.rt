@@ -1,12 +1,12 @@
 // What the reader of a route book answers. specs/Numbers.antt gives document 01's number and values for each case, and
-// `Refusal::number` is that number in code: nothing else in the library turns a refusal of a book into its number.
+// `u32::from` is that number in code: nothing else in the library turns a refusal of a book into its number.
 #![tactic(auto)]
 
 ghost use Rattle.std.specs.Prelude.{◌≡◌};
 ghost use Rattle.answers.specs.Numbers.{number};
 
 // Why a text is refused.
-#[derive(Clone, Copy)]
+#[derive(Clone, Copy, Debug, PartialEq, Eq)]
 pub enum Refusal {
     // the text is over its limit
     TooLong,
@@ -32,12 +32,12 @@ pub enum Refusal {
     TwoChains,
 }
 
-impl Refusal {
-    // Document 01's number.
-    pub fn number(self) -> u32
-        ensures { result ≡ number self }
-    {
-        match self {
+// Document 01's number.
+impl From<Refusal> for u32 {
+    ghost from_gives = { λ why n. n ≡ number why };
+
+    fn from(why: Refusal) -> u32 {
+        match why {
             Refusal::TooLong => 1,
             Refusal::IllFormed => 2,
             Refusal::OverLimit => 3,
@@ -53,9 +53,20 @@ impl Refusal {
     }
 }
 
-// A text is taken, with its counts of M, S and R lines; or it is refused, at a line.
-#[derive(Clone, Copy)]
-pub enum Answer {
-    Taken(u32, u32, u32),
-    Refused(Refusal, u32),
+// How many M, S and R lines a text has that is taken.
+#[derive(Clone, Copy, Debug, PartialEq, Eq)]
+pub struct Counts {
+    pub messages: u32,
+    pub signals: u32,
+    pub routes: u32,
 }
+
+// Why a text is refused, and at which line.
+#[derive(Clone, Copy, Debug, PartialEq, Eq)]
+pub struct Refused {
+    pub why: Refusal,
+    pub line: u32,
+}
+
+// A text is taken, or it is refused.
+pub type Answer = Result<Counts, Refused>;

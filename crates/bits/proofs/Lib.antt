@@ -1,4 +1,5 @@
 pub mod Weights
+pub mod Bytes
 pub mod Placing
 pub mod Summing
 pub mod OneOutcome

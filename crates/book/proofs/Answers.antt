@@ -8,7 +8,6 @@ use Rattle.record.specs.Columns.{empty_book, message_count_of, signal_count_of, 
 use Rattle.verdict.specs.Verdicts.{Judged}
 use Rattle.verdict.specs.declared.Verdict.{Verdict}
 use Rattle.verdict.specs.declared.Verdict.TheVariants as verdict
-use Rattle.answers.specs.declared.Refusal.{Refusal}
 use Rattle.answers.specs.Numbers.{taken, refused, number}
 use Rattle.books.specs.Book.{Book}
 use Rattle.reading.specs.Reading.{meanings}
@@ -16,8 +15,8 @@ use Rattle.reading.specs.Taken.{froms, tos, r_lines_from}
 use Rattle.reading.proofs.Counts.{text_counted}
 use Rattle.tables.specs.Adding.{Holds}
 use Rattle.tables.proofs.Held.{messages_held, signals_held, routes_held}
-use Rattle.taking.specs.declared.LinesAnswer.{LinesAnswer}
-use Rattle.taking.specs.declared.LinesAnswer.TheVariants as came
+use Rattle.std.specs.Prelude.{Err}
+use Rattle.answers.specs.declared.Refused.{Refused}
 use Rattle.taking.specs.Taking.{PassedTo, Came}
 use Rattle.book.specs.Answered.{Passes, Answered, too_long, bad_line, closed_chain, two_chains, taken_with}
 use Rattle.book.specs.Judging.{JudgedBy}
@@ -54,9 +53,5 @@ pub judged_by : {text w : List ℕ} {v : Verdict} → length text ≤ text_limit
 judged_by h p j = record { short = h; passed = p; judged = j p.book p.holds }
 
 -- what came of the lines
-module _ (text : List ℕ) (r : LinesAnswer) (w : List ℕ) (c : Came text r w) where
-  pub refused_line_law : (why : Refusal) (n : ℕ) → r ≡ came.Refused why n → length text ≤ text_limit → Answered text (refused (number why) n) w
-  refused_line_law why n q h = let d = rw q at c in rw d.1 (bad_line h d.0)
-
-  pub all_passed : r ≡ came.Passed → PassedTo text w
-  all_passed q = rw q at c
+pub refused_line_law : (text : List ℕ) (r : Refused) (w : List ℕ) → Came text (Err r) w → length text ≤ text_limit → Answered text (refused (number r.why) r.line) w
+refused_line_law text r w c h = rw c.1 (bad_line h c.0)

@@ -14,8 +14,9 @@ use Rattle.verdict.specs.declared.Verdict.{Verdict}
 use Rattle.verdict.specs.declared.Verdict.TheVariants as verdict
 use Rattle.verdict.proofs.Once.{judged, judged_once}
 use Rattle.answers.specs.declared.Refusal.TheVariants as refusal
-use Rattle.answers.specs.declared.Answer.{Answer}
-use Rattle.answers.specs.declared.Answer.TheVariants as answer
+use Rattle.std.specs.Prelude.{Result, Ok, Err}
+use Rattle.answers.specs.declared.Counts.{Counts}
+use Rattle.answers.specs.declared.Refused.{Refused}
 use Rattle.answers.specs.Numbers.{number, Said, taken, refused, said}
 use Rattle.answers.proofs.Numbered.{number_once}
 use Rattle.books.specs.Book.{Book, all_placements}
@@ -72,17 +73,17 @@ answered_once a b = ways (way a) (way b)
 
 -- there is an answer
 pub record There (text : List ℕ) : Type 0 where
-  pub answer : Answer
+  pub answer : Result Counts Refused
   pub words : List ℕ
   pub answered : Answered text (said answer) words
 
 module _ (text : List ℕ) where
   judges : (b : Book) (at : List ℕ) → Passes text b at → (v : Verdict) → Judged (froms b.routes) (tos b.routes) v → There text
-  judges b at p (verdict.Loop i) j = record { answer = answer.Refused refusal.ClosedChain (get_or at i 0); words = empty_book; answered = closed_chain p j }
-  judges b at p (verdict.Doubling i) j = record { answer = answer.Refused refusal.TwoChains (get_or at i 0); words = empty_book; answered = two_chains p j.0 j.1 }
+  judges b at p (verdict.Loop i) j = record { answer = Err (record { why = refusal.ClosedChain; line = get_or at i 0 }); words = empty_book; answered = closed_chain p j }
+  judges b at p (verdict.Doubling i) j = record { answer = Err (record { why = refusal.TwoChains; line = get_or at i 0 }); words = empty_book; answered = two_chains p j.0 j.1 }
   judges b at p verdict.Sound j =
       record {
-        answer = answer.Taken (length b.messages) (length (all_placements b.messages)) (length b.routes);
+        answer = Ok (record { messages = length b.messages; signals = length (all_placements b.messages); routes = length b.routes });
         words = words_of b;
         answered = taken_with (record { short = p.short; at = at; read = p.read; sound = record { loop_free = j.loop_free; single = j.single } });
       }
@@ -93,31 +94,31 @@ module _ (text : List ℕ) where
       judges b at (record { short = h; read = e }) v.0 v.1
   come h (lines.refused why n) e =
       let r : Named why = text_named text why n e in
-      record { answer = answer.Refused r.refusal n; words = empty_book; answered = rw r.is (bad_line h e) }
+      record { answer = Err (record { why = r.refusal; line = n }); words = empty_book; answered = rw r.is (bad_line h e) }
 
   pub there : There text
   there = by (ltb text_limit (length text)) refl
     where
       by : (q : Bool) → ltb text_limit (length text) ≡ q → There text
-      by true q = record { answer = answer.Refused refusal.TooLong 0; words = empty_book; answered = too_long (ltb-true _ _ q) }
+      by true q = record { answer = Err (record { why = refusal.TooLong; line = 0 }); words = empty_book; answered = too_long (ltb-true _ _ q) }
       by false q = come (ltb-false _ _ q) (lines_read text) refl
 
 -- an answer is told by what it says
-said_once : (a b : Answer) → said a ≡ said b → a ≡ b
-said_once (answer.Taken m s r) (answer.Taken m' s' r') e =
-    let x : m ≡ m' = cc in
-    let y : s ≡ s' = cc in
-    let z : r ≡ r' = cc in
-    cc
-said_once (answer.Refused why n) (answer.Refused why' n') e =
-    let x = number_once why why' (let z : number why ≡ number why' = cc in z) in
-    let y : n ≡ n' = cc in
-    cc
-said_once (answer.Taken m s r) (answer.Refused why n) e = absurd (let z : ◌≡◌ {A = ℕ} 0 1 = cc in omega arith)
-said_once (answer.Refused why n) (answer.Taken m s r) e = absurd (let z : ◌≡◌ {A = ℕ} 0 1 = cc in omega arith)
+said_once : (a b : Result Counts Refused) → said a ≡ said b → a ≡ b
+said_once (Ok c) (Ok d) e =
+    let x : c.messages ≡ d.messages = cc in
+    let y : c.signals ≡ d.signals = cc in
+    let z : c.routes ≡ d.routes = cc in
+    λ i. Ok (record { messages = x i; signals = y i; routes = z i })
+said_once (Err r) (Err s) e =
+    let x = number_once r.why s.why (let z : number r.why ≡ number s.why = cc in z) in
+    let y : r.line ≡ s.line = cc in
+    λ i. Err (record { why = x i; line = y i })
+said_once (Ok c) (Err r) e = absurd (let z : ◌≡◌ {A = ℕ} 0 1 = cc in omega arith)
+said_once (Err r) (Ok c) e = absurd (let z : ◌≡◌ {A = ℕ} 0 1 = cc in omega arith)
 
 -- and no other
-pub alone : (text : List ℕ) (x : Answer × List ℕ) → Answered text (said x.0) x.1 → x ≡ ((there text).answer, (there text).words)
+pub alone : (text : List ℕ) (x : Result Counts Refused × List ℕ) → Answered text (said x.0) x.1 → x ≡ ((there text).answer, (there text).words)
 alone text x a =
     let e : ◌≡◌ {A = Said × List ℕ} (said x.0, x.1) (said (there text).answer, (there text).words) = answered_once a (there text).answered in
     let f : x.0 ≡ (there text).answer = said_once x.0 (there text).answer (ap (λ (y : Said × List ℕ). y.0) e) in

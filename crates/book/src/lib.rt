@@ -11,9 +11,9 @@ ghost use Rattle.verdict.specs.Verdicts.{Judged};
 ghost use Rattle.book.specs.Answered.{Answered};
 ghost use Rattle.book.specs.Judging.{JudgedBy};
 
-use answers::{Answer, Refusal};
-use record::{BOOK_WORDS, TEXT_LIMIT, first, wide};
-use taking::{LinesAnswer, route_line, take_lines};
+use answers::{Answer, Counts, Refusal, Refused};
+use record::{BOOK_WORDS, TEXT_LIMIT, first};
+use taking::{route_line, take_lines};
 use verdict::Verdict;
 
 // The gateway's checker's verdict on the routes of a book.
@@ -21,7 +21,7 @@ fn verdict_on(book: &[u32; BOOK_WORDS]) -> Verdict
     requires { OfBook book.now }
     ensures { (b : Book) → Holds book.now b → Judged (froms b.routes) (tos b.routes) result }
 {
-    let count = wide(record::route_count(book));
+    let count = record::route_count(book) as usize;
     let froms = record::froms(book);
     let tos = record::tos(book);
     gateway_checker::judge(first(froms, count), first(tos, count))
@@ -35,19 +35,23 @@ pub fn answer_judged(text: &[u8], book: &mut [u32; BOOK_WORDS], verdict: Verdict
     match verdict {
         Verdict::Loop(i) => {
             record::clear(book);
-            Answer::Refused(Refusal::ClosedChain, route_line(text, i))
+            Err(Refused {
+                why: Refusal::ClosedChain,
+                line: route_line(text, i),
+            })
         }
         Verdict::Doubling(i) => {
             record::clear(book);
-            Answer::Refused(Refusal::TwoChains, route_line(text, i))
+            Err(Refused {
+                why: Refusal::TwoChains,
+                line: route_line(text, i),
+            })
         }
-        Verdict::Sound => {
-            Answer::Taken(
-                record::message_count(&*book),
-                record::signal_count(&*book),
-                record::route_count(&*book),
-            )
-        }
+        Verdict::Sound => Ok(Counts {
+            messages: record::message_count(&*book),
+            signals: record::signal_count(&*book),
+            routes: record::route_count(&*book),
+        }),
     }
 }
 
@@ -57,11 +61,12 @@ pub fn read(text: &[u8], book: &mut [u32; BOOK_WORDS]) -> Answer
 {
     record::clear(&mut *book);
     if text.len() > TEXT_LIMIT {
-        return Answer::Refused(Refusal::TooLong, 0);
+        return Err(Refused {
+            why: Refusal::TooLong,
+            line: 0,
+        });
     }
-    if let LinesAnswer::Refused(why, n) = take_lines(text, &mut *book) {
-        return Answer::Refused(why, n);
-    }
+    take_lines(text, &mut *book)?;
     let verdict = verdict_on(&*book);
     answer_judged(text, book, verdict)
 }

@@ -20,12 +20,9 @@ fn size_in(head: &[u8]) -> usize {
     identifier_or_0(part_before(head, 8)) as usize
 }
 
-// The book that is the front of the text.
-fn check(rt: &impl Print, text: &[u8], size: usize) {
-    if size <= text.len() {
-        let mut words = [0u32; record::BOOK_WORDS];
-        let _ = send_answer(rt, book::read(part_before(text, size), &mut words));
-    }
+fn check(rt: &impl Print, text: &[u8]) {
+    let mut words = [0u32; record::BOOK_WORDS];
+    let _ = send_answer(rt, book::read(text, &mut words));
 }
 
 fn main(rt: HostRuntime) {
@@ -41,6 +38,6 @@ fn main(rt: HostRuntime) {
             return;
         }
         read_first(&mut input, &mut text, size + 1);
-        check(&rt, &text, size);
+        check(&rt, &text[..size]);
     }
 }

@@ -8,10 +8,9 @@ ghost use Rattle.std.specs.Prelude.{◌≡◌, ◌≤◌, suc, length, IfOk};
 ghost use Rattle.record.specs.Limits.{text_limit};
 ghost use Rattle.reading.specs.Written.{most_written};
 
-use answers::Answer;
 use book_streams::{ENOUGH, has_words, send_answer};
-use book_writer::{MOST_WRITTEN, Wrote};
-use record::{BOOK_WORDS, wide};
+use book_writer::MOST_WRITTEN;
+use record::BOOK_WORDS;
 use std::io;
 use std::io::{ErrorKind, Read};
 use streams::write_first;
@@ -38,17 +37,17 @@ fn read_input<R: Read>(input: &mut R, text: &mut [u8]) -> io::Result<usize>
 fn send_text(rt: &impl Print, book: &[u32; BOOK_WORDS], room: &mut [u8]) -> io::Result<()>
     requires { length room.old ≡ most_written }
 {
-    if let Wrote::Length(count) = book_writer::write(book, &mut *room) {
-        return write_first(rt, &*room, wide(count));
+    match book_writer::write(book, &mut *room) {
+        Ok(count) => write_first(rt, &*room, count as usize),
+        Err(_) => Err(io::Error::from(ErrorKind::Other)),
     }
-    Err(io::Error::from(ErrorKind::Other))
 }
 
 // What is printed of a text. An answer without an error says that all of it was written.
 fn rewrite(rt: &impl Print, text: &[u8]) -> io::Result<()> {
     let mut words = [0u32; BOOK_WORDS];
     let answer = book::read(text, &mut words);
-    if let Answer::Taken(_, _, _) = answer {
+    if answer.is_ok() {
         let mut room = [0u8; MOST_WRITTEN];
         return send_text(rt, &words, &mut room);
     }

@@ -1,4 +1,4 @@
-pub mod Columns
+pub mod Pairs
 pub mod Messages
 pub mod Shown
 pub mod Whole

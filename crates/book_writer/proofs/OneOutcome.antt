@@ -4,6 +4,7 @@ use mathlib.Core.List.{List}
 use Prim.Native.Nat.{ℕ}
 use seplogic.Ra.Ura.{Ura}
 use base.Logic.{SProp}
+use Rattle.std.specs.Coded.{coded_result}
 use base.Stored.{coded_ℕ, coded×, coded_list}
 use prog.Memory.{Memory}
 use prog.Routine.{Routine}
@@ -14,18 +15,19 @@ use denote.Bor.{Bor}
 use denote.Ref.{MutBor, at_last}
 use Rattle.only.specs.Only.{Only}
 use Rattle.book_writer.specs.Answers.{wrote_number, byte_count, WriteAnswer}
-use Rattle.book_writer.specs.declared.Wrote.{Wrote}
+use Rattle.std.specs.Prelude.{Result}
+use Rattle.book_writer.specs.declared.WriteRefusal.{WriteRefusal}
 use Rattle.book_writer.proofs.Decided.{answered, answer_once, same_wrote}
-use Rattle.book_writer.specs.contracts.Wrote as the-answer
+use Rattle.book_writer.specs.contracts.WriteRefusal as the-refusal
 use Rattle.book_writer.specs.contracts.write as write
 
 module _ {M : Type 1} {𝓤 : Ura M} (𝓛 : Logic 𝓤) (mem : Memory → SProp 𝓤) (run : Routine → Fun 𝓤) where
   pub one_write : (κs : Lfts 2) (book : Bor (List ℕ)) (room : MutBor (List ℕ))
-      → Only 𝓤 (λ (x : Wrote × List ℕ). (write.clauses 𝓛 mem run κs (book, (room, tt))).ensures tt x.0 (book, (at_last room x.1, tt)))
+      → Only 𝓤 (λ (x : Result ℕ WriteRefusal × List ℕ). (write.clauses 𝓛 mem run κs (book, (room, tt))).ensures tt x.0 (book, (at_last room x.1, tt)))
   one_write κs book room =
       let there = answered book.now room.now in
       record {
-        coded = coded× (the-answer.the_row).coded (coded_list coded_ℕ);
+        coded = coded× (coded_result coded_ℕ (the-refusal.the_row).coded) (coded_list coded_ℕ);
         outcome = there.0;
         Says = λ x. WriteAnswer book.now room.now (wrote_number x.0) (byte_count x.0) x.1;
         says = λ x. refl;

@@ -1,23 +1,26 @@
 -- Refusals 12 and 71, and what a call for a book's text leaves behind. An answer is its refusal's number, 0 where there is none, and how
 -- many bytes it counts. Assumes nothing: these are definitions.
-use Rattle.std.specs.Prelude.{◌≡◌, true, ℕ, ◌<◌, ◌≤◌, List, ◌++◌, length, drop}
+use Rattle.std.specs.Prelude.{◌≡◌, true, ℕ, ◌<◌, ◌≤◌, List, ◌++◌, length, drop, Result, Ok, Err}
 use Rattle.books.specs.Words.{messages_taken_spec, book_of}
 use Rattle.reading.specs.Written.{book_text}
 use Rattle.route_tables.specs.Tables.{RoutesTaken}
-use Rattle.book_writer.specs.declared.Wrote.{Wrote}
-use Rattle.book_writer.specs.declared.Wrote.TheVariants as wrote
+use Rattle.book_writer.specs.declared.WriteRefusal.{WriteRefusal}
+use Rattle.book_writer.specs.declared.WriteRefusal.TheVariants.{NotABook, NoRoom}
 
--- the number of each answer, 12 of document 01 and 71 of document 02; 0 is no refusal
-abbrev pub wrote_number : Wrote → ℕ
-wrote_number (wrote.Length n) = 0
-wrote_number wrote.NotABook = 12
-wrote_number wrote.NoRoom = 71
+-- the number of each refusal, 12 of document 01 and 71 of document 02
+abbrev pub write_refusal_number : WriteRefusal → ℕ
+write_refusal_number NotABook = 12
+write_refusal_number NoRoom = 71
+
+-- the number of each answer; 0 is no refusal
+abbrev pub wrote_number : Result ℕ WriteRefusal → ℕ
+wrote_number (Ok n) = 0
+wrote_number (Err why) = write_refusal_number why
 
 -- and how many bytes it counts
-abbrev pub byte_count : Wrote → ℕ
-byte_count (wrote.Length n) = n
-byte_count wrote.NotABook = 0
-byte_count wrote.NoRoom = 0
+abbrev pub byte_count : Result ℕ WriteRefusal → ℕ
+byte_count (Ok n) = n
+byte_count (Err why) = 0
 
 -- the text of the book that words show: each M line with its S lines, in book order, then the R lines in book order
 abbrev pub text_of : List ℕ → List ℕ

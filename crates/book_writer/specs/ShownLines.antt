@@ -1,29 +1,23 @@
--- The lines that columns show, and what writing them asks for. The working side: these say what the inner functions ask and keep.
--- Assumes nothing: these are definitions.
-use Rattle.std.specs.Prelude.{◌≡◌, ℕ, List, map}
+-- The lines that two columns side by side make. The working side: these say what the inner functions ask and keep. Assumes nothing: these
+-- are definitions.
+use Rattle.std.specs.Prelude.{ℕ, List, [], ◌∷◌}
 use Rattle.line.specs.declared.Line.{Line}
-use Rattle.books.specs.Book.{Message, identifiers, numbers, all_placements}
-use Rattle.books.specs.Words.{placement_starts, ends_after, side_by_side, shown, routes_side_by_side}
-use Rattle.reading.specs.Written.{signal_line, route_line, message_lines}
-use Rattle.line_writer.specs.Fitting.{LinesFit}
+use Rattle.books.specs.Book.{placement, route_between}
+use Rattle.reading.specs.Written.{signal_line, route_line}
 
--- the S lines of signals whose numbers and starts stand side by side
-abbrev pub signal_lines : List ℕ → List ℕ → List Line
-signal_lines ns ss = map signal_line (side_by_side ns ss)
+-- the line of a signal by its number and its start, and that of a route by its places
+abbrev pub signal_line_of : ℕ → ℕ → Line
+signal_line_of n s = signal_line (placement n s)
 
--- the M lines with their S lines, by the columns
-abbrev pub shown_lines : List ℕ → List ℕ → List ℕ → List ℕ → List Line
-shown_lines is es ns ss = message_lines (shown 0 is es (side_by_side ns ss))
+abbrev pub route_line_of : ℕ → ℕ → Line
+route_line_of f t = route_line (route_between f t)
 
--- the R lines of routes whose places stand side by side
-abbrev pub route_lines : List ℕ → List ℕ → List Line
-route_lines fs ts = map route_line (routes_side_by_side fs ts)
+-- no such line has more bytes, whatever its numbers
+abbrev pub pair_line_limit : ℕ
+pair_line_limit = 32
 
--- the columns are those of messages whose lines can be written, and there is room for them from the front on
-pub record MessagesFit (out is es ns ss : List ℕ) : Type 0 where
-  pub messages : List Message
-  pub ids_are : is ≡ identifiers messages
-  pub ends_are : es ≡ ends_after 0 messages
-  pub numbers_are : ns ≡ numbers (all_placements messages)
-  pub starts_are : ss ≡ placement_starts (all_placements messages)
-  pub fit : LinesFit out 0 (message_lines messages)
+-- the lines that pairs of entries make, of two columns side by side
+abbrev pub pair_lines : (ℕ → ℕ → Line) → List ℕ → List ℕ → List Line
+pair_lines line [] ys = []
+pair_lines line (x ∷ xs) [] = []
+pair_lines line (x ∷ xs) (y ∷ ys) = line x y ∷ pair_lines line xs ys

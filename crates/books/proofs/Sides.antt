@@ -6,8 +6,8 @@ use native.Mathlib.Omega.{arith}
 use native.Mathlib.Numerals.{add-one}
 use lib.ListN.{length, get_or, drop, drop_of_length-le}
 use lib.Seq.{drop-cons}
-use Rattle.books.specs.Book.{Placement, Route, numbers, route_between}
-use Rattle.books.specs.Words.{placement_starts, side_by_side, routes_side_by_side}
+use Rattle.books.specs.Book.{Placement, numbers}
+use Rattle.books.specs.Words.{placement_starts, side_by_side}
 
 pub side_back : (ps : List Placement) → side_by_side (numbers ps) (placement_starts ps) ≡ ps
 unfolding side_by_side
@@ -52,16 +52,3 @@ rest_more ns ss i h e =
 pub rest_none : (ns ss : List ℕ) (i : ℕ) → length ns ≤ i → rest ns ss i ≡ []
 unfolding side_by_side
 rest_none ns ss i h = ap (λ (l : List ℕ). side_by_side l (drop i ss)) (drop_of_length-le ns h)
-
--- ---- routes from i on
-abbrev pub routes_from_on : List ℕ → List ℕ → ℕ → List Route
-routes_from_on fs ts i = routes_side_by_side (drop i fs) (drop i ts)
-
-pub routes_more : (fs ts : List ℕ) (i : ℕ) → i < length fs → length ts ≡ length fs → routes_from_on fs ts i ≡ route_between (get_or fs i 0) (get_or ts i 0) ∷ routes_from_on fs ts (i + 1)
-unfolding routes_side_by_side
-routes_more fs ts i h e =
-    ap (λ (l : List ℕ). routes_side_by_side l (drop i ts)) (from fs i h) ∙ ap (λ (l : List ℕ). routes_side_by_side (get_or fs i 0 ∷ drop (i + 1) fs) l) (from ts i (omega arith))
-
-pub no_routes_left : (fs ts : List ℕ) (i : ℕ) → length fs ≤ i → routes_from_on fs ts i ≡ []
-unfolding routes_side_by_side
-no_routes_left fs ts i h = ap (λ (l : List ℕ). routes_side_by_side l (drop i ts)) (drop_of_length-le fs h)

@@ -10,7 +10,8 @@ use native.Mathlib.Omega.{arith}
 use lib.Pow.{pow_pos}
 use borrow.Author.Tests.{le-leb, lt-leb}
 use Rattle.rows.specs.declared.Row.{Row}
-use Rattle.catalogue.specs.declared.Class.TheVariants.{TooWide}
+use Rattle.catalogue.specs.declared.NoClass.TheVariants.{TooWide}
+use Rattle.std.specs.Prelude.{Ok, Err}
 use Rattle.catalogue.specs.declared.Cut.{Cut}
 use Rattle.catalogue.specs.Find.{bits_in_spec, bits_of_spec, row_of}
 use Rattle.catalogue.specs.Shapes.{shape_of, row_shaped, forget}
@@ -50,19 +51,19 @@ part_above b v e = go (dec_le (2 ^ b) v)
 whole_class : (o : Option Row) (window : ℕ) → (cut_for o window).raw.0 ≡ window → (cut_for o window).class ≡ class_for o (record { 0 = window })
 whole_class none window e = refl
 whole_class (some r) window e =
-    ap (λ (n : ℕ). class_in_spec r (record { 0 = n })) e
-    ∙ sym (ap (λ (t : _). cond t TooWide (class_in_spec r (record { 0 = window }))) (lt-leb (2 ^ r.bits) window (whole_below r.bits window e)))
+    ap (λ (n : ℕ). Ok (class_in_spec r (record { 0 = n }))) e
+    ∙ sym (ap (λ (t : _). cond t (Err TooWide) (Ok (class_in_spec r (record { 0 = window })))) (lt-leb (2 ^ r.bits) window (whole_below r.bits window e)))
 
-part_wide : (o : Option Row) (window : ℕ) → ((cut_for o window).raw.0 ≡ window → ⊥) → TooWide ≡ class_for o (record { 0 = window })
+part_wide : (o : Option Row) (window : ℕ) → ((cut_for o window).raw.0 ≡ window → ⊥) → Err TooWide ≡ class_for o (record { 0 = window })
 part_wide none window e = absurd (e refl)
-part_wide (some r) window e = sym (ap (λ (t : _). cond t TooWide (class_in_spec r (record { 0 = window }))) (le-leb (2 ^ r.bits) window (part_above r.bits window e)))
+part_wide (some r) window e = sym (ap (λ (t : _). cond t (Err TooWide) (Ok (class_in_spec r (record { 0 = window })))) (le-leb (2 ^ r.bits) window (part_above r.bits window e)))
 
 -- the class of a number that is the count, and of one that is more
 pub class_cut : (n window : ℕ) → (cut_of_spec n window).raw.0 ≡ window → (cut_of_spec n window).class ≡ class_of_spec n (record { 0 = window })
 unfolding cut_of_spec class_of_spec
 class_cut n window = whole_class (row_of n) window
 
-pub cut_too_wide : (n window : ℕ) → ((cut_of_spec n window).raw.0 ≡ window → ⊥) → TooWide ≡ class_of_spec n (record { 0 = window })
+pub cut_too_wide : (n window : ℕ) → ((cut_of_spec n window).raw.0 ≡ window → ⊥) → Err TooWide ≡ class_of_spec n (record { 0 = window })
 unfolding cut_of_spec class_of_spec
 cut_too_wide n window = part_wide (row_of n) window
 
@@ -78,7 +79,7 @@ count_in (some r) window h = refl
 
 class_within : (o : Option Row) (window : ℕ) → 0 < bits_in_spec o → (cut_for o window).class ≡ class_for o (record { 0 = window % 2 ^ bits_in_spec o })
 class_within none window h = absurd (omega (arith, h))
-class_within (some r) window h = sym (ap (λ (t : _). cond t TooWide (class_in_spec r (low_bits r.bits window))) (lt-leb (2 ^ r.bits) (window % 2 ^ r.bits) (mod-lt window (pow_pos r.bits))))
+class_within (some r) window h = sym (ap (λ (t : _). cond t (Err TooWide) (Ok (class_in_spec r (low_bits r.bits window)))) (lt-leb (2 ^ r.bits) (window % 2 ^ r.bits) (mod-lt window (pow_pos r.bits))))
 
 -- its bits, its count and the class of that
 pub cut_bits : (n window : ℕ) → (cut_of_spec n window).bits ≡ bits_of_spec n

@@ -6,10 +6,12 @@ use mathlib.Core.Bool.{Bool, true, false, cond, true≢false, and-eq-true_iff}
 use mathlib.Core.Option.{Option, none, some}
 use Prim.Native.Nat.{ℕ}
 use native.Mathlib.Omega.{arith}
-use lib.Dec.{leb, eqb}
+use lib.Dec.{leb}
 use borrow.Author.Tests.{leb-true, le-leb}
 use Rattle.rows.specs.declared.Mark.{Mark}
-use Rattle.rows.specs.Rows.{invalid_kind, absent_kind, error_kind, reserved_kind, unmarked}
+use Rattle.rows.specs.declared.MarkKind.{MarkKind}
+use Rattle.rows.specs.declared.MarkKind.TheVariants as Kind
+use Rattle.rows.specs.Rows.{unmarked_kind, unmarked}
 use Rattle.rows.specs.Rule.{IsKind, Kinded, a_mark, no_mark}
 use Rattle.catalogue.specs.declared.Raw.{Raw}
 use Rattle.catalogue.specs.declared.Class.{Class}
@@ -45,6 +47,22 @@ module _ (first last count : ℕ) where
 pub no_code : Kinded unmarked
 no_code = no_mark refl (omega arith)
 
+-- what is unmarked is of none of the kinds
+IsMarked : MarkKind → Type 0
+IsMarked Kind.Unmarked = ⊥
+IsMarked Kind.Invalid = Unit
+IsMarked Kind.Absent = Unit
+IsMarked Kind.Error = Unit
+IsMarked Kind.Reserved = Unit
+
+pub unmarked_none : IsKind unmarked_kind → ⊥
+unfolding IsMarked
+unmarked_none (inl e) = subst IsMarked (sym e) tt
+unmarked_none (inr (inl e)) = subst IsMarked (sym e) tt
+unmarked_none (inr (inr (inl e))) = subst IsMarked (sym e) tt
+unmarked_none (inr (inr (inr (inr x)))) = elim x [ ]
+unmarked_none (inr (inr (inr (inl e)))) = subst IsMarked (sym e) tt
+
 -- a mark that has a count is of one of the kinds
 pub has_kind : (m : Mark) (raw : Raw) → Kinded m → has m raw ≡ true → IsKind m.kind
 has_kind m raw (a_mark k h) e = k
@@ -53,20 +71,20 @@ has_kind m raw (no_mark k h) e = let b = yes_between m.first m.last raw.0 e in a
 module _ (raw : Raw) where
   -- what holds of the class of each kind, and of none, holds of that of any kind
   pub of_kind_law : (P : Option Class → Type 0) → P (some (Invalid raw)) → P (some (Absent raw)) → P (some (Error raw)) → P (some (Reserved raw)) → P none
-      → (kind : ℕ) → P (mark_class kind raw)
-  of_kind_law P i a e r n kind = either (eqb kind invalid_kind) i (either (eqb kind absent_kind) a (either (eqb kind error_kind) e (either (eqb kind reserved_kind) r n)))
-    where
-      either : {x y : Option Class} (b : Bool) → P x → P y → P (cond b x y)
-      either true p q = p
-      either false p q = q
+      → (kind : MarkKind) → P (mark_class kind raw)
+  of_kind_law P i a e r n Kind.Unmarked = n
+  of_kind_law P i a e r n Kind.Invalid = i
+  of_kind_law P i a e r n Kind.Absent = a
+  of_kind_law P i a e r n Kind.Error = e
+  of_kind_law P i a e r n Kind.Reserved = r
 
   -- each of the kinds gives a class
-  pub class_given : (kind : ℕ) → IsKind kind → (k : Class) × (mark_class kind raw ≡ some k)
-  class_given kind (inl e) = subst (λ (n : ℕ). (k : Class) × (mark_class n raw ≡ some k)) (sym e) (Invalid raw, refl)
-  class_given kind (inr (inl e)) = subst (λ (n : ℕ). (k : Class) × (mark_class n raw ≡ some k)) (sym e) (Absent raw, refl)
-  class_given kind (inr (inr (inl e))) = subst (λ (n : ℕ). (k : Class) × (mark_class n raw ≡ some k)) (sym e) (Error raw, refl)
-  class_given kind (inr (inr (inr (inr x4)))) = elim x4 [ ]
-  class_given kind (inr (inr (inr (inl e)))) = subst (λ (n : ℕ). (k : Class) × (mark_class n raw ≡ some k)) (sym e) (Reserved raw, refl)
+  pub class_given : (kind : MarkKind) → IsKind kind → (k : Class) × (mark_class kind raw ≡ some k)
+  class_given Kind.Unmarked is = absurd (unmarked_none is)
+  class_given Kind.Invalid is = (Invalid raw, refl)
+  class_given Kind.Absent is = (Absent raw, refl)
+  class_given Kind.Error is = (Error raw, refl)
+  class_given Kind.Reserved is = (Reserved raw, refl)
 
   -- what a mark says of a count: a class, or that it has it not
   abbrev pub MarkSays : Mark → Option Class → Type 0

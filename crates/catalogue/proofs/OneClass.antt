@@ -10,7 +10,9 @@ use Rattle.rows.specs.Rule.{Rule}
 use Rattle.catalogue.specs.declared.Raw.{Raw}
 use Rattle.catalogue.specs.declared.Thousandths.{Thousandths}
 use Rattle.catalogue.specs.declared.Class.{Class}
-use Rattle.catalogue.specs.declared.Class.TheVariants.{Value, Invalid, Absent, Error, Reserved, Outside, NotInCatalogue, TooWide}
+use Rattle.catalogue.specs.declared.Class.TheVariants.{Value, Invalid, Absent, Error, Reserved, Outside}
+use Rattle.catalogue.specs.declared.NoClass.TheVariants.{NotInCatalogue, TooWide}
+use Rattle.std.specs.Prelude.{Ok, Err}
 use Rattle.catalogue.specs.Find.{row_of}
 use Rattle.catalogue.specs.Class.{between, has, mark_class, marked_by, or_else, reading_of, class_in_spec, class_for, class_of_spec, class_number}
 use Rattle.catalogue.specs.Belongs.{In, Gives, Belongs, by_mark1, by_mark2, by_mark3, as_value, as_outside}
@@ -99,13 +101,13 @@ module _ (P : Class → Type 0) (raw : Raw) (invalid : P (Invalid raw)) (absent 
       (of_range (between r.lowest r.highest raw.0) (reading_of r raw) value outside)))
 
 -- none of them is a refusal
-pub not_refused : (raw : Raw) (r : Row) → class_number (class_in_spec r raw) ≡ 0
-not_refused raw r = of_class (λ k. class_number k ≡ 0) raw refl refl refl refl r refl refl
+pub not_refused : (raw : Raw) (r : Row) → class_number (Ok (class_in_spec r raw)) ≡ 0
+not_refused raw r = refl
 
 -- ---- by the signal's number
 
 module _ (n : ℕ) (raw : Raw) where
-  pub no_signal : row_of n ≡ none → class_of_spec n raw ≡ NotInCatalogue
+  pub no_signal : row_of n ≡ none → class_of_spec n raw ≡ Err NotInCatalogue
   unfolding class_of_spec
   no_signal e = ap (λ (o : Option Row). class_for o raw) e
 
@@ -113,17 +115,17 @@ module _ (n : ℕ) (raw : Raw) where
     pub rule_found : Rule r
     rule_found = subst RuleOf e (rule_of n)
 
-    pub too_wide : 2 ^ r.bits ≤ raw.0 → class_of_spec n raw ≡ TooWide
+    pub too_wide : 2 ^ r.bits ≤ raw.0 → class_of_spec n raw ≡ Err TooWide
     unfolding class_of_spec
     too_wide h = ap (λ (o : Option Row). class_for o raw) e ∙ simp (le-leb (2 ^ r.bits) raw.0 h)
 
     -- a count that fits has a class, and belongs to no other
-    pub in_row : raw.0 < 2 ^ r.bits → class_of_spec n raw ≡ class_in_spec r raw
+    pub in_row : raw.0 < 2 ^ r.bits → class_of_spec n raw ≡ Ok (class_in_spec r raw)
     unfolding class_of_spec
     in_row h = ap (λ (o : Option Row). class_for o raw) e ∙ simp (lt-leb (2 ^ r.bits) raw.0 h)
 
-    pub has_class : raw.0 < 2 ^ r.bits → Belongs r raw (class_of_spec n raw)
-    has_class h = subst (Belongs r raw) (sym (in_row h)) (belongs r raw rule_found)
+    pub has_class : raw.0 < 2 ^ r.bits → (k : Class) × ((class_of_spec n raw ≡ Ok k) × Belongs r raw k)
+    has_class h = (class_in_spec r raw, (in_row h, belongs r raw rule_found))
 
-    pub only_class : raw.0 < 2 ^ r.bits → {k : Class} → Belongs r raw k → k ≡ class_of_spec n raw
-    only_class h b = one_class r raw rule_found b ∙ sym (in_row h)
+    pub only_class : raw.0 < 2 ^ r.bits → {k : Class} → Belongs r raw k → Ok k ≡ class_of_spec n raw
+    only_class h b = ap (λ k. Ok k) (one_class r raw rule_found b) ∙ sym (in_row h)

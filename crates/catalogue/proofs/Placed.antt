@@ -7,15 +7,14 @@ use Prim.Native.Nat.{ℕ, zero, suc, ◌-◌, ◌≤◌, ◌<◌}
 use native.Mathlib.Omega.{arith}
 use lib.Arith.{lt_of_le-ne}
 use lib.Dec.{eqb, leb, ltb}
-use lib.ListN.{length, get_or, length-map}
+use lib.ListN.{length, get_or}
 use borrow.Author.Tests.{eqb-true, eqb-false, ne_eqb, leb-true, le-leb, lt-leb, ltb-true, ltb-false}
+use Rattle.std.specs.Prelude.{Option, Some, None}
 use Rattle.rows.specs.declared.Row.{Row}
 use Rattle.rows.specs.Rows.{rows}
 use Rattle.rows.specs.Widths.{widths_of}
 use Rattle.catalogue.specs.Find.{row_in, row_of, bits_in_spec, bits_of_spec}
 use Rattle.catalogue.specs.Places.{place_in, place_of, no_place_spec, number_limit, hundred, surpluses, bounds, Placed}
-use Rattle.catalogue.specs.declared.places.Place.{Place}
-use Rattle.catalogue.specs.declared.places.Place.TheVariants.{At, Nowhere}
 
 -- ---- a test of every number below a limit
 all_below : ℕ → (ℕ → Bool) → Bool
@@ -49,9 +48,6 @@ module _ (n : ℕ) (h : n < number_limit) where
 
   then_tested : (leb (get_or bounds (hundred n) 0) no_place_spec ≡ true) × (eqb (computed n) (place_of n) ≡ true)
   then_tested = (and-eq-true_iff (leb (get_or bounds (hundred n) 0) no_place_spec) _).0 first_tested.1
-
-  pub surplus_within : get_or surpluses (hundred n) 0 ≤ n
-  surplus_within = leb-true _ _ first_tested.0
 
   pub bound_within : get_or bounds (hundred n) 0 ≤ no_place_spec
   bound_within = leb-true _ _ then_tested.0
@@ -116,19 +112,7 @@ one_number n m e h =
 
 -- ---- what the code does with the columns lent to it
 module _ (above : List ℕ) (n k : ℕ) (column : above ≡ surpluses) (h : n < number_limit) (at : k ≡ hundred n) where
-  few : k < 20
-  few = let below : n < 2000 = h in omega (arith, at, below)
-
-  pub in_above : k < length above
-  in_above = rw column few
-
-  pub no_less : get_or above k 0 ≤ n
-  no_less = rw (column, at) (surplus_within n h)
-
   module _ (ends : List ℕ) (ends-column : ends ≡ bounds) where
-    pub in_ends : k < length ends
-    in_ends = rw ends-column few
-
     module _ (bound : ℕ) (b : bound ≡ get_or ends k 0) where
       told : cond (leb bound (n - get_or above k 0)) no_place_spec (n - get_or above k 0) ≡ place_of n
       told = rw (b, column, ends-column, at) (computed_place n h)
@@ -142,12 +126,6 @@ module _ (above : List ℕ) (n k : ℕ) (column : above ≡ surpluses) (h : n < 
           (ap (λ (t : Bool). cond t no_place_spec (n - get_or above k 0)) (sym (lt-leb bound (n - get_or above k 0) p)) ∙ told, omega (arith, p, most))
 
 -- ---- what is found
-pub at_place : (n : ℕ) (r : Place) (p : ℕ) → Placed n r → r ≡ At p → (p ≡ place_of n) × (p < no_place_spec)
-at_place n r p h e = subst (λ (x : Place). Placed n x) e h
-
-pub nowhere : (n : ℕ) (r : Place) → Placed n r → r ≡ Nowhere → place_of n ≡ no_place_spec
-nowhere n r h e = subst (λ (x : Place). Placed n x) e h
-
 -- there is one, and it is the only one
 most : (n : ℕ) (rs : List Row) → place_in n rs ≤ length rs
 most n [] = omega arith
@@ -161,18 +139,18 @@ place_most : (n : ℕ) → place_of n ≤ no_place_spec
 unfolding place_of
 place_most n = subst (λ (k : ℕ). place_in n rows ≤ k) long (most n rows)
 
-pub found_place : (n : ℕ) → (r : Place) × Placed n r
+pub found_place : (n : ℕ) → (r : Option ℕ) × Placed n r
 found_place n = go (ltb (place_of n) no_place_spec) refl
   where
-    go : (b : Bool) → ltb (place_of n) no_place_spec ≡ b → (r : Place) × Placed n r
-    go true e = (At (place_of n), (refl, ltb-true _ _ e))
-    go false e = let past = ltb-false (place_of n) no_place_spec e in (Nowhere, omega (arith, past, place_most n))
+    go : (b : Bool) → ltb (place_of n) no_place_spec ≡ b → (r : Option ℕ) × Placed n r
+    go true e = (Some (place_of n), (refl, ltb-true _ _ e))
+    go false e = let past = ltb-false (place_of n) no_place_spec e in (None, omega (arith, past, place_most n))
 
-pub one_place : (n : ℕ) (r s : Place) → Placed n r → Placed n s → r ≡ s
-one_place n (At p) (At q) h k = ap At (h.0 ∙ sym k.0)
-one_place n (At p) Nowhere h k = absurd (omega (arith, h.0, h.1, k))
-one_place n Nowhere (At q) h k = absurd (omega (arith, h, k.0, k.1))
-one_place n Nowhere Nowhere h k = refl
+pub one_place : (n : ℕ) (r s : Option ℕ) → Placed n r → Placed n s → r ≡ s
+one_place n (Some p) (Some q) h k = ap Some (h.0 ∙ sym k.0)
+one_place n (Some p) None h k = absurd (omega (arith, h.0, h.1, k))
+one_place n None (Some q) h k = absurd (omega (arith, h, k.0, k.1))
+one_place n None None h k = refl
 
 -- ---- bits at a place
 pub no_bits : (n : ℕ) → place_of n ≡ no_place_spec → bits_of_spec n ≡ 0
@@ -195,9 +173,6 @@ all_wide_law = refl
 
 -- what is read there is the signal's bits, and there are some
 module _ (widths : List ℕ) (n p : ℕ) (column : widths ≡ widths_of rows) (place : (p ≡ place_of n) × (p < no_place_spec)) where
-  pub in_widths : p < length widths
-  in_widths = rw column (subst (λ (k : ℕ). p < k) (sym (length-map rows (λ (r : Row). r.bits) ∙ long)) place.1)
-
   module _ (b : ℕ) (e : b ≡ get_or widths p 0) where
     pub its_bits : b ≡ bits_of_spec n
     its_bits = e ∙ (rw (column, place.0) (bits_there n))

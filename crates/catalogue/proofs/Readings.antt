@@ -11,6 +11,7 @@ use lib.Dec.{T, leb, ltb, le→leb, lt→ltb, ltb→lt}
 use lib.Signed.{mag, lt_z, le_z, ◌<ℤ◌, ◌≤ℤ◌, ≤ℤ_refl}
 use lib.IntN.{ℤ, pos, negsuc, nat_abs, ◌+ℤ◌}
 use borrow.Author.Tests.{ltb-true, ltb-false}
+use Rattle.rows.specs.declared.MarkKind.{MarkKind}
 use Rattle.rows.specs.declared.Row.{Row}
 use Rattle.rows.specs.Rows.{rows}
 use Rattle.rows.specs.Rule.{Rule}
@@ -21,7 +22,10 @@ use Rattle.rows.proofs.Limits.{raw_limits}
 use Rattle.catalogue.specs.declared.Raw.{Raw}
 use Rattle.catalogue.specs.declared.Thousandths.{Thousandths}
 use Rattle.catalogue.specs.declared.Class.{Class}
-use Rattle.catalogue.specs.declared.Class.TheVariants.{Value, Invalid, Absent, Error, Reserved, Outside, NotInCatalogue, TooWide}
+use Rattle.catalogue.specs.declared.Class.TheVariants.{Value, Invalid, Absent, Error, Reserved, Outside}
+use Rattle.catalogue.specs.declared.NoClass.{NoClass}
+use Rattle.catalogue.specs.declared.NoClass.TheVariants.{TooWide}
+use Rattle.std.specs.Prelude.{Result, Ok, Err, IfOk}
 use Rattle.catalogue.specs.Find.{row_of}
 use Rattle.catalogue.specs.Class.{mark_class, reading_of, class_in_spec, class_for, class_of_spec, class_number}
 use Rattle.catalogue.specs.Belongs.{WithinLimits, Belongs, by_mark1, by_mark2, by_mark3, as_value, as_outside}
@@ -81,8 +85,6 @@ Reads r raw (Absent x) = Unit
 Reads r raw (Error x) = Unit
 Reads r raw (Reserved x) = Unit
 Reads r raw (Outside x) = Unit
-Reads r raw NotInCatalogue = Unit
-Reads r raw TooWide = Unit
 
 module _ (r : Row) (rule : Rule r) (raw : Raw) where
   -- no kind of marks gives a value
@@ -90,7 +92,7 @@ module _ (r : Row) (rule : Rule r) (raw : Raw) where
   ByMark none = Unit
   ByMark (some k) = Reads r raw k
 
-  by_mark : (kind : ℕ) {k : Class} → mark_class kind raw ≡ some k → Reads r raw k
+  by_mark : (kind : MarkKind) {k : Class} → mark_class kind raw ≡ some k → Reads r raw k
   unfolding ByMark
   by_mark kind e = subst ByMark e (of_kind_law raw ByMark tt tt tt tt tt kind)
 
@@ -101,15 +103,15 @@ module _ (r : Row) (rule : Rule r) (raw : Raw) where
   reads (as_value f h) = (h, refl)
   reads (as_outside f h) = tt
 
-  reads_or_wide : (b : Bool) → Reads r raw (cond b TooWide (class_in_spec r raw))
+  reads_or_wide : (b : Bool) → IfOk (cond b (Err TooWide) (Ok (class_in_spec r raw))) (Reads r raw)
   reads_or_wide true = tt
   reads_or_wide false = reads (belongs r raw rule)
 
-  value_reads : (t : Thousandths) → class_for (some r) raw ≡ Value t → WithinLimits r raw × (t ≡ reading_of r raw)
-  value_reads t e = subst (Reads r raw) e (reads_or_wide (leb (2 ^ r.bits) raw.0))
+  value_reads : (t : Thousandths) → class_for (some r) raw ≡ Ok (Value t) → WithinLimits r raw × (t ≡ reading_of r raw)
+  value_reads t e = subst (λ (k : Result Class NoClass). IfOk k (Reads r raw)) e (reads_or_wide (leb (2 ^ r.bits) raw.0))
 
   -- a value's reading lies between those of the raw limits
-  pub within_limits : (t : Thousandths) → class_for (some r) raw ≡ Value t → ((reading_of r (record { 0 = r.lowest })).0 ≤ℤ t.0) × (t.0 ≤ℤ (reading_of r (record { 0 = r.highest })).0)
+  pub within_limits : (t : Thousandths) → class_for (some r) raw ≡ Ok (Value t) → ((reading_of r (record { 0 = r.lowest })).0 ≤ℤ t.0) × (t.0 ≤ℤ (reading_of r (record { 0 = r.highest })).0)
   within_limits t e =
       let v = value_reads t e in (
         subst (λ (x : Thousandths). (reading_of r (record { 0 = r.lowest })).0 ≤ℤ x.0) (sym v.1) (not_falling r rule (record { 0 = r.lowest }) raw v.0.0),
@@ -117,17 +119,17 @@ module _ (r : Row) (rule : Rule r) (raw : Raw) where
       )
 
   -- and between the printed ones, which these are
-  within_those : (t : Thousandths) (p : PrintedLimits) → RawLimits r (some p) → class_for (some r) raw ≡ Value t → (p.lowest ≤ℤ t.0) × (t.0 ≤ℤ p.highest)
+  within_those : (t : Thousandths) (p : PrintedLimits) → RawLimits r (some p) → class_for (some r) raw ≡ Ok (Value t) → (p.lowest ≤ℤ t.0) × (t.0 ≤ℤ p.highest)
   within_those t p limits e =
       let v = within_limits t e in
       (subst (λ (z : ℤ). z ≤ℤ t.0) limits.0.reads v.0, subst (λ (z : ℤ). t.0 ≤ℤ z) limits.1.reads v.1)
 
 -- a signal's value lies between the limits that are printed for it
-pub within_printed : (n : ℕ) (raw : Raw) (t : Thousandths) (p : PrintedLimits) → class_of_spec n raw ≡ Value t → limits_of n ≡ some p → (p.lowest ≤ℤ t.0) × (t.0 ≤ℤ p.highest)
+pub within_printed : (n : ℕ) (raw : Raw) (t : Thousandths) (p : PrintedLimits) → class_of_spec n raw ≡ Ok (Value t) → limits_of n ≡ some p → (p.lowest ≤ℤ t.0) × (t.0 ≤ℤ p.highest)
 unfolding class_of_spec
 within_printed n raw t p e printed = go (row_of n) (found n) (rule_of n) e
   where
-    go : (o : Option Row) → FoundIn n rows o → RuleOf o → class_for o raw ≡ Value t → (p.lowest ≤ℤ t.0) × (t.0 ≤ℤ p.highest)
+    go : (o : Option Row) → FoundIn n rows o → RuleOf o → class_for o raw ≡ Ok (Value t) → (p.lowest ≤ℤ t.0) × (t.0 ≤ℤ p.highest)
     go none f rule k = absurd (omega (arith, ap class_number k))
     go (some r) f rule k =
         let here : RawLimits r (limits_of r.number) = subst (λ (x : Row). RawLimits x (limits_of x.number)) f.1.1.0 (raw_limits f.0 (subst (λ (m : ℕ). f.0 < m) count f.1.0)) in

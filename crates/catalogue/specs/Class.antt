@@ -1,28 +1,30 @@
 -- What a raw count of a signal stands for. Assumes nothing.
-use Rattle.std.specs.Prelude.{Bool, cond, ◌&&◌, ℕ, ◌^◌, leb, eqb, ℤ, pos}
+use Rattle.std.specs.Prelude.{Bool, cond, ◌&&◌, ℕ, ◌^◌, leb, ℤ, pos, Result, Ok, Err}
 use Rattle.std.proofs.Math.Option.{Option, none, some}
 use Rattle.rows.specs.declared.Mark.{Mark}
+use Rattle.rows.specs.declared.MarkKind.{MarkKind}
+use Rattle.rows.specs.declared.MarkKind.TheVariants as Kind
 use Rattle.rows.specs.declared.Row.{Row}
 use Rattle.catalogue.specs.declared.Raw.{Raw}
 use Rattle.catalogue.specs.declared.Thousandths.{Thousandths}
 use Rattle.catalogue.specs.declared.Class.{Class}
-use Rattle.catalogue.specs.declared.Class.TheVariants.{Value, Invalid, Absent, Error, Reserved, Outside, NotInCatalogue, TooWide}
+use Rattle.catalogue.specs.declared.Class.TheVariants.{Value, Invalid, Absent, Error, Reserved, Outside}
+use Rattle.catalogue.specs.declared.NoClass.{NoClass}
+use Rattle.catalogue.specs.declared.NoClass.TheVariants.{NotInCatalogue, TooWide}
 use Rattle.rows.specs.RawLimits.{raw_reading}
-use Rattle.rows.specs.Rows.{invalid_kind, absent_kind, error_kind, reserved_kind}
 use Rattle.catalogue.specs.Find.{row_of}
 
 -- first <= count <= last
 unfoldable pub between : ℕ → ℕ → ℕ → Bool
 between first last count = leb first count && leb count last
 
--- each kind of marks with the class that it gives; a kind that is none of these gives none
-abbrev pub mark_class : ℕ → Raw → Option Class
-mark_class kind raw =
-    cond (eqb kind invalid_kind) (some (Invalid raw))
-    (cond (eqb kind absent_kind) (some (Absent raw))
-    (cond (eqb kind error_kind) (some (Error raw))
-    (cond (eqb kind reserved_kind) (some (Reserved raw))
-    none)))
+-- each kind of marks with the class that it gives; what is unmarked gives none
+abbrev pub mark_class : MarkKind → Raw → Option Class
+mark_class Kind.Unmarked raw = none
+mark_class Kind.Invalid raw = some (Invalid raw)
+mark_class Kind.Absent raw = some (Absent raw)
+mark_class Kind.Error raw = some (Error raw)
+mark_class Kind.Reserved raw = some (Reserved raw)
 
 -- raw x resolution + offset, exactly
 abbrev pub reading_of : Row → Raw → Thousandths
@@ -51,34 +53,32 @@ class_in_spec r raw =
     (Outside raw))))
 
 -- no such signal; or too wide for it; or its class in the signal's row
-abbrev pub class_for : Option Row → Raw → Class
-class_for none raw = NotInCatalogue
-class_for (some r) raw = cond (leb (2 ^ r.bits) raw.0) TooWide (class_in_spec r raw)
+abbrev pub class_for : Option Row → Raw → Result Class NoClass
+class_for none raw = Err NotInCatalogue
+class_for (some r) raw = cond (leb (2 ^ r.bits) raw.0) (Err TooWide) (Ok (class_in_spec r raw))
 
 -- the class of a raw count of the signal with a number
-unfoldable pub class_of_spec : ℕ → Raw → Class
+unfoldable pub class_of_spec : ℕ → Raw → Result Class NoClass
 class_of_spec number raw = class_for (row_of number) raw
 
 -- ---- what document 01 says for each case
 
+-- the number of each refusal
+abbrev pub no_class_number : NoClass → ℕ
+no_class_number NotInCatalogue = 3
+no_class_number TooWide = 26
+
 -- the refusal's number, 0 where nothing is refused
-abbrev pub class_number : Class → ℕ
-class_number (Value t) = 0
-class_number (Invalid raw) = 0
-class_number (Absent raw) = 0
-class_number (Error raw) = 0
-class_number (Reserved raw) = 0
-class_number (Outside raw) = 0
-class_number NotInCatalogue = 3
-class_number TooWide = 26
+abbrev pub class_number : Result Class NoClass → ℕ
+class_number (Ok k) = 0
+class_number (Err e) = no_class_number e
 
 -- the number that goes with it: the thousandths of a value, the raw count of any other class
-abbrev pub carried_by : Class → ℤ
-carried_by (Value t) = t.0
-carried_by (Invalid raw) = pos raw.0
-carried_by (Absent raw) = pos raw.0
-carried_by (Error raw) = pos raw.0
-carried_by (Reserved raw) = pos raw.0
-carried_by (Outside raw) = pos raw.0
-carried_by NotInCatalogue = pos 0
-carried_by TooWide = pos 0
+abbrev pub carried_by : Result Class NoClass → ℤ
+carried_by (Ok (Value t)) = t.0
+carried_by (Ok (Invalid raw)) = pos raw.0
+carried_by (Ok (Absent raw)) = pos raw.0
+carried_by (Ok (Error raw)) = pos raw.0
+carried_by (Ok (Reserved raw)) = pos raw.0
+carried_by (Ok (Outside raw)) = pos raw.0
+carried_by (Err e) = pos 0

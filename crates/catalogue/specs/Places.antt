@@ -1,11 +1,9 @@
 -- The place of a signal in the table, and the columns by which the code finds it, its bits and its last start: numbers go by the
 -- hundred, a hundred for each table of the standard. Assumes nothing.
-use Rattle.std.specs.Prelude.{◌≡◌, cond, List, [], ◌∷◌, ℕ, suc, ◌*◌, ◌/◌, ◌<◌, eqb}
+use Rattle.std.specs.Prelude.{◌≡◌, Option, Some, None, cond, List, [], ◌∷◌, ℕ, suc, ◌*◌, ◌/◌, ◌<◌, eqb}
 use Rattle.rows.specs.declared.Row.{Row}
 use Rattle.rows.specs.Rows.{rows}
 use Rattle.rows.specs.Widths.{widths_of, last_starts_of}
-use Rattle.catalogue.specs.declared.places.Place.{Place}
-use Rattle.catalogue.specs.declared.places.Place.TheVariants.{At, Nowhere}
 
 -- the place of the first row of a table that has the number n, and how many rows there are if none has it
 abbrev pub place_in : ℕ → List Row → ℕ
@@ -28,9 +26,9 @@ abbrev pub counter_place : ℕ
 counter_place = 50
 
 -- what is found by the number n: the place of that signal, or nothing where the catalogue has no such signal
-abbrev pub Placed : ℕ → Place → Type 0
-Placed n (At p) = (p ≡ place_of n) × (p < no_place_spec)
-Placed n Nowhere = place_of n ≡ no_place_spec
+abbrev pub Placed : ℕ → Option ℕ → Type 0
+Placed n (Some p) = (p ≡ place_of n) × (p < no_place_spec)
+Placed n None = place_of n ≡ no_place_spec
 
 -- all numbers are below
 abbrev pub number_limit : ℕ

@@ -8,12 +8,13 @@ ghost use Rattle.catalogue.specs.Class.{between, mark_class, class_in_spec};
 ghost use Rattle.catalogue.specs.Cut.{cut_for};
 
 use crate::{Class, Cut, Raw, Thousandths};
-use rows::{ABSENT, ERROR, INVALID, RESERVED, UNMARKED};
+use rows::MarkKind::Unmarked;
+use rows::{Mark, MarkKind};
 
 fn is_between(first: u32, last: u32, count: u32) -> bool
     ensures { result ≡ between first last count }
 {
-    first <= count && count <= last
+    (first..=last).contains(&count)
 }
 
 // The lowest `bits` bits of a window.
@@ -21,31 +22,29 @@ fn low_bits(window: u32, bits: u32) -> u32
     requires { bits ≤ most_bits }
     ensures { result ≡ window % 2 ^ bits }
 {
-    (window as u64 % (1 << bits)) as u32
+    (u64::from(window) % (1 << bits)) as u32
 }
 
-// The class that a mark gives, by its kind.
-fn marked(kind: u8, raw: Raw) -> Class
+// The class that a mark gives, by its kind. What is unmarked has no count, so its arm is never taken; with `unreachable!()` there a class
+// costs about three instructions more.
+fn marked(kind: MarkKind, raw: Raw) -> Class
     requires { IsKind kind }
     ensures { some result ≡ mark_class kind raw }
 {
-    if kind == INVALID {
-        return Class::Invalid(raw);
+    match kind {
+        MarkKind::Invalid => Class::Invalid(raw),
+        MarkKind::Absent => Class::Absent(raw),
+        MarkKind::Error => Class::Error(raw),
+        MarkKind::Reserved => Class::Reserved(raw),
+        MarkKind::Unmarked => Class::Outside(raw),
     }
-    if kind == ABSENT {
-        return Class::Absent(raw);
-    }
-    if kind == ERROR {
-        return Class::Error(raw);
-    }
-    Class::Reserved(raw)
 }
 
 // The reading of a raw count. Nothing here wraps: a count has 32 bits, a resolution 16 and an offset 32.
 fn reading(raw: Raw, resolution: u16, offset: i32) -> Thousandths
     ensures { result.0 ≡ pos (raw.0 * resolution) +ℤ offset }
 {
-    Thousandths(((raw.0 as u64) * (resolution as u64)) as i64 + offset as i64)
+    Thousandths(i64::from(raw.0) * i64::from(resolution) + i64::from(offset))
 }
 
 // The class of a count in a row with these numbers and marks.
@@ -54,29 +53,23 @@ fn class_in(
     offset: i32,
     lowest: u32,
     highest: u32,
-    kind1: u8,
-    first1: u32,
-    last1: u32,
-    kind2: u8,
-    first2: u32,
-    last2: u32,
-    kind3: u8,
-    first3: u32,
-    last3: u32,
+    mark1: Mark,
+    mark2: Mark,
+    mark3: Mark,
     raw: Raw,
 ) -> Class
-    requires { Kinded (mark kind1 first1 last1) × Kinded (mark kind2 first2 last2) × Kinded (mark kind3 first3 last3) }
-    ensures { result ≡ class_in_spec (row 0 0 resolution offset lowest highest (mark kind1 first1 last1) (mark kind2 first2 last2) (mark kind3 first3 last3)) raw }
+    requires { Kinded mark1 × Kinded mark2 × Kinded mark3 }
+    ensures { result ≡ class_in_spec (row 0 0 resolution offset lowest highest mark1 mark2 mark3) raw }
 {
     let count = raw.0;
-    if is_between(first1, last1, count) {
-        return marked(kind1, raw);
+    if is_between(mark1.first, mark1.last, count) {
+        return marked(mark1.kind, raw);
     }
-    if is_between(first2, last2, count) {
-        return marked(kind2, raw);
+    if is_between(mark2.first, mark2.last, count) {
+        return marked(mark2.kind, raw);
     }
-    if is_between(first3, last3, count) {
-        return marked(kind3, raw);
+    if is_between(mark3.first, mark3.last, count) {
+        return marked(mark3.kind, raw);
     }
     if is_between(lowest, highest, count) {
         return Class::Value(reading(raw, resolution, offset));
@@ -86,19 +79,20 @@ fn class_in(
 
 // The count of so many bits that a window begins with, and its class, in a row with these numbers and three marks; below, with two,
 // one and none.
+// Kept: one function for any marks is no plainer, since each mark of an arm would be a call or a struct of its own.
 pub fn three_marks(
     bits: u32,
     resolution: u16,
     offset: i32,
     lowest: u32,
     highest: u32,
-    kind1: u8,
+    kind1: MarkKind,
     first1: u32,
     last1: u32,
-    kind2: u8,
+    kind2: MarkKind,
     first2: u32,
     last2: u32,
-    kind3: u8,
+    kind3: MarkKind,
     first3: u32,
     last3: u32,
     window: u32,
@@ -107,11 +101,29 @@ pub fn three_marks(
     ensures { result ≡ cut_for (some (row 0 bits resolution offset lowest highest (mark kind1 first1 last1) (mark kind2 first2 last2) (mark kind3 first3 last3))) window }
 {
     let raw = Raw(low_bits(window, bits));
+    let mark1 = Mark {
+        kind: kind1,
+        first: first1,
+        last: last1,
+    };
+    let mark2 = Mark {
+        kind: kind2,
+        first: first2,
+        last: last2,
+    };
+    let mark3 = Mark {
+        kind: kind3,
+        first: first3,
+        last: last3,
+    };
     let class = class_in(
-        resolution, offset, lowest, highest, kind1, first1, last1, kind2, first2, last2, kind3,
-        first3, last3, raw,
+        resolution, offset, lowest, highest, mark1, mark2, mark3, raw,
     );
-    Cut { bits, raw, class }
+    Cut {
+        bits,
+        raw,
+        class: Ok(class),
+    }
 }
 
 pub fn two_marks(
@@ -120,10 +132,10 @@ pub fn two_marks(
     offset: i32,
     lowest: u32,
     highest: u32,
-    kind1: u8,
+    kind1: MarkKind,
     first1: u32,
     last1: u32,
-    kind2: u8,
+    kind2: MarkKind,
     first2: u32,
     last2: u32,
     window: u32,
@@ -133,7 +145,7 @@ pub fn two_marks(
 {
     three_marks(
         bits, resolution, offset, lowest, highest, kind1, first1, last1, kind2, first2, last2,
-        UNMARKED, 1, 0, window,
+        Unmarked, 1, 0, window,
     )
 }
 
@@ -143,7 +155,7 @@ pub fn one_mark(
     offset: i32,
     lowest: u32,
     highest: u32,
-    kind: u8,
+    kind: MarkKind,
     first: u32,
     last: u32,
     window: u32,
@@ -152,7 +164,7 @@ pub fn one_mark(
     ensures { result ≡ cut_for (some (row 0 bits resolution offset lowest highest (mark kind first last) unmarked unmarked)) window }
 {
     two_marks(
-        bits, resolution, offset, lowest, highest, kind, first, last, UNMARKED, 1, 0, window,
+        bits, resolution, offset, lowest, highest, kind, first, last, Unmarked, 1, 0, window,
     )
 }
 
@@ -168,6 +180,6 @@ pub fn no_mark(
     ensures { result ≡ cut_for (some (row 0 bits resolution offset lowest highest unmarked unmarked unmarked)) window }
 {
     one_mark(
-        bits, resolution, offset, lowest, highest, UNMARKED, 1, 0, window,
+        bits, resolution, offset, lowest, highest, Unmarked, 1, 0, window,
     )
 }

@@ -1,11 +1,11 @@
 // The place of a signal in the constant table, from its number: numbers go by the hundred, a hundred for each table of the standard.
-// A const array is built anew at every read, so a caller that asks for many signals holds the columns and lends them. Numbers and places
-// are computed in 32 bits, which is what most gateways have.
+// A const array is built anew at every read, so a caller that asks for many signals holds the columns (`Widths`, `SignalStarts`). Numbers
+// and places are computed in 32 bits, which is what most gateways have.
 ghost use Rattle.std.specs.Prelude.{◌≡◌, ◌<◌};
 ghost use Rattle.catalogue.specs.Places.{number_limit, hundred, surpluses, bounds, Placed};
 
 // How many hundreds there are with signals in them, or below one that has.
-pub const HUNDREDS: usize = 20;
+pub(crate) const HUNDREDS: usize = 20;
 
 // How many places there are.
 pub const PLACES: usize = 199;
@@ -18,67 +18,36 @@ pub const COUNTER_PLACE: usize = 50;
 const NUMBER_LIMIT: u32 = 2000;
 
 // What the numbers of a hundred's signals have more than their places.
-const SURPLUSES: [u32; HUNDREDS] = [
+pub(crate) const SURPLUSES: [u32; HUNDREDS] = [
     0, 101, 201, 291, 362, 454, 539, 634, 724, 816, 909, 1006, 1101, 1175, 1268, 1368, 1462, 1556,
     1643, 1729,
 ];
 
 // The place where they end.
-const BOUNDS: [u8; HUNDREDS] = [
+pub(crate) const BOUNDS: [u8; HUNDREDS] = [
     0, 0, 10, 39, 47, 62, 67, 77, 85, 92, 95, 100, 126, 133, 133, 139, 145, 158, 172, 199,
 ];
-
-pub fn surpluses() -> [u32; HUNDREDS]
-    ensures { result ≡ surpluses }
-{
-    SURPLUSES
-}
-
-pub fn bounds() -> [u8; HUNDREDS]
-    ensures { result ≡ bounds }
-{
-    BOUNDS
-}
-
-fn wide(number: u32) -> usize
-    ensures { result ≡ number }
-{
-    number as usize
-}
-
-fn size(bound: u8) -> u32
-    ensures { result ≡ bound }
-{
-    bound as u32
-}
-
-// What looking for a signal finds: its place in the table.
-#[derive(Clone, Copy)]
-pub enum Place {
-    At(usize),
-    Nowhere,
-}
 
 // Of 1 to 100, 101 to 200 and so on, the hundred that a number is in: below the limit a product and a shift tell it.
 fn hundred_of(number: u32) -> usize
     requires { number < number_limit }
     ensures { result ≡ hundred number }
 {
-    wide(number * 5242 / 524288)
+    (number * 5242 / 524288) as usize
 }
 
-// The place of a signal in the table.
-pub fn place_of(number: u32, above: &[u32], ends: &[u8]) -> Place
+// The place of a signal in the table, by its columns.
+pub(crate) fn place_of(number: u32, above: &[u32; HUNDREDS], ends: &[u8; HUNDREDS]) -> Option<usize>
     requires { (above.now ≡ surpluses) × (ends.now ≡ bounds) }
     ensures { Placed number result }
 {
     if number >= NUMBER_LIMIT {
-        return Place::Nowhere;
+        return None;
     }
     let hundred = hundred_of(number);
     let place = number - above[hundred];
-    if place >= size(ends[hundred]) {
-        return Place::Nowhere;
+    if place >= u32::from(ends[hundred]) {
+        return None;
     }
-    Place::At(wide(place))
+    Some(place as usize)
 }

@@ -3,41 +3,37 @@
 #![tactic(auto)]
 
 use catalogue::{Class, Raw};
-use rows::{Mark, Row};
-use streams::{print_bytes, print_decimal, write_first};
+use rows::{Mark, MarkKind, Row};
+use streams::{print_bytes, print_decimal};
 
 const ROWS: usize = 199;
 
 fn print(rt: &impl Print, n: u32) {
     print_bytes(rt, b"\t");
-    print_decimal(rt, n as u64);
+    print_decimal(rt, u64::from(n));
 }
 
 fn print_signed(rt: &impl Print, n: i64) {
-    let mut text = [0u8; 32];
-    let count = printing::put_signed(&mut text, 0, n);
     print_bytes(rt, b"\t");
-    let _ = write_first(rt, &text, count);
+    streams::print_signed(rt, n);
 }
 
-fn wide(n: i32) -> i64 {
-    n as i64
+fn print_word(rt: &impl Print, word: &[u8]) {
+    print_bytes(rt, word);
 }
 
-fn print_kind(rt: &impl Print, kind: u8) {
-    if kind == rows::INVALID {
-        print_bytes(rt, b"\tinvalid");
-    } else if kind == rows::ABSENT {
-        print_bytes(rt, b"\tabsent");
-    } else if kind == rows::ERROR {
-        print_bytes(rt, b"\terror");
-    } else {
-        print_bytes(rt, b"\treserved");
+fn print_kind(rt: &impl Print, kind: MarkKind) {
+    match kind {
+        MarkKind::Unmarked => (),
+        MarkKind::Invalid => print_word(rt, b"\tinvalid"),
+        MarkKind::Absent => print_word(rt, b"\tabsent"),
+        MarkKind::Error => print_word(rt, b"\terror"),
+        MarkKind::Reserved => print_word(rt, b"\treserved"),
     }
 }
 
 fn print_mark(rt: &impl Print, mark: Mark) {
-    if mark.kind != rows::UNMARKED {
+    if mark.kind != MarkKind::Unmarked {
         print_kind(rt, mark.kind);
         print(rt, mark.first);
         print(rt, mark.last);
@@ -48,8 +44,8 @@ fn print_row(rt: &impl Print, row: Row) {
     print_bytes(rt, b"row");
     print(rt, row.number);
     print(rt, row.bits);
-    print(rt, row.resolution as u32);
-    print_signed(rt, wide(row.offset));
+    print(rt, u32::from(row.resolution));
+    print_signed(rt, i64::from(row.offset));
     print(rt, row.lowest);
     print(rt, row.highest);
     print_mark(rt, row.mark1);
@@ -64,23 +60,21 @@ fn print_count(rt: &impl Print, word: &[u8], raw: Raw) {
 }
 
 fn print_class(rt: &impl Print, number: u32, count: u32) {
-    print_decimal(rt, number as u64);
+    print_decimal(rt, u64::from(number));
     print(rt, count);
     match catalogue::class_of(number, Raw(count)) {
-        Class::Value(t) => {
+        Ok(Class::Value(t)) => {
             print_bytes(rt, b"\tvalue");
             print_signed(rt, t.0);
         }
-        Class::Invalid(raw) => print_count(rt, b"\tinvalid", raw),
-        Class::Absent(raw) => print_count(rt, b"\tabsent", raw),
-        Class::Error(raw) => print_count(rt, b"\terror", raw),
-        Class::Reserved(raw) => print_count(rt, b"\treserved", raw),
-        Class::Outside(raw) => print_count(rt, b"\toutside", raw),
-        Class::NotInCatalogue => {
-            print_bytes(rt, b"\tno\t3");
-        }
-        Class::TooWide => {
-            print_bytes(rt, b"\tno\t26");
+        Ok(Class::Invalid(raw)) => print_count(rt, b"\tinvalid", raw),
+        Ok(Class::Absent(raw)) => print_count(rt, b"\tabsent", raw),
+        Ok(Class::Error(raw)) => print_count(rt, b"\terror", raw),
+        Ok(Class::Reserved(raw)) => print_count(rt, b"\treserved", raw),
+        Ok(Class::Outside(raw)) => print_count(rt, b"\toutside", raw),
+        Err(why) => {
+            print_bytes(rt, b"\tno");
+            print(rt, u32::from(why));
         }
     }
     print_bytes(rt, b"\n");
@@ -98,13 +92,13 @@ fn around(rt: &impl Print, number: u32, first: u32, last: u32) {
     below(rt, number, first);
     print_class(rt, number, first);
     print_class(rt, number, last);
-    if last < 4294967295 {
+    if last < u32::MAX {
         print_class(rt, number, last + 1);
     }
 }
 
 fn around_mark(rt: &impl Print, number: u32, mark: Mark) {
-    if mark.kind != rows::UNMARKED {
+    if mark.kind != MarkKind::Unmarked {
         around(rt, number, mark.first, mark.last);
     }
 }
@@ -116,7 +110,7 @@ fn at_width(rt: &impl Print, number: u32, bits: u32) {
         below(rt, number, codes);
         print_class(rt, number, codes);
     } else {
-        print_class(rt, number, 4294967295);
+        print_class(rt, number, u32::MAX);
     }
 }
 

@@ -4,16 +4,15 @@ use mathlib.Core.Bool.{Bool, true, false, cond}
 use native.Mathlib.Omega.{arith}
 use Rattle.charging.specs.declared.ChargeObservation.{ChargeObservation}
 use Rattle.charging.specs.declared.ChargeState.{ChargeState}
-use Rattle.charging.specs.declared.ChargeAnswer.TheVariants.{Taken, TooWide}
 use Rattle.charging.specs.Rules.{next_charge_spec}
-use Rattle.charging.specs.Refusals.{charge_refusal, counts_fit, charge_left, charge_step_of}
+use Rattle.charging.specs.Refusals.{charge_taken, charge_too_wide, charge_refusal, counts_fit, charge_left, charge_step_of}
 
 module _ (s : ChargeState) (seen : ChargeObservation) where
   pub refused : charge_refusal (charge_step_of s seen).answer ≡ cond (counts_fit seen) 0 81
   unfolding charge_step_of
   refused = go (counts_fit seen)
     where
-      go : (fits : Bool) → charge_refusal (cond fits (charge_left (next_charge_spec s seen) Taken) (charge_left s TooWide)).answer ≡ cond fits 0 81
+      go : (fits : Bool) → charge_refusal (cond fits (charge_left (next_charge_spec s seen) charge_taken) (charge_left s charge_too_wide)).answer ≡ cond fits 0 81
       go true = refl
       go false = refl
 
@@ -21,7 +20,7 @@ module _ (s : ChargeState) (seen : ChargeObservation) where
   unfolding charge_step_of
   kept_or_next = go (counts_fit seen)
     where
-      go : (fits : Bool) → (cond fits (charge_left (next_charge_spec s seen) Taken) (charge_left s TooWide)).state ≡ cond fits (next_charge_spec s seen) s
+      go : (fits : Bool) → (cond fits (charge_left (next_charge_spec s seen) charge_taken) (charge_left s charge_too_wide)).state ≡ cond fits (next_charge_spec s seen) s
       go true = refl
       go false = refl
 

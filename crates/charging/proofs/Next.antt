@@ -1,8 +1,8 @@
 -- The state that follows, by the state's number: for a step without a weld the step with the lesser of one more condition and as many as
 -- hold from the first on. Assumes nothing.
+use Rattle.std.specs.Prelude.{None, Some}
 use mathlib.Core.Path.{◌≡◌, refl, sym, ap, ◌∙◌, subst}
 use mathlib.Core.Bool.{Bool, true, false, cond}
-use mathlib.Core.Option.{none, some}
 use Prim.Native.Nat.{ℕ, suc, min, ◌≤◌, ◌<◌}
 use native.Mathlib.Omega.{arith}
 use borrow.Author.Tests.{ne_eqb}
@@ -50,7 +50,7 @@ module _ (seen : ChargeObservation) where
     unfolding next_charge_spec
     of_step s h =
         ap (λ (b : Bool). cond b (without_weld (met_in s) seen) Fault) unwelded
-        ∙ ap (λ (b : Bool). without_weld (cond b none (some (charge_number s))) seen) (ne_eqb (charge_number s) 7 (λ e. omega (arith, h, e)))
+        ∙ ap (λ (b : Bool). without_weld (cond b None (Some (charge_number s))) seen) (ne_eqb (charge_number s) 7 (λ e. omega (arith, h, e)))
         ∙ ap step_with_spec (lesser_of seen conditions (charge_number s) (omega (arith, h, six)))
 
     -- what the numbers of a state say: it is a step, or fault

@@ -1,36 +1,26 @@
 -- Each public function's contract allows one outcome and no other. Assumes nothing.
-use mathlib.Core.Path.{refl}
-use Prim.Native.Nat.{ℕ}
-use seplogic.Ra.Ura.{Ura}
-use base.Logic.{SProp}
-use base.Stored.{coded_ℕ}
-use prog.Memory.{Memory}
-use prog.Routine.{Routine}
-use types.Logic.{Logic}
-use contract.Monad.{Fun}
-use denote.Triple.Clauses.{AtExit}
-use Rattle.only.specs.Only.{Only, only_this}
-use Rattle.charging.specs.declared.ChargeState.{ChargeState}
-use Rattle.charging.specs.declared.ChargeObservation.{ChargeObservation}
-use Rattle.charging.specs.States.{charge_start, charge_number, charge_numbered}
-use Rattle.charging.specs.Refusals.{charge_step_of}
-use Rattle.charging.specs.contracts.ChargeState as ChargeState-row
-use Rattle.charging.specs.contracts.ChargeStepped as ChargeStepped
-use Rattle.charging.specs.contracts.ChargeStateOrNone as ChargeStateOrNone
+use Rattle.std.specs.Prelude.{refl, Err}
+use Rattle.only.specs.Outcomes.{OneResult, result_is}
+use Rattle.charging.specs.States.{charge_start, charge_number, charge_state_or_not}
+use Rattle.charging.specs.Refusals.{charge_refusal, charge_step_of, charge_if_taken}
 use Rattle.charging.specs.contracts.ChargeState.start as start
-use Rattle.charging.specs.contracts.ChargeState.number as number-fn
-use Rattle.charging.specs.contracts.ChargeState.numbered as numbered-fn
+use Rattle.charging.specs.contracts.U32FromChargeState.from as number-fn
+use Rattle.charging.specs.contracts.ChargeStateTryFromU32.try_from as numbered-fn
+use Rattle.charging.specs.contracts.U32FromCountTooWide.from as refusal-fn
 use Rattle.charging.specs.contracts.step as step
 
-module _ {M : Type 1} {𝓤 : Ura M} (𝓛 : Logic 𝓤) (mem : Memory → SProp 𝓤) (run : Routine → Fun 𝓤) where
-  pub one_start : (e : AtExit start.ended tt) → Only 𝓤 (λ r. (start.clauses 𝓛 mem run tt tt).ensures tt r e)
-  one_start e = only_this 𝓤 _ (ChargeState-row.the_row).coded charge_start (λ r. refl)
+module _ (M : Type 1) where
+  pub one_start : OneResult M start.ended (λ _. start.clauses)
+  one_start = result_is (λ c. charge_start) refl
 
-  pub one_number : (state : ChargeState) (e : AtExit number-fn.ended tt) → Only 𝓤 (λ r. (number-fn.clauses 𝓛 mem run tt (state, tt)).ensures tt r e)
-  one_number state e = only_this 𝓤 _ coded_ℕ (charge_number state) (λ r. refl)
+  pub one_number : OneResult M number-fn.ended (λ _. number-fn.clauses)
+  one_number = result_is (λ c. charge_number c.arguments.0) refl
 
-  pub one_numbered : (n : ℕ) (e : AtExit numbered-fn.ended tt) → Only 𝓤 (λ r. (numbered-fn.clauses 𝓛 mem run tt (n, tt)).ensures tt r e)
-  one_numbered n e = only_this 𝓤 _ (ChargeStateOrNone.the_row).coded (charge_numbered n) (λ r. refl)
+  pub one_numbered : OneResult M numbered-fn.ended (λ _. numbered-fn.clauses)
+  one_numbered = result_is (λ c. charge_state_or_not c.arguments.0) refl
 
-  pub one_step : (state : ChargeState) (seen : ChargeObservation) (e : AtExit step.ended tt) → Only 𝓤 (λ r. (step.clauses 𝓛 mem run tt (state, (seen, tt))).ensures tt r e)
-  one_step state seen e = only_this 𝓤 _ (ChargeStepped.the_row).coded (charge_step_of state seen) (λ r. refl)
+  pub one_charge_refusal : OneResult M refusal-fn.ended (λ _. refusal-fn.clauses)
+  one_charge_refusal = result_is (λ c. charge_refusal (Err c.arguments.0)) refl
+
+  pub one_step : OneResult M step.ended (λ _. step.clauses)
+  one_step = result_is (λ c. charge_if_taken (charge_step_of c.arguments.0 c.arguments.1.0)) refl

@@ -1,9 +1,9 @@
 -- "An observation that is not refused never shows ready unless every condition holds in that same observation." Assumes nothing.
+use Rattle.std.specs.Prelude.{Option, Some}
 use mathlib.Core.Path.{◌≡◌, refl, ap, subst}
 use mathlib.Core.Bool.{Bool, true, false, ◌&&◌, ◌||◌, and-eq-true_iff}
 use mathlib.Core.Logic.{◌⊎◌, inl, inr}
 use native.Mathlib.Omega.{arith}
-use mathlib.Core.Option.{Option, some}
 use lib.ListN.{take}
 use Prim.Native.Nat.{ℕ}
 use Rattle.charging.specs.declared.ChargeObservation.{ChargeObservation}
@@ -21,22 +21,22 @@ use Rattle.charging.proofs.Steps.{own_conditions}
 both : (a b : Bool) → a && b ≡ true → (a ≡ true) × (b ≡ true)
 both a b e = (and-eq-true_iff a b).0 e
 
-one_of_three : (n : Option ℕ) (a b c : ℕ) → is_count n a || is_count n b || is_count n c ≡ true → (n ≡ some a) ⊎ ((n ≡ some b) ⊎ (n ≡ some c))
+one_of_three : (n : Option ℕ) (a b c : ℕ) → is_count n a || is_count n b || is_count n c ≡ true → (n ≡ Some a) ⊎ ((n ≡ Some b) ⊎ (n ≡ Some c))
 one_of_three n a b c e = go (is_count n a) (is_count n b) refl refl e
   where
-    go : (x y : Bool) → is_count n a ≡ x → is_count n b ≡ y → x || y || is_count n c ≡ true → (n ≡ some a) ⊎ ((n ≡ some b) ⊎ (n ≡ some c))
+    go : (x y : Bool) → is_count n a ≡ x → is_count n b ≡ y → x || y || is_count n c ≡ true → (n ≡ Some a) ⊎ ((n ≡ Some b) ⊎ (n ≡ Some c))
     go true y p q h = inl (is_this n a p)
     go false true p q h = inr (inl (is_this n b q))
     go false false p q h = inr (inr (is_this n c h))
 
 module _ (seen : ChargeObservation) where
-  is : (number n : ℕ) → count_is number n seen ≡ true → count_seen number seen ≡ some n
+  is : (number n : ℕ) → count_is number n seen ≡ true → count_seen number seen ≡ Some n
   is number n e = is_this (count_seen number seen) n e
 
-  two : (a b m n : ℕ) → count_is a m seen && count_is b n seen ≡ true → (count_seen a seen ≡ some m) × (count_seen b seen ≡ some n)
+  two : (a b m n : ℕ) → count_is a m seen && count_is b n seen ≡ true → (count_seen a seen ≡ Some m) × (count_seen b seen ≡ Some n)
   two a b m n e = let h = both (count_is a m seen) (count_is b n seen) e in (is a m h.0, is b n h.1)
 
-  four : count_is 311 0 seen && count_is 313 0 seen && count_is 325 0 seen && count_is 327 0 seen ≡ true → (count_seen 311 seen ≡ some 0) × ((count_seen 313 seen ≡ some 0) × ((count_seen 325 seen ≡ some 0) × (count_seen 327 seen ≡ some 0)))
+  four : count_is 311 0 seen && count_is 313 0 seen && count_is 325 0 seen && count_is 327 0 seen ≡ true → (count_seen 311 seen ≡ Some 0) × ((count_seen 313 seen ≡ Some 0) × ((count_seen 325 seen ≡ Some 0) × (count_seen 327 seen ≡ Some 0)))
   four e =
       let h = both (count_is 311 0 seen && count_is 313 0 seen && count_is 325 0 seen) (count_is 327 0 seen) e in
       let g = both (count_is 311 0 seen && count_is 313 0 seen) (count_is 325 0 seen) h.0 in

@@ -1,9 +1,9 @@
 -- What one observation may do to a charge, over the answers of a step: it moves one step on at most, a lost condition leads back before
 -- it, and fault is where a weld is set or the plug is still in. Assumes nothing.
+use Rattle.std.specs.Prelude.{Some}
 use mathlib.Core.Path.{◌≡◌, refl, sym, ap, ◌∙◌, subst}
 use mathlib.Core.Bool.{Bool, true, false, cond, true≢false}
 use mathlib.Core.Logic.{◌⊎◌, inl, inr}
-use mathlib.Core.Option.{some}
 use Prim.Native.Nat.{ℕ, suc, min, ◌≤◌, ◌<◌}
 use native.Mathlib.Nat.{min-le_left, min-le_right, min-eq_left, min-eq_right}
 use native.Mathlib.Omega.{arith}
@@ -71,7 +71,7 @@ first_lost met seen few-met lost =
 -- ---- of a step's answer
 
 -- fault is left to the start
-pub to_the_start : (seen : ChargeObservation) → charge_refusal (charge_step_of Fault seen).answer ≡ 0 → no_welded_fault seen ≡ true → count_seen 1708 seen ≡ some 0 → (charge_step_of Fault seen).state ≡ Start
+pub to_the_start : (seen : ChargeObservation) → charge_refusal (charge_step_of Fault seen).answer ≡ 0 → no_welded_fault seen ≡ true → count_seen 1708 seen ≡ Some 0 → (charge_step_of Fault seen).state ≡ Start
 to_the_start seen not_refused w out = taken Fault seen not_refused ∙ of_fault seen w ∙ ap (λ (b : Bool). cond b Start Fault) (this_is (count_seen 1708 seen) 0 out)
 
 module _ (s : ChargeState) (seen : ChargeObservation) where
@@ -98,7 +98,7 @@ module _ (s : ChargeState) (seen : ChargeObservation) where
         ∙ of_step seen w s (omega (arith, h))
         ∙ ap step_with_spec (min-eq_left {n = suc (charge_number s)} {m = before_lost conditions seen} (held_within seen conditions (suc (charge_number s)) (omega (arith, h, six)) held))
 
-    -- and it stays where all that was met holds and the next one does not, or there is none
+    -- and it stays where all that was met holds and the next one does not, or there is None
     pub stays_there : (s ≡ Fault → ⊥) → no_welded_fault seen ≡ true → each_holds (take (charge_number s) conditions) seen ≡ true → next_holds conditions (charge_number s) seen ≡ false → (charge_step_of s seen).state ≡ s
     stays_there f w held lost =
         taken s seen not_refused
@@ -114,7 +114,7 @@ module _ (s : ChargeState) (seen : ChargeObservation) where
             omega (arith, ltb-false (charge_number s) 6 e, within, held_few seen)
 
     -- (4) the state after it is fault exactly when a weld is set, or it was fault and 1708 is not 0
-    pub fault_when : (no_welded_fault seen ≡ false) ⊎ ((s ≡ Fault) × (count_seen 1708 seen ≡ some 0 → ⊥)) → (charge_step_of s seen).state ≡ Fault
+    pub fault_when : (no_welded_fault seen ≡ false) ⊎ ((s ≡ Fault) × (count_seen 1708 seen ≡ Some 0 → ⊥)) → (charge_step_of s seen).state ≡ Fault
     fault_when (inl weld) = taken s seen not_refused ∙ welded seen s weld
     fault_when (inr (was, plugged)) = taken s seen not_refused ∙ ap (λ (t : ChargeState). next_charge_spec t seen) was ∙ stays (no_welded_fault seen) refl
       where
@@ -122,13 +122,13 @@ module _ (s : ChargeState) (seen : ChargeObservation) where
         stays false w = welded seen Fault w
         stays true w = of_fault seen w ∙ ap (λ (out : Bool). cond out Start Fault) (not_this (count_seen 1708 seen) 0 plugged)
 
-    pub when_fault : (charge_step_of s seen).state ≡ Fault → (no_welded_fault seen ≡ false) ⊎ ((s ≡ Fault) × (count_seen 1708 seen ≡ some 0 → ⊥))
+    pub when_fault : (charge_step_of s seen).state ≡ Fault → (no_welded_fault seen ≡ false) ⊎ ((s ≡ Fault) × (count_seen 1708 seen ≡ Some 0 → ⊥))
     when_fault e = go (no_welded_fault seen) (eqb (charge_number s) 7) refl refl
       where
         next : next_charge_spec s seen ≡ Fault
         next = sym (taken s seen not_refused) ∙ e
 
-        go : (unwelded fault : Bool) → no_welded_fault seen ≡ unwelded → eqb (charge_number s) 7 ≡ fault → (no_welded_fault seen ≡ false) ⊎ ((s ≡ Fault) × (count_seen 1708 seen ≡ some 0 → ⊥))
+        go : (unwelded fault : Bool) → no_welded_fault seen ≡ unwelded → eqb (charge_number s) 7 ≡ fault → (no_welded_fault seen ≡ false) ⊎ ((s ≡ Fault) × (count_seen 1708 seen ≡ Some 0 → ⊥))
         go false fault w f = inl w
         go true true w f =
             let was : s ≡ Fault = number_tells s Fault (eqb-true _ _ f) in

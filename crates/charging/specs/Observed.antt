@@ -1,6 +1,5 @@
 -- What an observation of a charge has: the raw counts of eleven signals. Assumes nothing.
-use Rattle.std.specs.Prelude.{ℕ, Bool, false, cond, List, [], ◌∷◌, eqb}
-use Rattle.std.proofs.Math.Option.{Option, none, some}
+use Rattle.std.specs.Prelude.{ℕ, Bool, false, cond, List, [], ◌∷◌, eqb, Option, None, Some}
 use Rattle.catalogue.specs.declared.Raw.{Raw}
 use Rattle.charging.specs.declared.ChargeObservation.{ChargeObservation}
 
@@ -22,16 +21,16 @@ counts_seen seen =
 
 -- the count that such a list has for a number; there is none for a number that it does not have
 abbrev count_under : ℕ → List (ℕ × Raw) → Option ℕ
-count_under number [] = none
-count_under number (c ∷ more) = cond (eqb c.0 number) (some c.1.0) (count_under number more)
+count_under number [] = None
+count_under number (c ∷ more) = cond (eqb c.0 number) (Some c.1.0) (count_under number more)
 
 -- the raw count of the signal with this number
 abbrev pub count_seen : ℕ → ChargeObservation → Option ℕ
 count_seen number seen = count_under number (counts_seen seen)
 
 abbrev pub is_count : Option ℕ → ℕ → Bool
-is_count none n = false
-is_count (some count) n = eqb count n
+is_count None n = false
+is_count (Some count) n = eqb count n
 
 -- "1708 is 1", "1605 is 0" and so on
 abbrev pub count_is : ℕ → ℕ → ChargeObservation → Bool

@@ -1,6 +1,5 @@
 -- The rule of document 02, P5: the state that follows an observation whose counts fit. Assumes nothing.
-use Rattle.std.specs.Prelude.{ℕ, suc, Bool, true, false, cond, ◌&&◌, List, [], ◌∷◌, get_or, take}
-use Rattle.std.proofs.Math.Option.{Option, none, some}
+use Rattle.std.specs.Prelude.{ℕ, suc, Bool, true, false, cond, ◌&&◌, List, [], ◌∷◌, get_or, take, Option, None, Some}
 use Rattle.charging.specs.declared.ChargeObservation.{ChargeObservation}
 use Rattle.charging.specs.declared.ChargeState.{ChargeState}
 use Rattle.charging.specs.declared.ChargeState.TheVariants.{Fault}
@@ -35,8 +34,8 @@ met_after list met seen =
 
 -- where no welded fault is set. In fault, "left only when none is set and 1708 is 0, and then to the start"; else by the conditions
 abbrev pub without_weld : Option ℕ → ChargeObservation → ChargeState
-without_weld none seen = cond (count_is 1708 0 seen) charge_start Fault
-without_weld (some met) seen = step_with_spec (met_after conditions met seen)
+without_weld None seen = cond (count_is 1708 0 seen) charge_start Fault
+without_weld (Some met) seen = step_with_spec (met_after conditions met seen)
 
 -- "A welded fault gives fault"
 unfoldable pub next_charge_spec : ChargeState → ChargeObservation → ChargeState

@@ -1,10 +1,9 @@
 -- The states of a charge, and their numbers. Assumes nothing.
-use Rattle.std.specs.Prelude.{ℕ, cond, List, [], ◌∷◌, eqb, leb, get_or}
-use Rattle.std.proofs.Math.Option.{Option, none, some}
+use Rattle.std.specs.Option.{ok_or}
+use Rattle.std.specs.Prelude.{ℕ, cond, List, [], ◌∷◌, eqb, leb, get_or, Option, None, Some, Result}
 use Rattle.charging.specs.declared.ChargeState.{ChargeState}
 use Rattle.charging.specs.declared.ChargeState.TheVariants.{Start, PlugSeen, SelfChecked, NoWeld, MainClosed, ChargingAllowed, ReadyToCharge, Fault}
-use Rattle.charging.specs.declared.ChargeStateOrNone.{ChargeStateOrNone}
-use Rattle.charging.specs.declared.ChargeStateOrNone.TheVariants.{Is, NoChargeState}
+use Rattle.charging.specs.declared.NotAChargeState.{NotAChargeState}
 
 -- "a start", in which a monitor begins
 abbrev pub charge_start : ChargeState
@@ -34,8 +33,12 @@ fault_number = charge_number Fault
 
 -- how many conditions are met in a state: in fault there is no such number
 abbrev pub met_in : ChargeState → Option ℕ
-met_in state = cond (eqb (charge_number state) fault_number) none (some (charge_number state))
+met_in state = cond (eqb (charge_number state) fault_number) None (Some (charge_number state))
 
 -- the state of a number, where there is one
-unfoldable pub charge_numbered : ℕ → ChargeStateOrNone
-charge_numbered n = cond (leb n fault_number) (Is (step_with_spec n)) NoChargeState
+unfoldable pub charge_numbered : ℕ → Option ChargeState
+charge_numbered n = cond (leb n fault_number) (Some (step_with_spec n)) None
+
+-- the same as a conversion answers it: the number itself, where it is no state's
+abbrev pub charge_state_or_not : ℕ → Result ChargeState NotAChargeState
+charge_state_or_not n = ok_or (charge_numbered n) (record { 0 = n })

@@ -36,6 +36,7 @@ pub fn none_welded(seen: ChargeObservation) -> bool
         & (seen.heating_negative_welded.0 == 0)
 }
 
+// Kept, and so is `charge_relays_are_closed`: one test of two relays is no plainer, since each condition is a definition of its own.
 fn main_relays_are_closed(seen: ChargeObservation) -> bool
     ensures { result ≡ main_relays_closed seen }
 {

@@ -10,17 +10,17 @@
 mod conditions;
 mod widths;
 
-ghost use Rattle.std.specs.Prelude.{◌≡◌, min};
-ghost use Rattle.charging.specs.States.{charge_start, charge_number, charge_numbered, step_with_spec};
+ghost use Rattle.std.specs.Prelude.{◌≡◌, Err};
+ghost use Rattle.charging.specs.States.{charge_start, charge_number, charge_state_or_not, step_with_spec};
 ghost use Rattle.charging.specs.Rules.{next_charge_spec};
-ghost use Rattle.charging.specs.Refusals.{charge_step_of};
+ghost use Rattle.charging.specs.Refusals.{charge_refusal, charge_step_of, charge_if_taken};
 
 use catalogue::Raw;
 use conditions::{holding, is_unplugged, none_welded};
 use widths::all_fit;
 
 // How far a charge has come: at the start, then a state for each condition that is met with all before it.
-#[derive(Clone, Copy)]
+#[derive(Clone, Copy, Debug, PartialEq, Eq)]
 pub enum ChargeState {
     Start,
     PlugSeen,
@@ -32,12 +32,9 @@ pub enum ChargeState {
     Fault,
 }
 
-// What a number stands for: a state, or none.
-#[derive(Clone, Copy)]
-pub enum ChargeStateOrNone {
-    Is(ChargeState),
-    NoChargeState,
-}
+// A number that stands for no state.
+#[derive(Clone, Copy, Debug, PartialEq, Eq)]
+pub struct NotAChargeState(pub u32);
 
 // Raw counts, as read from frames.
 #[derive(Clone, Copy)]
@@ -61,18 +58,17 @@ pub struct ChargeObservation {
     pub charge_negative: Raw,
 }
 
-#[derive(Clone, Copy)]
-pub enum ChargeAnswer {
-    Taken,
-    // A count has more bits than its signal.
-    TooWide,
-}
+// A count has more bits than its signal.
+#[derive(Clone, Copy, Debug, PartialEq, Eq)]
+pub struct CountTooWide;
 
-// The state after a step, and what the step answered.
-#[derive(Clone, Copy)]
-pub struct ChargeStepped {
-    pub state: ChargeState,
-    pub answer: ChargeAnswer,
+// Document 02's number of the refusal.
+impl From<CountTooWide> for u32 {
+    ghost from_gives = { λ why number. number ≡ charge_refusal (Err why) };
+
+    fn from(_why: CountTooWide) -> u32 {
+        81
+    }
 }
 
 // The number of fault; the others' numbers are how many conditions they have met.
@@ -85,12 +81,14 @@ impl ChargeState {
     {
         ChargeState::Start
     }
+}
 
-    // 0 start, 1 plug seen, 2 self-checked, 3 no weld, 4 main closed, 5 allowed, 6 ready: how many conditions are met; 7 fault.
-    pub fn number(self) -> u32
-        ensures { result ≡ charge_number self }
-    {
-        match self {
+// 0 start, 1 plug seen, 2 self-checked, 3 no weld, 4 main closed, 5 allowed, 6 ready: how many conditions are met; 7 fault.
+impl From<ChargeState> for u32 {
+    ghost from_gives = { λ state number. number ≡ charge_number state };
+
+    fn from(state: ChargeState) -> u32 {
+        match state {
             ChargeState::Start => 0,
             ChargeState::PlugSeen => 1,
             ChargeState::SelfChecked => 2,
@@ -101,15 +99,19 @@ impl ChargeState {
             ChargeState::Fault => 7,
         }
     }
+}
 
-    // The state of a number, where there is one.
-    pub fn numbered(n: u32) -> ChargeStateOrNone
-        ensures { result ≡ charge_numbered n }
-    {
+// The state of a number, where there is one.
+impl TryFrom<u32> for ChargeState {
+    type Error = NotAChargeState;
+
+    ghost try_from_gives = { λ n state. state ≡ charge_state_or_not n };
+
+    fn try_from(n: u32) -> Result<ChargeState, NotAChargeState> {
         if n > FAULT_NUMBER {
-            return ChargeStateOrNone::NoChargeState;
+            return Err(NotAChargeState(n));
         }
-        ChargeStateOrNone::Is(step_with(n))
+        Ok(step_with(n))
     }
 }
 
@@ -129,12 +131,6 @@ fn step_with(n: u32) -> ChargeState
     }
 }
 
-fn lesser(a: u32, b: u32) -> u32
-    ensures { result ≡ min a b }
-{
-    if a < b { a } else { b }
-}
-
 // The state that follows an observation whose counts fit. Of a step, the lesser of one more condition and as many as hold from the
 // first on is what the rule says (`Moving lesser_of`): one on where all of them hold, back before the first that is lost.
 fn next_charge(state: ChargeState, seen: ChargeObservation) -> ChargeState
@@ -143,9 +139,9 @@ fn next_charge(state: ChargeState, seen: ChargeObservation) -> ChargeState
     if !none_welded(seen) {
         return ChargeState::Fault;
     }
-    let before = state.number();
+    let before = u32::from(state);
     if before < FAULT_NUMBER {
-        return step_with(lesser(before + 1, holding(seen)));
+        return step_with((before + 1).min(holding(seen)));
     }
     if is_unplugged(seen) {
         return ChargeState::Start;
@@ -153,19 +149,12 @@ fn next_charge(state: ChargeState, seen: ChargeObservation) -> ChargeState
     state
 }
 
-// One step: the state that follows, or a refusal and the state kept.
-pub fn step(state: ChargeState, seen: ChargeObservation) -> ChargeStepped
-    ensures { result ≡ charge_step_of state seen }
+// One step: the state that follows, or a refusal, and the caller keeps its state.
+pub fn step(state: ChargeState, seen: ChargeObservation) -> Result<ChargeState, CountTooWide>
+    ensures { result ≡ charge_if_taken (charge_step_of state seen) }
 {
     if !all_fit(seen) {
-        return ChargeStepped {
-            state,
-            answer: ChargeAnswer::TooWide,
-        };
+        return Err(CountTooWide);
     }
-    let next = next_charge(state, seen);
-    ChargeStepped {
-        state: next,
-        answer: ChargeAnswer::Taken,
-    }
+    Ok(next_charge(state, seen))
 }

@@ -4,14 +4,14 @@ ghost use Rattle.std.specs.Prelude.{◌≡◌, ◌&&◌};
 ghost use Rattle.charging.specs.Refusals.{fits_signal, counts_fit};
 
 use crate::ChargeObservation;
-use catalogue::{Class, Raw, class_of};
+use catalogue::{NoClass, Raw, class_of};
 
 fn fits(number: u32, raw: Raw) -> bool
     ensures { result ≡ fits_signal number raw }
 {
     match class_of(number, raw) {
-        Class::TooWide => false,
-        _ => true,
+        Ok(_) | Err(NoClass::NotInCatalogue) => true,
+        Err(NoClass::TooWide) => false,
     }
 }
 

@@ -4,63 +4,51 @@
 #![tactic(auto)]
 
 use catalogue::Raw;
-use charging::{ChargeAnswer, ChargeObservation, ChargeState, ChargeStateOrNone};
+use charging::{ChargeObservation, ChargeState};
 use numerals::identifier_or_0;
 use streams::{print_bytes, print_decimal, read_full};
 
 const MOST_LINES: u32 = 1000000;
 
-// What is no digit is no state's.
-fn digit(byte: u8) -> u32 {
-    if byte < b'0' {
-        return 9;
-    }
-    (byte - b'0') as u32
-}
-
-// The state that a line begins with.
-fn state_of(byte: u8) -> ChargeStateOrNone {
+// The state that a line begins with: what is no digit is no state's.
+fn state_of(byte: u8) -> Option<ChargeState> {
     if byte == b'N' {
-        return ChargeStateOrNone::Is(ChargeState::start());
+        return Some(ChargeState::start());
     }
-    ChargeState::numbered(digit(byte))
+    ChargeState::try_from(u32::from(byte.wrapping_sub(b'0'))).ok()
 }
 
-// The count whose digits begin at a byte of the line; 0 where they would run over its end.
-fn raw_at(line: [u8; 90], at: usize) -> Raw {
-    if at > 82 {
-        return Raw(0);
-    }
-    Raw(identifier_or_0(&line[at..at + 8]))
+fn raw_of(digits: &[u8]) -> Raw {
+    Raw(identifier_or_0(digits))
 }
 
-fn observed(line: [u8; 90]) -> ChargeObservation {
+fn observed(line: &[u8; 90]) -> ChargeObservation {
     ChargeObservation {
-        plug: raw_at(line, 1),
-        self_check: raw_at(line, 9),
-        main_positive_welded: raw_at(line, 17),
-        main_negative_welded: raw_at(line, 25),
-        heating_positive_welded: raw_at(line, 33),
-        heating_negative_welded: raw_at(line, 41),
-        main_positive: raw_at(line, 49),
-        main_negative: raw_at(line, 57),
-        allowed: raw_at(line, 65),
-        charge_positive: raw_at(line, 73),
-        charge_negative: raw_at(line, 81),
+        plug: raw_of(&line[1..9]),
+        self_check: raw_of(&line[9..17]),
+        main_positive_welded: raw_of(&line[17..25]),
+        main_negative_welded: raw_of(&line[25..33]),
+        heating_positive_welded: raw_of(&line[33..41]),
+        heating_negative_welded: raw_of(&line[41..49]),
+        main_positive: raw_of(&line[49..57]),
+        main_negative: raw_of(&line[57..65]),
+        allowed: raw_of(&line[65..73]),
+        charge_positive: raw_of(&line[73..81]),
+        charge_negative: raw_of(&line[81..89]),
     }
+}
+
+fn print_number(rt: &impl Print, number: u32) {
+    print_decimal(rt, u64::from(number));
+    print_bytes(rt, b"\n");
 }
 
 fn step(rt: &impl Print, state: ChargeState, seen: ChargeObservation) {
-    let after = charging::step(state, seen);
-    let answer = after.answer;
-    match answer {
-        ChargeAnswer::Taken => {
-            let next = after.state;
-            print_decimal(rt, next.number() as u64);
-            print_bytes(rt, b"\n");
-        }
-        ChargeAnswer::TooWide => {
-            print_bytes(rt, b"no\t81\n");
+    match charging::step(state, seen) {
+        Ok(next) => print_number(rt, u32::from(next)),
+        Err(why) => {
+            print_bytes(rt, b"no\t");
+            print_number(rt, u32::from(why));
         }
     }
 }
@@ -72,9 +60,9 @@ fn main(rt: HostRuntime) {
         if read_full(&mut input, &mut line) < 90 {
             return;
         }
-        match state_of(line[0]) {
-            ChargeStateOrNone::Is(state) => step(&rt, state, observed(line)),
-            ChargeStateOrNone::NoChargeState => return,
-        }
+        let Some(state) = state_of(line[0]) else {
+            return;
+        };
+        step(&rt, state, observed(&line));
     }
 }

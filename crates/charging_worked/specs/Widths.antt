@@ -1,6 +1,5 @@
 -- How many counts each signal has room for: three bits of 1708, one of each weld, two of the others. Assumes nothing.
-use Rattle.std.specs.Prelude.{ℕ, Bool, true, false, ◌&&◌, List, [], ◌∷◌, ltb}
-use Rattle.std.proofs.Math.Option.{Option, none, some}
+use Rattle.std.specs.Prelude.{ℕ, Bool, true, false, ◌&&◌, List, [], ◌∷◌, ltb, Option, None, Some}
 use Rattle.charging.specs.declared.ChargeObservation.{ChargeObservation}
 use Rattle.charging.specs.Observed.{count_seen}
 
@@ -22,8 +21,8 @@ width_limits =
 
 -- a count is below its limit
 abbrev is_below : Option ℕ → ℕ → Bool
-is_below none limit = false
-is_below (some count) limit = ltb count limit
+is_below None limit = false
+is_below (Some count) limit = ltb count limit
 
 -- each count of the signals in a list is
 abbrev pub each_below : List (ℕ × ℕ) → ChargeObservation → Bool

@@ -1,33 +1,27 @@
--- One entry of a column, and a search of them one at a time. Assumes nothing.
-use mathlib.Core.Path.{◌≡◌, refl, sym, ap}
-use mathlib.Core.Bool.{true, false}
+-- A search of a column. Assumes nothing.
+use mathlib.Core.Path.{◌≡◌, refl, sym, ap, ◌∙◌}
+use mathlib.Core.Bool.{Bool, true, false, ◌||◌}
 use mathlib.Core.List.{List, [], ◌∷◌}
-use Prim.Native.Nat.{ℕ, zero, suc, ◌+◌, ◌-◌, ◌≤◌, ◌<◌}
+use Prim.Native.Nat.{ℕ, zero, suc, ◌<◌}
 use native.Mathlib.Omega.{arith}
-use native.Mathlib.Numerals.{add-one}
-use lib.ListN.{length, take, drop, get_or, drop_of_length-le}
-use lib.Seq.{drop-cons}
-use borrow.Author.Tests.{eq-eqb, ne_eqb}
+use lib.Dec.{eqb}
+use lib.ListN.{length, take, get_or}
+use borrow.Author.Tests.{eq-eqb, ne_eqb, eqb-true, eqb-false}
+use Rattle.std.specs.List.{list_any}
 use Rattle.books.specs.Lines.{is_in}
 
--- the entry before, and 0 before all
-pub one_before : (l : List ℕ) (at : ℕ) → (at ≡ 0 → ⊥) → get_or l (at - 1) 0 ≡ get_or (0 ∷ l) at 0
-one_before l zero h = absurd (h refl)
-one_before l (suc k) h = let e : suc k - 1 ≡ k = omega arith in ap (λ (i : ℕ). get_or l i 0) e
+eqb_flip : (a b : ℕ) → eqb a b ≡ eqb b a
+eqb_flip a b = go (eqb b a) refl
+  where
+    go : (t : Bool) → eqb b a ≡ t → eqb a b ≡ eqb b a
+    go true e = eq-eqb a b (sym (eqb-true b a e)) ∙ sym e
+    go false e = ne_eqb a b (λ h. eqb-false b a e (sym h)) ∙ sym e
 
-module _ (l : List ℕ) (i x : ℕ) where
-  pub in_none : length l ≤ i → is_in x (drop i l) ≡ false
-  unfolding is_in
-  in_none h = rw (drop_of_length-le l h)
-
-  module _ (h : i < length l) where
-    pub in_here : x ≡ get_or l i 0 → is_in x (drop i l) ≡ true
-    unfolding is_in
-    in_here e = rw (drop-cons l i 0 h, eq-eqb _ _ e)
-
-    pub in_later : (x ≡ get_or l i 0 → ⊥) → is_in x (drop i l) ≡ is_in x (drop (i + 1) l)
-    unfolding is_in
-    in_later e = rw (drop-cons l i 0 h, ne_eqb _ _ e, add-one i)
+-- one of the entries is the number just where it is among them
+pub any_is_in : (x : ℕ) (l : List ℕ) → list_any (λ y. eqb y x) l ≡ is_in x l
+unfolding is_in
+any_is_in x [] = refl
+any_is_in x (y ∷ ys) = ap (λ (t : Bool). t || list_any (λ z. eqb z x) ys) (eqb_flip y x) ∙ ap (λ (t : Bool). eqb x y || t) (any_is_in x ys)
 
 -- what stands at none of the first i places is not among them
 pub absent : (x : ℕ) (l : List ℕ) (i : ℕ) → ((j : ℕ) → j < i → j < length l → get_or l j 0 ≡ x → ⊥) → is_in x (take i l) ≡ false

@@ -1,6 +1,6 @@
 -- Identifiers passed one after the other, each of which marks its slot. Assumes nothing.
 use mathlib.Core.Path.{◌≡◌, refl, sym, ◌∙◌, subst}
-use mathlib.Core.Bool.{Bool, true, false}
+use mathlib.Core.Bool.{Bool, true, false, true≢false}
 use mathlib.Core.List.{List}
 use Prim.Native.Nat.{ℕ, ◌+◌, ◌≤◌, ◌<◌}
 use native.Mathlib.Numerals.{add-one}
@@ -35,22 +35,22 @@ module _ (l : List ℕ) (i : ℕ) where
       distinct_next m = rw (drop-cons l i 0 h, lt-leb _ _ e, m, add-one i, take-suc l i 0 h)
 
 -- the slot of each of the first i identifiers is used
-abbrev pub Used : List ℕ → List ℕ → ℕ → Type 0
-Used l used i = (j : ℕ) → j < i → j < length l → get_or used (identifier_slot (get_or l j 0)) 0 ≡ 1
+abbrev pub Used : List ℕ → List Bool → ℕ → Type 0
+Used l used i = (j : ℕ) → j < i → j < length l → get_or used (identifier_slot (get_or l j 0)) false ≡ true
 
-pub unused : (l used : List ℕ) (i x k : ℕ) → k ≡ identifier_slot x → get_or used k 0 ≡ 0 → Used l used i → is_in x (take i l) ≡ false
+pub unused : (l : List ℕ) (used : List Bool) (i x k : ℕ) → k ≡ identifier_slot x → get_or used k false ≡ false → Used l used i → is_in x (take i l) ≡ false
 unused l used i x k e z f =
     absent x l i (λ j p q d.
-    let a : get_or used (identifier_slot x) 0 ≡ 1 = subst (λ (m : ℕ). get_or used (identifier_slot m) 0 ≡ 1) d (f j p q) in
-    let b : get_or used (identifier_slot x) 0 ≡ 0 = subst (λ (m : ℕ). get_or used m 0 ≡ 0) e z in
-    omega arith)
+    let a : get_or used (identifier_slot x) false ≡ true = subst (λ (m : ℕ). get_or used (identifier_slot m) false ≡ true) d (f j p q) in
+    let b : get_or used (identifier_slot x) false ≡ false = subst (λ (m : ℕ). get_or used m false ≡ false) e z in
+    true≢false (sym a ∙ b))
 
-pub used_more : (l used : List ℕ) (i k : ℕ) → k ≡ identifier_slot (get_or l i 0) → k < length used → Used l used i → Used l (set used k 1) (i + 1)
+pub used_more : (l : List ℕ) (used : List Bool) (i k : ℕ) → k ≡ identifier_slot (get_or l i 0) → k < length used → Used l used i → Used l (set used k true) (i + 1)
 used_more l used i k e h f j p q = go (eqb (identifier_slot (get_or l j 0)) k) refl
   where
-    go : (b : Bool) → eqb (identifier_slot (get_or l j 0)) k ≡ b → get_or (set used k 1) (identifier_slot (get_or l j 0)) 0 ≡ 1
-    go true d = subst (λ (m : ℕ). get_or (set used k 1) m 0 ≡ 1) (sym (eqb-true _ _ d)) (get_or-set_same used k 1 0 h)
+    go : (b : Bool) → eqb (identifier_slot (get_or l j 0)) k ≡ b → get_or (set used k true) (identifier_slot (get_or l j 0)) false ≡ true
+    go true d = subst (λ (m : ℕ). get_or (set used k true) m false ≡ true) (sym (eqb-true _ _ d)) (get_or-set_same used k true false h)
     go false d =
         let ne = eqb-false (identifier_slot (get_or l j 0)) k d in
         let n : j ≡ i → ⊥ = λ u. ne (subst (λ (m : ℕ). identifier_slot (get_or l m 0) ≡ k) (sym u) (sym e)) in
-        get_or-set_other used k (identifier_slot (get_or l j 0)) 1 0 ne ∙ f j (lt_of_le-ne (omega arith) n) q
+        get_or-set_other used k (identifier_slot (get_or l j 0)) true false ne ∙ f j (lt_of_le-ne (omega arith) n) q

@@ -3,11 +3,11 @@
 
 ghost use Rattle.std.specs.Prelude.{◌≡◌, [], ◌∷◌, ◌-◌, ◌≤◌, ◌<◌, length, get_or, take, drop};
 ghost use Rattle.books.specs.Lines.{is_in};
-ghost use Rattle.record.specs.Limits.{message_limit, signal_limit};
+ghost use Rattle.record.specs.Limits.{signal_limit};
 ghost use Rattle.columns.specs.Identifiers.{distinct_after};
 ghost use Rattle.columns.specs.Slots.{identifier_slots, identifier_slot};
 
-use record::{IDENTIFIER_LIMIT, wide};
+use record::IDENTIFIER_LIMIT;
 
 // How many slots there are, and the largest prime below their count.
 const SLOTS: usize = 256;
@@ -39,21 +39,14 @@ pub fn begin(ends: &[u32], at: usize) -> usize
     if at == 0 {
         return 0;
     }
-    wide(ends[at - 1])
+    ends[at - 1] as usize
 }
 
 // Whether `number` stands in the column.
 pub fn holds(column: &[u32], number: u32) -> bool
     ensures { result ≡ is_in number column.now }
 {
-    let mut at: usize = 0;
-    while at < column.len() {
-        if number == column[at] {
-            return true;
-        }
-        at += 1;
-    }
-    false
+    column.contains(&number)
 }
 
 // The slot of an identifier: a remainder, so that neighbours fall into different ones.
@@ -66,26 +59,20 @@ fn slot(identifier: u32) -> usize
 // Whether the identifiers are within the limit, and none stands there twice.
 // An identifier is looked for among those before it only where one of them fell into the same slot.
 pub fn distinct(ids: &[u32]) -> bool
-    requires { length ids.now ≤ message_limit }
     ensures { result ≡ distinct_after [] ids.now }
 {
-    let mut used = [0u8; SLOTS];
-    let mut left = length_of(ids);
-    let mut at: usize = 0;
-    while left > 0 {
-        let identifier = ids[at];
+    let mut used = [false; SLOTS];
+    for (at, &identifier) in ids.iter().enumerate() {
         if identifier >= IDENTIFIER_LIMIT {
             return false;
         }
         let place = slot(identifier);
-        if used[place] != 0 {
+        if used[place] {
             if holds(&ids[..at], identifier) {
                 return false;
             }
         }
-        used[place] = 1;
-        at += 1;
-        left -= 1;
+        used[place] = true;
     }
     true
 }

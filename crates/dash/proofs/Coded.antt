@@ -8,35 +8,36 @@ use Rattle.catalogue.specs.declared.Raw.{Raw}
 use Rattle.catalogue.specs.declared.Thousandths.{Thousandths}
 use Rattle.catalogue.specs.declared.Class.{Class}
 use Rattle.catalogue.specs.declared.Class.TheVariants as old
+use Rattle.catalogue.specs.declared.NoClass.{NoClass}
+use Rattle.catalogue.specs.declared.NoClass.TheVariants.{NotInCatalogue, TooWide}
+use Rattle.std.specs.Prelude.{Result, Ok, Err}
 use Rattle.catalogue.specs.Class.{class_of_spec}
 use Rattle.doubles.specs.Doubles.{SmallIfValue}
 use Rattle.doubles.proofs.Values.{small_class}
 use Rattle.framing.specs.Reading.{class_code, thousandths_of_spec}
 use Rattle.messages.specs.Signals.{numbers_of_class}
-use Rattle.dash.specs.declared.DashAnswer.TheVariants.{TooWide}
 use Rattle.dash.specs.Answer.{dash_for, dash_of}
 use Rattle.dash.specs.Coded.{dash_coded}
 
 -- the thousandths of a value are few, and those of any other class 0
-few : (c : Class) → SmallIfValue c → nat_abs (thousandths_of_spec c) ≤ exact_doubles
-few (old.Value t) h = h
-few (old.Invalid r) h = omega arith
-few (old.Absent r) h = omega arith
-few (old.Error r) h = omega arith
-few (old.Reserved r) h = omega arith
-few (old.Outside r) h = omega arith
-few old.NotInCatalogue h = omega arith
-few old.TooWide h = omega arith
+few : (c : Result Class NoClass) → SmallIfValue c → nat_abs (thousandths_of_spec c) ≤ exact_doubles
+few (Ok (old.Value t)) h = h
+few (Ok (old.Invalid r)) h = omega arith
+few (Ok (old.Absent r)) h = omega arith
+few (Ok (old.Error r)) h = omega arith
+few (Ok (old.Reserved r)) h = omega arith
+few (Ok (old.Outside r)) h = omega arith
+few (Err e) h = omega arith
 
-coded_as : (c : Class) → dash_coded (class_code c) (record { 0 = thousandths_of_spec c }) ≡ dash_for c
-coded_as (old.Value t) = refl
-coded_as (old.Invalid r) = refl
-coded_as (old.Absent r) = refl
-coded_as (old.Error r) = refl
-coded_as (old.Reserved r) = refl
-coded_as (old.Outside r) = refl
-coded_as old.NotInCatalogue = refl
-coded_as old.TooWide = refl
+coded_as : (c : Result Class NoClass) → dash_coded (class_code c) (record { 0 = thousandths_of_spec c }) ≡ dash_for c
+coded_as (Ok (old.Value t)) = refl
+coded_as (Ok (old.Invalid r)) = refl
+coded_as (Ok (old.Absent r)) = refl
+coded_as (Ok (old.Error r)) = refl
+coded_as (Ok (old.Reserved r)) = refl
+coded_as (Ok (old.Outside r)) = refl
+coded_as (Err NotInCatalogue) = refl
+coded_as (Err TooWide) = refl
 
 -- the numbers that the call gets
 module _ (number : ℕ) (raw : Raw) {z : ℤ} {code : ℕ} (is : ◌≡◌ {A = ℤ × ℕ} (z, code) (numbers_of_class number raw)) where
@@ -51,7 +52,7 @@ module _ (number : ℕ) (raw : Raw) {z : ℤ} {code : ℕ} (is : ◌≡◌ {A = 
 abbrev NoneOfSeven : ℕ → Type 0
 NoneOfSeven code = (((((((Unit × (code ≡ 0 → ⊥)) × (code ≡ 1 → ⊥)) × (code ≡ 2 → ⊥)) × (code ≡ 3 → ⊥)) × (code ≡ 4 → ⊥)) × (code ≡ 5 → ⊥)) × (code ≡ 6 → ⊥))
 
-pub last_code : (code : ℕ) (t : Thousandths) → NoneOfSeven code → TooWide ≡ dash_coded code t
+pub last_code : (code : ℕ) (t : Thousandths) → NoneOfSeven code → Err TooWide ≡ dash_coded code t
 last_code zero t others = absurd (others.0.0.0.0.0.0.1 refl)
 last_code (suc zero) t others = absurd (others.0.0.0.0.0.1 refl)
 last_code (suc (suc zero)) t others = absurd (others.0.0.0.0.1 refl)

@@ -1,6 +1,6 @@
 -- P1 over an answer of the call, sentence by sentence. proofs/Right.antt shows that what the call answers is right so, and that nothing
 -- else is. Assumes nothing: these are definitions.
-use Rattle.std.specs.Prelude.{◌≡◌, ℕ, ℤ, pos, ◌*ℤ◌, Float}
+use Rattle.std.specs.Prelude.{◌≡◌, ℕ, ℤ, pos, ◌*ℤ◌, Float, Result, Ok}
 use Rattle.std.specs.Float.{binary64}
 use Rattle.std.specs.Float.Ieee.{div}
 use Rattle.catalogue.specs.declared.Raw.{Raw}
@@ -8,8 +8,8 @@ use Rattle.catalogue.specs.declared.Thousandths.{Thousandths}
 use Rattle.catalogue.specs.declared.Class.TheVariants as old
 use Rattle.catalogue.specs.Class.{class_of_spec, class_number}
 use Rattle.doubles.specs.Doubles.{double_of, IsWhole, nearest_to}
-use Rattle.dash.specs.declared.DashAnswer.{DashAnswer}
-use Rattle.dash.specs.declared.DashAnswer.TheVariants.{Shown}
+use Rattle.catalogue.specs.declared.NoClass.{NoClass}
+use Rattle.dash.specs.declared.Dash.{Dash}
 use Rattle.dash.specs.declared.Dash.TheVariants.{Value}
 use Rattle.dash.specs.Answer.{dash_number, answer_class, old_class}
 
@@ -17,7 +17,7 @@ use Rattle.dash.specs.Answer.{dash_number, answer_class, old_class}
 pub record ReadingShown (number : ℕ) (raw : Raw) (x : Float) : Type 0 where
   -- "the exact whole number of thousandths", which the old call gives
   pub thousandths : Thousandths
-  pub read : class_of_spec number raw ≡ old.Value thousandths
+  pub read : class_of_spec number raw ≡ Ok (old.Value thousandths)
   -- "turned into a double without loss"
   pub without_loss : IsWhole (double_of thousandths.0) thousandths.0
   -- "then divided once by 1000"
@@ -28,9 +28,9 @@ pub record ReadingShown (number : ℕ) (raw : Raw) (x : Float) : Type 0 where
   pub whole : (k : ℤ) → thousandths.0 ≡ k *ℤ pos 1000 → IsWhole x k
 
 -- an answer of the call
-pub record DashRight (number : ℕ) (raw : Raw) (answer : DashAnswer) : Type 0 where
+pub record DashRight (number : ℕ) (raw : Raw) (answer : Result Dash NoClass) : Type 0 where
   -- "the two agree on the class for every raw count of every signal"
   pub class : answer_class answer ≡ old_class (class_of_spec number raw)
   -- "Refusals: 3, then 26, exactly when the old call gives them."
   pub refusal : dash_number answer ≡ class_number (class_of_spec number raw)
-  pub reading : (x : Float) → answer ≡ Shown (Value x) → ReadingShown number raw x
+  pub reading : (x : Float) → answer ≡ Ok (Value x) → ReadingShown number raw x

@@ -7,7 +7,7 @@ ghost use Rattle.dash.specs.Answer.{dash_of};
 ghost use Rattle.dash.specs.Coded.{dash_coded};
 ghost use Rattle.doubles.specs.Doubles.{Small};
 
-use catalogue::{Raw, Thousandths};
+use catalogue::{NoClass, Raw, Thousandths};
 use doubles::in_units;
 use messages::class_numbers;
 
@@ -23,33 +23,25 @@ pub enum Dash {
     Outside,
 }
 
-// What the call answers: what is drawn, or a refusal.
-#[derive(Clone, Copy)]
-pub enum DashAnswer {
-    Shown(Dash),
-    NotInCatalogue,
-    TooWide,
-}
-
 // What is drawn for a class, by its code and its thousandths.
-fn drawn(code: u8, reading: Thousandths) -> DashAnswer
+fn drawn(code: u8, reading: Thousandths) -> Result<Dash, NoClass>
     requires { Small reading }
     ensures { result ≡ dash_coded code reading }
 {
     match code {
-        0 => DashAnswer::Shown(Dash::Value(in_units(reading))),
-        1 => DashAnswer::Shown(Dash::Invalid),
-        2 => DashAnswer::Shown(Dash::Absent),
-        3 => DashAnswer::Shown(Dash::Error),
-        4 => DashAnswer::Shown(Dash::Reserved),
-        5 => DashAnswer::Shown(Dash::Outside),
-        6 => DashAnswer::NotInCatalogue,
-        _ => DashAnswer::TooWide,
+        0 => Ok(Dash::Value(in_units(reading))),
+        1 => Ok(Dash::Invalid),
+        2 => Ok(Dash::Absent),
+        3 => Ok(Dash::Error),
+        4 => Ok(Dash::Reserved),
+        5 => Ok(Dash::Outside),
+        6 => Err(NoClass::NotInCatalogue),
+        _ => Err(NoClass::TooWide),
     }
 }
 
 // What a raw count of the signal with a number shows. It asks where whoever classes a count asks, which costs the other calls nothing.
-pub fn show(number: u32, raw: Raw) -> DashAnswer
+pub fn show(number: u32, raw: Raw) -> Result<Dash, NoClass>
     ensures { result ≡ dash_of number raw }
 {
     let mut code: u8 = 0;

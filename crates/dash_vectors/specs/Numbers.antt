@@ -1,10 +1,9 @@
 -- What printing a double's bits asks for: a NaN has more than one pattern of bits. Assumes nothing: these are definitions.
-use Rattle.std.specs.Prelude.{not, T, Float}
+use Rattle.std.specs.Prelude.{not, T, Float, Result, Ok, Err}
 use Rattle.std.specs.Float.Ieee.{is_nan}
 use Rattle.dash.specs.declared.Dash.{Dash}
 use Rattle.dash.specs.declared.Dash.TheVariants.{Value, Invalid, Absent, Error, Reserved, Outside}
-use Rattle.dash.specs.declared.DashAnswer.{DashAnswer}
-use Rattle.dash.specs.declared.DashAnswer.TheVariants.{Shown, NotInCatalogue, TooWide}
+use Rattle.catalogue.specs.declared.NoClass.{NoClass}
 
 -- a double that is no NaN
 abbrev pub IsNumber : Float → Type 0
@@ -20,7 +19,6 @@ NumberDrawn Reserved = Unit
 NumberDrawn Outside = Unit
 
 -- and that of an answer
-abbrev pub NumberAnswered : DashAnswer → Type 0
-NumberAnswered (Shown d) = NumberDrawn d
-NumberAnswered NotInCatalogue = Unit
-NumberAnswered TooWide = Unit
+abbrev pub NumberAnswered : Result Dash NoClass → Type 0
+NumberAnswered (Ok d) = NumberDrawn d
+NumberAnswered (Err e) = Unit

@@ -4,10 +4,10 @@
 
 ghost use Rattle.dash_vectors.specs.Numbers.{IsNumber, NumberDrawn, NumberAnswered};
 
-use catalogue::Raw;
-use dash::{Dash, DashAnswer};
+use catalogue::{NoClass, Raw};
+use dash::Dash;
 use numerals::identifier_or_0;
-use streams::{print_bytes, read_full};
+use streams::{print_bytes, print_decimal, read_full};
 use writing::put_hexadecimals;
 
 const MOST_LINES: u32 = 1000000;
@@ -55,16 +55,15 @@ fn print_shown(rt: &impl Print, shown: Dash)
     }
 }
 
-fn print_answer(rt: &impl Print, answer: DashAnswer)
+fn print_answer(rt: &impl Print, answer: Result<Dash, NoClass>)
     requires { NumberAnswered answer }
 {
     match answer {
-        DashAnswer::Shown(shown) => print_shown(rt, shown),
-        DashAnswer::NotInCatalogue => {
-            print_bytes(rt, b"no\t3\n");
-        }
-        DashAnswer::TooWide => {
-            print_bytes(rt, b"no\t26\n");
+        Ok(shown) => print_shown(rt, shown),
+        Err(why) => {
+            print_bytes(rt, b"no\t");
+            print_decimal(rt, u64::from(u32::from(why)));
+            print_bytes(rt, b"\n");
         }
     }
 }

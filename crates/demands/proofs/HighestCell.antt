@@ -15,11 +15,13 @@ use Rattle.rows.specs.Rows.{rows, row, plus, unmarked}
 use Rattle.bits.specs.Frame.{frame_bytes}
 use Rattle.books.specs.Book.{Placement, Message}
 use Rattle.catalogue.specs.declared.Raw.{Raw}
+use Rattle.std.specs.Prelude.{Ok}
 use Rattle.catalogue.specs.declared.Class.TheVariants.{Value, Outside}
 use Rattle.catalogue.specs.Find.{row_of, bits_of_spec}
 use Rattle.catalogue.specs.Class.{between, class_for, class_of_spec}
-use Rattle.framing.specs.declared.Packing.{Packing}
-use Rattle.framing.specs.declared.Packing.TheVariants.{Packed, TooWide, ReservedOrOutside}
+use Rattle.std.specs.Prelude.{Result, Ok, Err}
+use Rattle.framing.specs.declared.PackRefusal.{PackRefusal}
+use Rattle.framing.specs.declared.PackRefusal.TheVariants.{TooWide, ReservedOrOutside}
 use Rattle.framing.specs.Messages.{checksum_number}
 use Rattle.framing.specs.Packing.{packable, judged_values, packed_frame, packed_or, pack_by_message, packing, packing_number}
 use Rattle.framing.specs.Demand.{placement_at}
@@ -40,19 +42,19 @@ cell_like_lowest raw = refl
 
 -- ---- behind values that are not refused the next ones decide
 
-one_on : (a b c : Bool) (x y : Packing) → cond a x (cond b TooWide (cond c x ReservedOrOutside)) ≡ Packed
-    → (x ≡ Packed) × (cond a y (cond b TooWide (cond c y ReservedOrOutside)) ≡ y)
+one_on : (a b c : Bool) (x y : Result (Unit {0}) PackRefusal) → cond a x (cond b (Err TooWide) (cond c x (Err ReservedOrOutside))) ≡ Ok tt
+    → (x ≡ Ok tt) × (cond a y (cond b (Err TooWide) (cond c y (Err ReservedOrOutside))) ≡ y)
 one_on true b c x y e = (e, refl)
 one_on false true c x y e = absurd (omega (arith, ap packing_number e))
 one_on false false true x y e = (e, refl)
 one_on false false false x y e = absurd (omega (arith, ap packing_number e))
 
-no_values : (ps : List Placement) → judged_values ps [] ≡ Packed
+no_values : (ps : List Placement) → judged_values ps [] ≡ Ok tt
 unfolding judged_values
 no_values [] = refl
 no_values (p ∷ ps) = refl
 
-goes_on : (i : ℕ) (ps : List Placement) (vs : List ℕ) → judged_values (take i ps) (take i vs) ≡ Packed → judged_values ps vs ≡ judged_values (drop i ps) (drop i vs)
+goes_on : (i : ℕ) (ps : List Placement) (vs : List ℕ) → judged_values (take i ps) (take i vs) ≡ Ok tt → judged_values ps vs ≡ judged_values (drop i ps) (drop i vs)
 unfolding judged_values
 goes_on zero ps vs e = refl
 goes_on (suc i) [] vs e = refl
@@ -81,21 +83,21 @@ module _ (number : ℕ) (here : row_of number ≡ some (from_one number)) (other
   unfolding class_of_spec
   by_row raw = ap (λ (o : Option Row). class_for o raw) here
 
-  outside : class_of_spec number (raw_count 0) ≡ Outside (raw_count 0)
+  outside : class_of_spec number (raw_count 0) ≡ Ok (Outside (raw_count 0))
   unfolding between
   outside = by_row (raw_count 0) ∙ refl
 
-  value : (n : ℕ) → 1 ≤ n → n ≤ 255 → class_of_spec number (raw_count n) ≡ Value (record { 0 = pos (n * 1000) })
+  value : (n : ℕ) → 1 ≤ n → n ≤ 255 → class_of_spec number (raw_count n) ≡ Ok (Value (record { 0 = pos (n * 1000) }))
   unfolding between
   value n low high =
       let no_offset : n * 1000 + 0 ≡ n * 1000 = omega arith in
       by_row (raw_count n)
       ∙ simp (lt-leb 256 n (omega arith), lt-leb n 0 (omega arith), le-leb 1 n low, le-leb n 255 high)
-      (ap (λ (k : ℕ). Value (record { 0 = pos k })) no_offset)
+      (ap (λ (k : ℕ). Ok (Value (record { 0 = pos k }))) no_offset)
 
   -- a value of the signal is judged by its bits and its class
   judged : (p : Placement) (ps : List Placement) (v : ℕ) (vs : List ℕ) → p.number ≡ number
-      → judged_values (p ∷ ps) (v ∷ vs) ≡ cond (leb 256 v) TooWide (cond (packable (class_of_spec number (raw_count v))) (judged_values ps vs) ReservedOrOutside)
+      → judged_values (p ∷ ps) (v ∷ vs) ≡ cond (leb 256 v) (Err TooWide) (cond (packable (class_of_spec number (raw_count v))) (judged_values ps vs) (Err ReservedOrOutside))
   unfolding judged_values bits_of_spec
   judged p ps v vs e = simp (e, other, here)
 
@@ -105,18 +107,18 @@ module _ (number : ℕ) (here : row_of number ≡ some (from_one number)) (other
     by_values = rw (c.taken, c.found, eq-eqb (length vs) (length m.placements) c.many, eq-eqb (length lent) frame_bytes c.eight) refl
 
     by_this : judged_values m.placements vs
-        ≡ cond (leb 256 (get_or vs i 0)) TooWide (cond (packable (class_of_spec number (raw_count (get_or vs i 0)))) (judged_values (drop (suc i) m.placements) (drop (suc i) vs)) ReservedOrOutside)
+        ≡ cond (leb 256 (get_or vs i 0)) (Err TooWide) (cond (packable (class_of_spec number (raw_count (get_or vs i 0)))) (judged_values (drop (suc i) m.placements) (drop (suc i) vs)) (Err ReservedOrOutside))
     by_this =
         goes_on i m.placements vs c.before
         ∙ from_there i m.placements vs c.many c.within
         ∙ judged (placement_at m i) (drop (suc i) m.placements) (get_or vs i 0) (drop (suc i) vs) c.signal
 
-    zero_barred : get_or vs i 0 ≡ 0 → packing words identifier vs lent ≡ (ReservedOrOutside, lent)
-    zero_barred z = by_values ∙ ap (λ (r : Packing). (r, packed_or r (packed_frame m vs) lent)) (by_this ∙ simp (z, outside))
+    zero_barred : get_or vs i 0 ≡ 0 → packing words identifier vs lent ≡ (Err ReservedOrOutside, lent)
+    zero_barred z = by_values ∙ ap (λ (r : Result (Unit {0}) PackRefusal). (r, packed_or r (packed_frame m vs) lent)) (by_this ∙ simp (z, outside))
 
     others_sent : 1 ≤ get_or vs i 0 → get_or vs i 0 ≤ 255 → (packing words identifier vs lent).0 ≡ judged_values (drop (suc i) m.placements) (drop (suc i) vs)
     others_sent low high =
-        ap (λ (x : Packing × List ℕ). x.0) by_values
+        ap (λ (x : Result (Unit {0}) PackRefusal × List ℕ). x.0) by_values
         ∙ by_this
         ∙ simp (lt-leb 256 (get_or vs i 0) (omega arith), value (get_or vs i 0) low high)
 

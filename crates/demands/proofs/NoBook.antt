@@ -14,10 +14,11 @@ use Rattle.catalogue.specs.Find.{bits_of_spec}
 use Rattle.catalogue.specs.Class.{class_of_spec}
 use Rattle.books.specs.Book.{Message, Placement}
 use Rattle.books.specs.Words.{messages_of, messages_taken_spec, routes_of}
-use Rattle.framing.specs.declared.Reading.{Reading}
-use Rattle.framing.specs.declared.Reading.TheVariants as reading
-use Rattle.framing.specs.declared.Packing.{Packing}
-use Rattle.framing.specs.declared.Packing.TheVariants as packing
+use Rattle.std.specs.Prelude.{Result, Ok, Err}
+use Rattle.framing.specs.declared.ReadRefusal.{ReadRefusal}
+use Rattle.framing.specs.declared.ReadRefusal.TheVariants as reading
+use Rattle.framing.specs.declared.PackRefusal.{PackRefusal}
+use Rattle.framing.specs.declared.PackRefusal.TheVariants as packing
 use Rattle.framing.specs.Messages.{message_with, checksum_number}
 use Rattle.framing.specs.Reading.{Slices, reading_number, checksum_holds, room, readings, read_by_message, read_by_messages}
 use Rattle.framing.specs.Reading as Read
@@ -51,12 +52,12 @@ unfolding read_by_messages read_by_message
 read_not_12 ms identifier frame lent = long (eqb (length frame) frame_bytes) (message_with identifier ms)
   where
     fits : (m : Message) (b c : Bool)
-        → reading_number (cond {A = Reading × Slices} b (cond {A = Reading × Slices} c (reading.Read (length m.placements), readings frame m.placements lent) (reading.TooLittleRoom, lent)) (reading.WrongChecksum, lent)).0 ≡ 12 → ⊥
+        → reading_number (cond {A = Result ℕ ReadRefusal × Slices} b (cond {A = Result ℕ ReadRefusal × Slices} c (Ok (length m.placements), readings frame m.placements lent) (Err reading.TooLittleRoom, lent)) (Err reading.WrongChecksum, lent)).0 ≡ 12 → ⊥
     fits m true true e = omega arith
     fits m true false e = omega arith
     fits m false c e = omega arith
 
-    long : (b : Bool) (o : Option Message) → reading_number (cond {A = Reading × Slices} b (read_by_message o frame lent) (reading.NotEightBytes, lent)).0 ≡ 12 → ⊥
+    long : (b : Bool) (o : Option Message) → reading_number (cond {A = Result ℕ ReadRefusal × Slices} b (read_by_message o frame lent) (Err reading.NotEightBytes, lent)).0 ≡ 12 → ⊥
     long true none e = omega arith
     long true (some m) e = fits m (checksum_holds m frame) (leb (length m.placements) (room lent)) e
     long false o e = omega arith
@@ -66,7 +67,7 @@ unfolding Read.reading
 read_12 w identifier frame lent =
     by_test w (reading_number (read_by_messages (messages_of w) identifier frame lent).0) (read_not_12 (messages_of w) identifier frame lent) _ (go (messages_taken_spec w))
   where
-    go : (b : Bool) → reading_number (cond {A = Reading × Slices} b (read_by_messages (messages_of w) identifier frame lent) (reading.NotABook, lent)).0
+    go : (b : Bool) → reading_number (cond {A = Result ℕ ReadRefusal × Slices} b (read_by_messages (messages_of w) identifier frame lent) (Err reading.NotABook, lent)).0
         ≡ cond b (reading_number (read_by_messages (messages_of w) identifier frame lent).0) 12
     go true = refl
     go false = refl
@@ -79,7 +80,7 @@ judged_not_12 (p ∷ ps) [] e = omega arith
 judged_not_12 (p ∷ ps) (v ∷ vs) e =
     go (eqb p.number checksum_number) (leb (2 ^ bits_of_spec p.number) v) (packable (class_of_spec p.number (record { 0 = v }))) e (judged_not_12 ps vs)
   where
-    go : (a b c : Bool) → packing_number (cond a (judged_values ps vs) (cond b packing.TooWide (cond c (judged_values ps vs) packing.ReservedOrOutside))) ≡ 12 → (packing_number (judged_values ps vs) ≡ 12 → ⊥) → ⊥
+    go : (a b c : Bool) → packing_number (cond a (judged_values ps vs) (cond b (Err packing.TooWide) (cond c (judged_values ps vs) (Err packing.ReservedOrOutside)))) ≡ 12 → (packing_number (judged_values ps vs) ≡ 12 → ⊥) → ⊥
     go true b c e h = h e
     go false true c e h = omega arith
     go false false true e h = h e
@@ -91,7 +92,7 @@ pack_not_12 none vs lent e = omega arith
 pack_not_12 (some m) vs lent e = go (eqb (length vs) (length m.placements)) (eqb (length lent) frame_bytes) e
   where
     go : (a b : Bool)
-        → packing_number (cond {A = Packing × List ℕ} a (cond {A = Packing × List ℕ} b (judged_values m.placements vs, packed_or (judged_values m.placements vs) (packed_frame m vs) lent) (packing.NotEightBytes, lent)) (packing.WrongCountOfValues, lent)).0 ≡ 12 → ⊥
+        → packing_number (cond {A = Result (Unit {0}) PackRefusal × List ℕ} a (cond {A = Result (Unit {0}) PackRefusal × List ℕ} b (judged_values m.placements vs, packed_or (judged_values m.placements vs) (packed_frame m vs) lent) (Err packing.NotEightBytes, lent)) (Err packing.WrongCountOfValues, lent)).0 ≡ 12 → ⊥
     go true true e = judged_not_12 m.placements vs e
     go true false e = omega arith
     go false b e = omega arith
@@ -101,7 +102,7 @@ unfolding Pack.packing
 pack_12 w identifier vs lent =
     by_test w (packing_number (pack_by_message (message_with identifier (messages_of w)) vs lent).0) (pack_not_12 (message_with identifier (messages_of w)) vs lent) _ (go (messages_taken_spec w))
   where
-    go : (b : Bool) → packing_number (cond {A = Packing × List ℕ} b (pack_by_message (message_with identifier (messages_of w)) vs lent) (packing.NotABook, lent)).0
+    go : (b : Bool) → packing_number (cond {A = Result (Unit {0}) PackRefusal × List ℕ} b (pack_by_message (message_with identifier (messages_of w)) vs lent) (Err packing.NotABook, lent)).0
         ≡ cond b (packing_number (pack_by_message (message_with identifier (messages_of w)) vs lent).0) 12
     go true = refl
     go false = refl

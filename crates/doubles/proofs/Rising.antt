@@ -11,11 +11,13 @@ use lib.IntN.{nat_abs}
 use lib.ListN.{length, get_or}
 use lib.Ieee.{Float, lt}
 use borrow.Author.Tests.{leb-false}
+use Rattle.std.specs.Prelude.{Ok, Err}
 use Rattle.rows.specs.declared.Row.{Row}
 use Rattle.rows.specs.Rows.{rows, blank}
 use Rattle.catalogue.specs.declared.Raw.{Raw}
 use Rattle.catalogue.specs.declared.Thousandths.{Thousandths}
-use Rattle.catalogue.specs.declared.Class.TheVariants.{Value, TooWide}
+use Rattle.catalogue.specs.declared.Class.TheVariants.{Value}
+use Rattle.catalogue.specs.declared.NoClass.TheVariants.{TooWide}
 use Rattle.catalogue.specs.Find.{row_of}
 use Rattle.catalogue.specs.Class.{reading_of, class_in_spec, class_for, class_of_spec}
 use Rattle.catalogue.proofs.Found.{FoundIn, found, RuleOf, rule_of}
@@ -66,16 +68,16 @@ module _ (r : Row) (raw : Raw) (few : Few r) where
   abbrev Is : Thousandths → Type 0
   Is t = (t ≡ reading_of r raw) × (nat_abs t.0 ≤ limit)
 
-  of_row : (b : Bool) → leb (2 ^ r.bits) raw.0 ≡ b → OfValue Is (cond b TooWide (class_in_spec r raw))
+  of_row : (b : Bool) → leb (2 ^ r.bits) raw.0 ≡ b → OfValue Is (cond b (Err TooWide) (Ok (class_in_spec r raw)))
   of_row true e = tt
-  of_row false e = of_class (OfValue Is) raw tt tt tt tt r (refl, reading_within r raw limit few (leb-false (2 ^ r.bits) raw.0 e)) tt
+  of_row false e = of_class (λ k. OfValue Is (Ok k)) raw tt tt tt tt r (refl, reading_within r raw limit few (leb-false (2 ^ r.bits) raw.0 e)) tt
 
-  is_reading : (t : Thousandths) → class_for (some r) raw ≡ Value t → Is t
+  is_reading : (t : Thousandths) → class_for (some r) raw ≡ Ok (Value t) → Is t
   is_reading t e = subst (OfValue Is) e (of_row (leb (2 ^ r.bits) raw.0) refl)
 
 -- ---- two counts of a signal
 
-in_row : (o : Option Row) → RuleOf o → FewOf o → (raw raw' : Raw) (t t' : Thousandths) → class_for o raw ≡ Value t → class_for o raw' ≡ Value t' → raw.0 < raw'.0
+in_row : (o : Option Row) → RuleOf o → FewOf o → (raw raw' : Raw) (t t' : Thousandths) → class_for o raw ≡ Ok (Value t) → class_for o raw' ≡ Ok (Value t') → raw.0 < raw'.0
     → T (lt (nearest_to t.0 1000) (nearest_to t'.0 1000))
 in_row none rule few raw raw' t t' e e' h = absurd (subst (OfValue (λ t. ⊥)) e tt)
 in_row (some r) rule few raw raw' t t' e e' h =
@@ -84,7 +86,7 @@ in_row (some r) rule few raw raw' t t' e e' h =
     spaced t.0 t'.0 p.1 q.1 (rw (p.0, q.0) (rising r rule raw raw' h))
 
 -- a higher count shows a higher double
-pub readings_rise : (n : ℕ) (raw raw' : Raw) (t t' : Thousandths) → class_of_spec n raw ≡ Value t → class_of_spec n raw' ≡ Value t' → raw.0 < raw'.0 → T (lt (in_units_spec t) (in_units_spec t'))
+pub readings_rise : (n : ℕ) (raw raw' : Raw) (t t' : Thousandths) → class_of_spec n raw ≡ Ok (Value t) → class_of_spec n raw' ≡ Ok (Value t') → raw.0 < raw'.0 → T (lt (in_units_spec t) (in_units_spec t'))
 unfolding class_of_spec
 readings_rise n raw raw' t t' e e' h =
     subst⁻¹ (λ (x : Float). T (lt x (in_units_spec t'))) (value_rounded_once n raw t e)

@@ -9,11 +9,13 @@ use native.Mathlib.Omega.{arith}
 use lib.Dec.{leb, ltb}
 use lib.IntN.{ℤ, pos, negsuc, nat_abs, ◌+ℤ◌, ◌*ℤ◌}
 use borrow.Author.Tests.{leb-false}
+use Rattle.std.specs.Prelude.{Ok, Err}
 use Rattle.rows.specs.declared.Row.{Row}
 use Rattle.rows.specs.Rule.{Rule, exact_doubles}
 use Rattle.catalogue.specs.declared.Raw.{Raw}
 use Rattle.catalogue.specs.declared.Thousandths.{Thousandths}
-use Rattle.catalogue.specs.declared.Class.TheVariants.{Value, TooWide}
+use Rattle.catalogue.specs.declared.Class.TheVariants.{Value}
+use Rattle.catalogue.specs.declared.NoClass.TheVariants.{TooWide}
 use Rattle.catalogue.specs.Find.{row_of}
 use Rattle.catalogue.specs.Class.{reading_of, class_in_spec, class_for, class_of_spec}
 use Rattle.catalogue.proofs.Found.{RuleOf, rule_of}
@@ -36,14 +38,14 @@ reading_within r raw most few h =
     let fewer : raw.0 * r.resolution ≤ 2 ^ r.bits * r.resolution = mul-le-mul_right r.resolution (le_of_lt h) in
     omega (arith, fewer, size_add (raw.0 * r.resolution) r.offset, few)
 
-small_in : (r : Row) → Rule r → (raw : Raw) → raw.0 < 2 ^ r.bits → SmallIfValue (class_in_spec r raw)
-small_in r rule raw h = of_class SmallIfValue raw tt tt tt tt r (reading_within r raw exact_doubles rule.small h) tt
+small_in : (r : Row) → Rule r → (raw : Raw) → raw.0 < 2 ^ r.bits → SmallIfValue (Ok (class_in_spec r raw))
+small_in r rule raw h = of_class (λ k. SmallIfValue (Ok k)) raw tt tt tt tt r (reading_within r raw exact_doubles rule.small h) tt
 
 small_for : (o : Option Row) → RuleOf o → (raw : Raw) → SmallIfValue (class_for o raw)
 small_for none rule raw = tt
 small_for (some r) rule raw = go (leb (2 ^ r.bits) raw.0) refl
   where
-    go : (b : Bool) → leb (2 ^ r.bits) raw.0 ≡ b → SmallIfValue (cond b TooWide (class_in_spec r raw))
+    go : (b : Bool) → leb (2 ^ r.bits) raw.0 ≡ b → SmallIfValue (cond b (Err TooWide) (Ok (class_in_spec r raw)))
     go true e = tt
     go false e = small_in r rule raw (leb-false (2 ^ r.bits) raw.0 e)
 
@@ -54,7 +56,7 @@ small_class n raw = small_for (row_of n) (rule_of n) raw
 
 -- ---- the theorems of every value
 
-module _ (n : ℕ) (raw : Raw) (t : Thousandths) (is : class_of_spec n raw ≡ Value t) where
+module _ (n : ℕ) (raw : Raw) (t : Thousandths) (is : class_of_spec n raw ≡ Ok (Value t)) where
   always_fits : Small t
   always_fits = subst SmallIfValue is (small_class n raw)
 

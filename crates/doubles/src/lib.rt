@@ -22,5 +22,5 @@ pub fn bits_in_units(reading: Thousandths) -> u64
     requires { Small reading }
     ensures { result ≡ to_bits binary64 (in_units_spec reading) }
 {
-    f64::to_bits(in_units(reading))
+    in_units(reading).to_bits()
 }

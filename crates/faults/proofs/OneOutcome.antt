@@ -1,21 +1,13 @@
--- The contract of `sum` allows one outcome and no other. Assumes nothing.
-use mathlib.Core.Path.{refl}
-use mathlib.Core.List.{List}
-use Prim.Native.Nat.{ℕ}
-use seplogic.Ra.Ura.{Ura}
-use base.Logic.{SProp}
-use prog.Memory.{Memory}
-use prog.Routine.{Routine}
-use types.Logic.{Logic}
-use contract.Lifetimes.{Lfts}
-use contract.Monad.{Fun}
-use denote.Ref.{Bor}
-use denote.Triple.Clauses.{AtExit}
-use Rattle.only.specs.Only.{Only, only_this}
-use Rattle.faults.specs.Sum.{answer_to}
-use Rattle.faults.specs.contracts.FaultAnswer as S
+-- Each public function's contract allows one outcome and no other. Assumes nothing.
+use Rattle.std.specs.Prelude.{refl, Err}
+use Rattle.only.specs.Outcomes.{OneResult, result_is}
+use Rattle.faults.specs.Sum.{fault_refusal, answer_to}
 use Rattle.faults.specs.contracts.sum as sum
+use Rattle.faults.specs.contracts.U32FromFaultRefusal.from as number-of
 
-module _ {M : Type 1} {𝓤 : Ura M} (𝓛 : Logic 𝓤) (mem : Memory → SProp 𝓤) (run : Routine → Fun 𝓤) where
-  pub one_sum : (κs : Lfts 1) (counts : Bor (List ℕ)) (e : AtExit sum.ended κs) → Only 𝓤 (λ r. (sum.clauses 𝓛 mem run κs (counts, tt)).ensures tt r e)
-  one_sum κs counts e = only_this 𝓤 _ (S.the_row).coded (answer_to counts.now) (λ r. refl)
+module _ (M : Type 1) where
+  pub one_sum : OneResult M sum.ended (λ _. sum.clauses)
+  one_sum = result_is (λ c. answer_to c.arguments.0.now) refl
+
+  pub one_fault_number : OneResult M number-of.ended (λ _. number-of.clauses)
+  one_fault_number = result_is (λ c. fault_refusal (Err c.arguments.0)) refl

@@ -5,7 +5,8 @@ use mathlib.Core.List.{List}
 use Prim.Native.Nat.{ℕ}
 use lib.Dec.{eqb}
 use lib.ListN.{length}
-use Rattle.faults.specs.declared.FaultAnswer.TheVariants.{Summed, NotTwentySeven, TooWide}
+use Rattle.std.specs.Prelude.{Ok, Err}
+use Rattle.faults.specs.declared.FaultRefusal.TheVariants.{NotTwentySeven, TooWide}
 use Rattle.faults.specs.Rows.{counted, fault_rows, row_count}
 use Rattle.faults.specs.Sum.{fault_refusal, all_fit, sum_of, answer_to}
 
@@ -19,7 +20,7 @@ pub refused : (counts : List ℕ) → fault_refusal (answer_to counts) ≡ cond 
 unfolding answer_to
 refused counts = go (eqb (length counts) row_count) (all_fit counts)
   where
-    go : (a b : Bool) → fault_refusal (cond a (cond b (Summed (sum_of counts)) TooWide) NotTwentySeven) ≡ cond a (cond b 0 32) 31
+    go : (a b : Bool) → fault_refusal (cond a (cond b (Ok (sum_of counts)) (Err TooWide)) (Err NotTwentySeven)) ≡ cond a (cond b 0 32) 31
     go true true = refl
     go true false = refl
     go false b = refl

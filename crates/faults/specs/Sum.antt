@@ -1,17 +1,21 @@
 -- The fault sum over the raw counts of 1901 to 1927, or refusal 31 or 32, in document 01's words. Assumes nothing.
-use Rattle.std.specs.Prelude.{ℕ, ◌^◌, Bool, cond, ◌||◌, List, eqb, length}
+use Rattle.std.specs.Prelude.{ℕ, ◌^◌, Bool, cond, ◌||◌, List, eqb, length, Result, Ok, Err}
 use Rattle.catalogue.specs.Find.{bits_of_spec}
 use Rattle.faults.specs.declared.FaultSum.{FaultSum}
-use Rattle.faults.specs.declared.FaultAnswer.{FaultAnswer}
-use Rattle.faults.specs.declared.FaultAnswer.TheVariants.{Summed, NotTwentySeven, TooWide}
+use Rattle.faults.specs.declared.FaultRefusal.{FaultRefusal}
+use Rattle.faults.specs.declared.FaultRefusal.TheVariants.{NotTwentySeven, TooWide}
 use Rattle.faults.specs.Rows.{fault_rows, row_count, told_row, level_rows, one_bit_rows, emergency_rows, fire_row}
 use Rattle.faults.specs.Counts.{level_of_spec, stands_at_spec, raw_below, how_many_spec, all_of, any_of, highest_of_spec}
 
+-- the answer: the sum, or why nothing is summed
+abbrev pub FaultAnswer : Type 0
+FaultAnswer = Result FaultSum FaultRefusal
+
 -- document 01's number of each answer; 0 is no refusal
 abbrev pub fault_refusal : FaultAnswer → ℕ
-fault_refusal (Summed s) = 0
-fault_refusal NotTwentySeven = 31
-fault_refusal TooWide = 32
+fault_refusal (Ok s) = 0
+fault_refusal (Err NotTwentySeven) = 31
+fault_refusal (Err TooWide) = 32
 
 -- none is "too wide": each count is below 2 to the bits that its signal has in the catalogue
 unfoldable pub all_fit : List ℕ → Bool
@@ -36,4 +40,4 @@ sum_of counts =
 
 -- 31: "not 27 fault values"; 32: "one too wide"; "nothing summed"
 unfoldable pub answer_to : List ℕ → FaultAnswer
-answer_to counts = cond (eqb (length counts) row_count) (cond (all_fit counts) (Summed (sum_of counts)) TooWide) NotTwentySeven
+answer_to counts = cond (eqb (length counts) row_count) (cond (all_fit counts) (Ok (sum_of counts)) (Err TooWide)) (Err NotTwentySeven)

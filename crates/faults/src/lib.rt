@@ -5,14 +5,14 @@
 // is counted over which rows.
 #![tactic(auto)]
 
-ghost use Rattle.std.specs.Prelude.{◌≡◌, cond, ◌≤◌, max, length};
+ghost use Rattle.std.specs.Prelude.{◌≡◌, ◌≤◌, length, Err};
 ghost use Rattle.faults.specs.Rows.{row_count, rows_between, level_rows, one_bit_rows, InTable};
 ghost use Rattle.faults.specs.Counts.{raw_of_spec, level_of_spec, stands_at_spec, raw_below, how_many_spec, all_of, highest_of_spec};
-ghost use Rattle.faults.specs.Sum.{all_fit, is_emergency_spec, answer_to};
+ghost use Rattle.faults.specs.Sum.{fault_refusal, all_fit, is_emergency_spec, answer_to};
 
 use catalogue::Raw;
 
-#[derive(Clone, Copy)]
+#[derive(Clone, Copy, Debug, PartialEq, Eq)]
 pub struct FaultSum {
     // The highest level.
     pub highest: u32,
@@ -27,11 +27,24 @@ pub struct FaultSum {
     pub agrees: bool,
 }
 
-#[derive(Clone, Copy)]
-pub enum FaultAnswer {
-    Summed(FaultSum),
+#[derive(Clone, Copy, Debug, PartialEq, Eq)]
+pub enum FaultRefusal {
+    // There are more counts than rows, or fewer.
     NotTwentySeven,
+    // A count has more bits than its signal.
     TooWide,
+}
+
+// Document 01's number of each refusal.
+impl From<FaultRefusal> for u32 {
+    ghost from_gives = { λ why number. number ≡ fault_refusal (Err why) };
+
+    fn from(why: FaultRefusal) -> u32 {
+        match why {
+            FaultRefusal::NotTwentySeven => 31,
+            FaultRefusal::TooWide => 32,
+        }
+    }
 }
 
 // The rows of the slice: the first, the last, and how many.
@@ -52,93 +65,60 @@ const TWO_BITS: u32 = 4;
 const FIVE_BITS: u32 = 32;
 
 // The raw count of a row.
-fn raw_of(counts: &[u32], row: usize) -> Raw
+fn raw_of(counts: &[u32; ROW_COUNT], row: usize) -> Raw
     requires { InTable (length counts.now) row row }
     ensures { result ≡ raw_of_spec counts.now row }
 {
     Raw(counts[row - FIRST_ROW])
 }
 
-fn level_of(counts: &[u32], row: usize) -> u32
-    requires { InTable (length counts.now) row row }
-    ensures { result ≡ level_of_spec counts.now row }
-{
-    let raw = raw_of(counts, row);
-    raw.0
-}
-
-fn stands_at(counts: &[u32], row: usize, wanted: u32) -> bool
+fn stands_at(counts: &[u32; ROW_COUNT], row: usize, wanted: u32) -> bool
     requires { InTable (length counts.now) row row }
     ensures { result ≡ stands_at_spec counts.now wanted row }
 {
-    let raw = raw_of(counts, row);
-    raw.0 == wanted
+    raw_of(counts, row).0 == wanted
 }
 
-fn is_below(counts: &[u32], row: usize, limit: u32) -> bool
-    requires { InTable (length counts.now) row row }
-    ensures { result ≡ raw_below counts.now limit row }
-{
-    let raw = raw_of(counts, row);
-    raw.0 < limit
-}
-
-fn one_if(test: bool) -> u32
-    ensures { (result ≡ cond test 1 0) × (result ≤ 1) }
-{
-    if test { 1 } else { 0 }
-}
-
-fn greater(a: u32, b: u32) -> u32
-    ensures { result ≡ max a b }
-{
-    if a < b { b } else { a }
-}
+// Kept, here and in the two functions below: a loop over rows and not over the part of the array that has them, for which
+// `from <= to` would have to be asked; no `requires` may be tighter than it is.
 
 // How many of the rows `from` to `to` stand at `wanted`.
-fn how_many(counts: &[u32], from: usize, to: usize, wanted: u32) -> u32
+fn how_many(counts: &[u32; ROW_COUNT], from: usize, to: usize, wanted: u32) -> u32
     requires { InTable (length counts.now) from to }
     ensures { (result ≡ how_many_spec (stands_at_spec counts.now wanted) (rows_between from to)) × (result ≤ row_count) }
 {
     let mut n: u32 = 0;
-    let mut row: usize = from;
-    while row <= to {
-        n += one_if(stands_at(counts, row, wanted));
-        row += 1;
+    for row in from..=to {
+        n += u32::from(stands_at(counts, row, wanted));
     }
     n
 }
 
 // The highest count among the rows `from` to `to`.
-fn highest_of(counts: &[u32], from: usize, to: usize) -> u32
+fn highest_of(counts: &[u32; ROW_COUNT], from: usize, to: usize) -> u32
     requires { InTable (length counts.now) from to }
     ensures { result ≡ highest_of_spec (level_of_spec counts.now) (rows_between from to) }
 {
     let mut highest: u32 = 0;
-    let mut row: usize = from;
-    while row <= to {
-        highest = greater(highest, level_of(counts, row));
-        row += 1;
+    for row in from..=to {
+        highest = highest.max(raw_of(counts, row).0);
     }
     highest
 }
 
 // Whether each of the rows `from` to `to` has a count below `limit`.
-fn all_below(counts: &[u32], from: usize, to: usize, limit: u32) -> bool
+fn all_below(counts: &[u32; ROW_COUNT], from: usize, to: usize, limit: u32) -> bool
     requires { InTable (length counts.now) from to }
     ensures { result ≡ all_of (raw_below counts.now limit) (rows_between from to) }
 {
     let mut all = true;
-    let mut row: usize = from;
-    while row <= to {
-        all = all & is_below(counts, row, limit);
-        row += 1;
+    for row in from..=to {
+        all &= raw_of(counts, row).0 < limit;
     }
     all
 }
 
-fn all_fit(counts: &[u32]) -> bool
-    requires { length counts.now ≡ row_count }
+fn all_fit(counts: &[u32; ROW_COUNT]) -> bool
     ensures { result ≡ all_fit counts.now }
 {
     all_below(counts, FIRST_ROW, 1914, TWO_BITS)
@@ -149,25 +129,19 @@ fn all_fit(counts: &[u32]) -> bool
         & all_below(counts, 1926, LAST_ROW, ONE_BIT)
 }
 
-fn highest_level(counts: &[u32]) -> u32
-    requires { length counts.now ≡ row_count }
+fn highest_level(counts: &[u32; ROW_COUNT]) -> u32
     ensures { result ≡ highest_of_spec (level_of_spec counts.now) level_rows }
 {
-    greater(
-        highest_of(counts, 1902, 1914),
-        highest_of(counts, 1925, 1925),
-    )
+    highest_of(counts, 1902, 1914).max(highest_of(counts, 1925, 1925))
 }
 
-fn levels_at(counts: &[u32], level: u32) -> u32
-    requires { length counts.now ≡ row_count }
+fn levels_at(counts: &[u32; ROW_COUNT], level: u32) -> u32
     ensures { result ≡ how_many_spec (stands_at_spec counts.now level) level_rows }
 {
     how_many(counts, 1902, 1914, level) + how_many(counts, 1925, 1925, level)
 }
 
-fn one_bit_faults(counts: &[u32]) -> u32
-    requires { length counts.now ≡ row_count }
+fn one_bit_faults(counts: &[u32; ROW_COUNT]) -> u32
     ensures { result ≡ how_many_spec (stands_at_spec counts.now 1) one_bit_rows }
 {
     how_many(counts, 1915, 1921, 1)
@@ -175,8 +149,7 @@ fn one_bit_faults(counts: &[u32]) -> u32
         + how_many(counts, 1926, 1927, 1)
 }
 
-fn is_emergency(counts: &[u32]) -> bool
-    requires { length counts.now ≡ row_count }
+fn is_emergency(counts: &[u32; ROW_COUNT]) -> bool
     ensures { result ≡ is_emergency_spec counts.now }
 {
     stands_at(counts, 1902, 3)
@@ -188,14 +161,14 @@ fn is_emergency(counts: &[u32]) -> bool
 }
 
 // The fault sum over the raw counts of 1901 to 1927, in that order.
-pub fn sum(counts: &[u32]) -> FaultAnswer
+pub fn sum(counts: &[u32]) -> Result<FaultSum, FaultRefusal>
     ensures { result ≡ answer_to counts.now }
 {
-    if counts.len() != ROW_COUNT {
-        return FaultAnswer::NotTwentySeven;
-    }
+    let Ok(counts) = <&[u32; ROW_COUNT]>::try_from(counts) else {
+        return Err(FaultRefusal::NotTwentySeven);
+    };
     if !all_fit(counts) {
-        return FaultAnswer::TooWide;
+        return Err(FaultRefusal::TooWide);
     }
     let highest = highest_level(counts);
     let at_1 = levels_at(counts, 1);
@@ -204,7 +177,7 @@ pub fn sum(counts: &[u32]) -> FaultAnswer
     let set = one_bit_faults(counts);
     let emergency = is_emergency(counts);
     let agrees = stands_at(counts, TOLD_ROW, highest);
-    FaultAnswer::Summed(FaultSum {
+    Ok(FaultSum {
         highest,
         at_1,
         at_2,

@@ -1,17 +1,13 @@
 -- A number from the front of a text up to a byte that ends it. Assumes nothing: these are definitions.
-use Rattle.std.specs.Prelude.{ℕ, cond, List, ltb, length, take}
-use Rattle.numerals.specs.declared.Number.{Number}
-use Rattle.numerals.specs.declared.Number.TheVariants as number
+use Rattle.std.specs.Prelude.{ℕ, cond, List, ltb, length, take, Option, Some, None}
 use Rattle.parts.specs.Parts.{index_of}
-use Rattle.fields.specs.declared.Front.{Front}
-use Rattle.fields.specs.declared.Front.TheVariants.{Found, Nothing}
 
 -- a number of k digits
-abbrev pub of_digits : Number → ℕ → Front
-of_digits (number.Is n) k = Found n k
-of_digits number.Not k = Nothing
+abbrev pub of_digits : Option ℕ → ℕ → Option (ℕ × ℕ)
+of_digits (Some n) k = Some (n, k)
+of_digits None k = None
 
 -- what stands before the first `stop`, read in one of the forms of a number; nothing where there is no `stop`
-unfoldable pub number_before : (List ℕ → Number) → ℕ → List ℕ → Front
+unfoldable pub number_before : (List ℕ → Option ℕ) → ℕ → List ℕ → Option (ℕ × ℕ)
 number_before form stop text =
-    cond (ltb (index_of stop text) (length text)) (of_digits (form (take (index_of stop text) text)) (index_of stop text)) Nothing
+    cond (ltb (index_of stop text) (length text)) (of_digits (form (take (index_of stop text) text)) (index_of stop text)) None

@@ -19,18 +19,14 @@ const MOST_CASES: u32 = 1000000;
 // The longest text of a book.
 const TEXT: usize = 8192;
 
-fn take_first(text: &[u8], size: usize, book: &mut [u32; BOOK_WORDS]) {
-    if size <= text.len() {
-        book::read(&text[..size], book);
-    }
-}
-
 fn book_case<R: Read>(input: &mut R, text: &mut [u8], book: &mut [u32; BOOK_WORDS]) {
     let size = read_eight_digits(input) as usize;
     end_line(input);
     read_first(input, &mut *text, size);
     end_line(input);
-    take_first(&*text, size, book);
+    if let Some(first) = text.get(..size) {
+        let _ = book::read(first, book);
+    }
 }
 
 pub fn run<R: Input + Print>(rt: &R) {
@@ -42,14 +38,11 @@ pub fn run<R: Input + Print>(rt: &R) {
         if read_full(&mut input, &mut letter) < 1 {
             return;
         }
-        if letter[0] == b'B' {
-            book_case(&mut input, &mut text, &mut book);
-        } else if letter[0] == b'F' {
-            read_case(rt, &mut input, &book);
-        } else if letter[0] == b'P' {
-            pack_case(rt, &mut input, &book);
-        } else {
-            return;
+        match letter[0] {
+            b'B' => book_case(&mut input, &mut text, &mut book),
+            b'F' => read_case(rt, &mut input, &book),
+            b'P' => pack_case(rt, &mut input, &book),
+            _ => return,
         }
     }
 }

@@ -1,7 +1,9 @@
 // Numbers of a case: hex digits of a fixed count, read from standard input; and how numbers are printed.
 use numerals::identifier_or_0;
+use record_cases::short_hex;
 use std::io::Read;
-use streams::{print_bytes, print_decimal, read_full, write_first};
+pub use streams::print_signed;
+use streams::{print_bytes, print_decimal, read_full};
 
 pub fn read_eight_digits<R: Read>(input: &mut R) -> u32 {
     let mut digits = [0u8; 8];
@@ -13,7 +15,7 @@ pub fn read_eight_digits<R: Read>(input: &mut R) -> u32 {
 pub fn read_two_digits<R: Read>(input: &mut R) -> u32 {
     let mut digits = [0u8; 2];
     read_full(input, &mut digits);
-    identifier_or_0(&[b'0', b'0', b'0', b'0', b'0', b'0', digits[0], digits[1]])
+    short_hex(digits[0], digits[1])
 }
 
 pub fn read_byte<R: Read>(input: &mut R) -> u8 {
@@ -31,20 +33,13 @@ pub fn print(rt: &impl Print, text: &[u8]) {
 }
 
 pub fn print_number(rt: &impl Print, n: u32) {
-    print_decimal(rt, n as u64);
-}
-
-pub fn print_signed(rt: &impl Print, n: i64) {
-    let mut text = [0u8; 32];
-    let count = printing::put_signed(&mut text, 0, n);
-    let _ = write_first(rt, &text, count);
+    print_decimal(rt, u64::from(n));
 }
 
 // Four bytes as eight digits, the highest first.
-pub fn print_four(rt: &impl Print, a: u8, b: u8, c: u8, d: u8) {
-    let n = ((a as u32) << 24) + ((b as u32) << 16) + ((c as u32) << 8) + (d as u32);
+pub fn print_four(rt: &impl Print, bytes: [u8; 4]) {
     let mut text = [0u8; 8];
-    writing::put_identifier(&mut text, 0, n);
+    writing::put_identifier(&mut text, 0, u32::from_be_bytes(bytes));
     print(rt, &text);
 }
 

@@ -7,8 +7,7 @@ use native.Mathlib.Omega.{arith}
 use lib.Dec.{eqb, leb}
 use lib.ListN.{length, get_or}
 use borrow.Author.Tests.{eqb-true, eqb-false}
-use Rattle.numerals.specs.declared.Number.{Number}
-use Rattle.numerals.specs.declared.Number.TheVariants.{Is, Not}
+use Rattle.std.specs.Prelude.{Option, Some, None}
 use Rattle.numerals.specs.Numeral.{identifier}
 use Rattle.parts.specs.Parts.{fields}
 use Rattle.bits.specs.Frame.{frame_bytes}
@@ -23,16 +22,16 @@ abbrev pub SmallBytes : FrameMeaning → Type 0
 SmallBytes (frame i bytes) = (k : ℕ) → get_or bytes k 0 < 256
 SmallBytes ill_formed_spec = Unit
 
-small_by : (n : Number) (l : List ℕ) → SmallBytes (said_by n l)
+small_by : (n : Option ℕ) (l : List ℕ) → SmallBytes (said_by n l)
 unfolding are_bytes
-small_by (Is i) l = go (leb (length l) 16) (eqb (length l % 2) 0) (all_digits_spec l) refl
+small_by (Some i) l = go (leb (length l) 16) (eqb (length l % 2) 0) (all_digits_spec l) refl
   where
     go : (a b c : Bool) → all_digits_spec l ≡ c → SmallBytes (cond (a && (b && c)) (frame i (bytes_in l)) ill_formed_spec)
     go false b c h = tt
     go true false c h = tt
     go true true false h = tt
     go true true true h = bytes_small l h
-small_by Not l = tt
+small_by None l = tt
 
 says_small : (l : List ℕ) → SmallBytes (frame_line_says l)
 unfolding frame_line_says of_frame_fields

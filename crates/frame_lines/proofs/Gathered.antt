@@ -1,12 +1,13 @@
 -- The word of a frame gathered from its digits, byte 0 first. Assumes nothing.
-use mathlib.Core.Path.{◌≡◌, refl, sym, ◌∙◌}
+use mathlib.Core.Path.{◌≡◌, refl, sym, ap, ◌∙◌}
 use mathlib.Core.Bool.{Bool, true}
-use mathlib.Core.List.{List}
+use mathlib.Core.List.{List, [], ◌∷◌, ◌++◌}
 use Prim.Native.Nat.{ℕ, zero, suc, ◌+◌, ◌*◌, ◌/◌, ◌%◌, ◌^◌, ◌≤◌, ◌<◌}
 use native.Mathlib.Numerals.{add-one}
 use native.Mathlib.Omega.{arith}
-use lib.ListN.{length, drop, get_or, drop_of_length-le}
-use lib.Seq.{drop-cons}
+use lib.ListN.{length, drop, get_or, length-drop, drop_of_length-le}
+use lib.Seq.{drop-cons, drop-drop}
+use Rattle.std.proofs.lemmas.List.{get_or-drop}
 use borrow.Author.Tests.{lt-ltb}
 use Rattle.numerals.specs.Numeral.{digit_value}
 use Rattle.bits.specs.Word.{word_of, word_from}
@@ -72,3 +73,28 @@ module _ (l : List ℕ) where
     gathered s =
         let e : i ≡ 8 = omega (arith, g.inside) in
         rw e at g.word ∙ stacked_word (bytes_in l)
+
+-- the next pair of digits, and what is left after it
+pub record Pair (l pair rest : List ℕ) (i : ℕ) : Type 0 where
+  pub more : i < length l / 2
+  pub high : get_or pair 0 0 ≡ get_or l (2 * i) 0
+  pub low : get_or pair 1 0 ≡ get_or l (2 * i + 1) 0
+  pub left : rest ≡ drop (2 * (i + 1)) l
+
+pub next_pair : (l before pair rest : List ℕ) (i : ℕ) → before ≡ drop (2 * i) l → before ≡ pair ++ rest → length pair ≡ 2 → Pair l pair rest i
+next_pair l before [] rest i d e s = absurd (omega arith)
+next_pair l before (a ∷ []) rest i d e s = absurd (omega arith)
+next_pair l before (a ∷ b ∷ c ∷ t) rest i d e s = absurd (omega arith)
+next_pair l before (a ∷ b ∷ []) rest i d e s =
+    let f : drop (2 * i) l ≡ a ∷ b ∷ rest = sym d ∙ e in
+    let k : 2 * i + 0 ≡ 2 * i = omega arith in
+    let m : 2 * i + 2 ≡ 2 * (i + 1) = omega arith in
+    record {
+      more = omega (arith, length-drop (2 * i) l, ap length f);
+      high = sym (ap (λ (x : List ℕ). get_or x 0 0) f) ∙ get_or-drop (2 * i) l 0 0 ∙ ap (λ (n : ℕ). get_or l n 0) k;
+      low = sym (ap (λ (x : List ℕ). get_or x 1 0) f) ∙ get_or-drop (2 * i) l 1 0;
+      left = sym (ap (drop 2) f) ∙ drop-drop 2 (2 * i) l ∙ ap (λ (n : ℕ). drop n l) m;
+    }
+
+pub last_pair : (l rest : List ℕ) (i : ℕ) → rest ≡ drop (2 * i) l → length rest < 2 → length l / 2 ≤ i
+last_pair l rest i d h = omega (arith, length-drop (2 * i) l, ap length d)

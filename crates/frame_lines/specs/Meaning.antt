@@ -1,7 +1,5 @@
 -- "lines of identifier, tab, 0 to 16 hex digits (even, 0-9 A-F, byte 0 first)": what a frame line says. Assumes nothing.
-use Rattle.std.specs.Prelude.{Bool, true, cond, ◌&&◌, List, [], ◌∷◌, ℕ, ◌+◌, ◌*◌, ◌%◌, eqb, ltb, leb, length}
-use Rattle.numerals.specs.declared.Number.{Number}
-use Rattle.numerals.specs.declared.Number.TheVariants.{Is, Not}
+use Rattle.std.specs.Prelude.{Bool, true, cond, ◌&&◌, List, [], ◌∷◌, ℕ, ◌+◌, ◌*◌, ◌%◌, eqb, ltb, leb, length, Option, Some, None}
 use Rattle.numerals.specs.Numeral.{digit_value, identifier}
 use Rattle.parts.specs.Parts.{fields}
 use Rattle.bits.specs.Frame.{frame_bytes}
@@ -33,9 +31,9 @@ bytes_in (a ∷ []) = []
 bytes_in (a ∷ b ∷ t) = (16 * digit_value a + digit_value b) ∷ bytes_in t
 
 -- by the identifier, with the digits after it
-abbrev pub said_by : Number → List ℕ → FrameMeaning
-said_by (Is i) l = cond (are_bytes l) (frame i (bytes_in l)) ill_formed_spec
-said_by Not l = ill_formed_spec
+abbrev pub said_by : Option ℕ → List ℕ → FrameMeaning
+said_by (Some i) l = cond (are_bytes l) (frame i (bytes_in l)) ill_formed_spec
+said_by None l = ill_formed_spec
 
 -- two fields: the identifier and the bytes
 unfoldable pub of_frame_fields : List (List ℕ) → FrameMeaning

@@ -6,8 +6,9 @@ ghost use Rattle.std.specs.Prelude.{◌≡◌};
 ghost use Rattle.frame_lines.specs.Meaning.{said_by, frame_line_says};
 ghost use Rattle.frame_lines.specs.Told.{told};
 
-use numerals::{IDENTIFIER_DIGITS, Number, digit, read_identifier};
-use parts::{TAB, part_after, part_before};
+use fields::identifier_before;
+use numerals::digit;
+use parts::TAB;
 
 const FRAME_DIGITS: usize = 16;
 
@@ -15,6 +16,7 @@ const FRAME_DIGITS: usize = 16;
 const BYTE_7: u64 = 72057594037927936;
 
 // What a frame line says.
+// Kept: a Result is no plainer: a frame of fewer bytes has an identifier to print, so it is an answer of its own beside the other two.
 #[derive(Clone, Copy)]
 pub enum FrameLine {
     // A frame of 8 bytes: its identifier, and the bytes as one number, byte 0 lowest.
@@ -26,7 +28,7 @@ pub enum FrameLine {
 
 // What digits after an identifier say. Each byte is put highest, and moves down as others follow.
 fn frame_of(identifier: u32, digits: &[u8]) -> FrameLine
-    ensures { result ≡ told (said_by (Number.Is identifier) digits.now) }
+    ensures { result ≡ told (said_by (Some identifier) digits.now) }
 {
     if digits.len() > FRAME_DIGITS {
         return FrameLine::IllFormed;
@@ -35,18 +37,16 @@ fn frame_of(identifier: u32, digits: &[u8]) -> FrameLine
         return FrameLine::IllFormed;
     }
     let mut word: u64 = 0;
-    let mut i: usize = 0;
-    while i < digits.len() / 2 {
-        let high = digit(digits[2 * i]);
+    for pair in digits.chunks_exact(2) {
+        let high = digit(pair[0]);
         if high >= 16 {
             return FrameLine::IllFormed;
         }
-        let low = digit(digits[2 * i + 1]);
+        let low = digit(pair[1]);
         if low >= 16 {
             return FrameLine::IllFormed;
         }
         word = word / 256 + BYTE_7 * (16 * high + low);
-        i += 1;
     }
     if digits.len() < FRAME_DIGITS {
         return FrameLine::NotEightBytes(identifier);
@@ -55,17 +55,12 @@ fn frame_of(identifier: u32, digits: &[u8]) -> FrameLine
 }
 
 // What a frame line, without its newline, says.
+#[tactic(auto, using(fields::proofs::Written::inside, crate::proofs::Cuts::one_tab, crate::proofs::Cuts::no_identifier))]
 pub fn read_frame_line(line: &[u8]) -> FrameLine
     ensures { result ≡ told (frame_line_says line.now) }
 {
-    if line.len() <= IDENTIFIER_DIGITS {
-        return FrameLine::IllFormed;
-    }
-    if line[IDENTIFIER_DIGITS] != TAB {
-        return FrameLine::IllFormed;
-    }
-    match read_identifier(part_before(line, IDENTIFIER_DIGITS)) {
-        Number::Is(identifier) => frame_of(identifier, part_after(line, IDENTIFIER_DIGITS)),
-        Number::Not => FrameLine::IllFormed,
+    match identifier_before(line, TAB) {
+        Some((identifier, k)) => frame_of(identifier, &line[k + 1..]),
+        None => FrameLine::IllFormed,
     }
 }

@@ -1,4 +1,5 @@
 -- From the parts of the columns to the message: what is read and packed by them is what the book's message says. Assumes nothing.
+use Rattle.std.specs.Prelude.{Result, Err}
 use mathlib.Core.Path.{◌≡◌, refl, sym, ap, ◌∙◌}
 use mathlib.Core.Bool.{true, false}
 use mathlib.Core.List.{List}
@@ -13,10 +14,10 @@ use Rattle.bits.proofs.Weights.{word_bytes}
 use Rattle.books.specs.Book.{Message}
 use Rattle.books.specs.Good.{good}
 use Rattle.books.specs.Words.{side_by_side, messages_of, messages_taken_spec}
-use Rattle.framing.specs.declared.Reading.{Reading}
-use Rattle.framing.specs.declared.Reading.TheVariants as Read
-use Rattle.framing.specs.declared.Packing.{Packing}
-use Rattle.framing.specs.declared.Packing.TheVariants as Pack
+use Rattle.framing.specs.declared.ReadRefusal.{ReadRefusal}
+use Rattle.framing.specs.declared.ReadRefusal.TheVariants as Read
+use Rattle.framing.specs.declared.PackRefusal.{PackRefusal}
+use Rattle.framing.specs.declared.PackRefusal.TheVariants as Pack
 use Rattle.framing.specs.Messages.{message_with}
 use Rattle.framing.specs.Reading.{Slices, read_by_message, read_by_messages, reading}
 use Rattle.framing.specs.Packing.{judged_values, pack_by_message, packing}
@@ -33,11 +34,11 @@ use Rattle.books.proofs.Sides.{side_length}
 
 -- what stands before the message is looked for
 module _ (ms : List Message) (identifier : ℕ) (frame : List ℕ) (lent : Slices) where
-  pub read_short : (length frame ≡ frame_bytes → ⊥) → ◌≡◌ {A = Reading × Slices} (Read.NotEightBytes, lent) (read_by_messages ms identifier frame lent)
+  pub read_short : (length frame ≡ frame_bytes → ⊥) → ◌≡◌ {A = Result ℕ ReadRefusal × Slices} (Err Read.NotEightBytes, lent) (read_by_messages ms identifier frame lent)
   unfolding read_by_messages
   read_short n = rw (ne_eqb (length frame) frame_bytes n) refl
 
-  pub read_eight : length frame ≡ frame_bytes → ((k : ℕ) → get_or frame k 0 < 256) → (word : ℕ) → word ≡ word_of frame → (out : Reading × Slices)
+  pub read_eight : length frame ≡ frame_bytes → ((k : ℕ) → get_or frame k 0 < 256) → (word : ℕ) → word ≡ word_of frame → (out : Result ℕ ReadRefusal × Slices)
       → out ≡ read_by_message (message_with identifier ms) (bytes_of word) lent → out ≡ read_by_messages ms identifier frame lent
   unfolding read_by_messages
   read_eight e small word w out h =
@@ -46,31 +47,31 @@ module _ (ms : List Message) (identifier : ℕ) (frame : List ℕ) (lent : Slice
 
 -- what was found of the message
 module _ (ms : List Message) (identifier : ℕ) (frame : List ℕ) (lent : Slices) where
-  pub read_unknown : message_with identifier ms ≡ none → ◌≡◌ {A = Reading × Slices} (Read.UnknownIdentifier, lent) (read_by_message (message_with identifier ms) frame lent)
+  pub read_unknown : message_with identifier ms ≡ none → ◌≡◌ {A = Result ℕ ReadRefusal × Slices} (Err Read.UnknownIdentifier, lent) (read_by_message (message_with identifier ms) frame lent)
   unfolding read_by_message
   read_unknown f = rw f refl
 
-  pub read_known : (m : Message) → message_with identifier ms ≡ some m → (out : Reading × Slices) → out ≡ read_by_message (some m) frame lent → out ≡ read_by_message (message_with identifier ms) frame lent
+  pub read_known : (m : Message) → message_with identifier ms ≡ some m → (out : Result ℕ ReadRefusal × Slices) → out ≡ read_by_message (some m) frame lent → out ≡ read_by_message (message_with identifier ms) frame lent
   read_known m f out h = rw f h
 
 -- ---- packing
 
 module _ (ms : List Message) (identifier : ℕ) (vs lent : List ℕ) where
-  pub pack_unknown : message_with identifier ms ≡ none → ◌≡◌ {A = Packing × List ℕ} (Pack.UnknownIdentifier, lent) (pack_by_message (message_with identifier ms) vs lent)
+  pub pack_unknown : message_with identifier ms ≡ none → ◌≡◌ {A = Result (Unit {0}) PackRefusal × List ℕ} (Err Pack.UnknownIdentifier, lent) (pack_by_message (message_with identifier ms) vs lent)
   unfolding pack_by_message
   pack_unknown f = rw f refl
 
   module _ (m : Message) (f : message_with identifier ms ≡ some m) where
-    pub pack_count : (length vs ≡ length m.placements → ⊥) → ◌≡◌ {A = Packing × List ℕ} (Pack.WrongCountOfValues, lent) (pack_by_message (message_with identifier ms) vs lent)
+    pub pack_count : (length vs ≡ length m.placements → ⊥) → ◌≡◌ {A = Result (Unit {0}) PackRefusal × List ℕ} (Err Pack.WrongCountOfValues, lent) (pack_by_message (message_with identifier ms) vs lent)
     unfolding pack_by_message
     pack_count n = rw (f, ne_eqb (length vs) (length m.placements) n) refl
 
-    pub pack_short : length vs ≡ length m.placements → (length lent ≡ frame_bytes → ⊥) → ◌≡◌ {A = Packing × List ℕ} (Pack.NotEightBytes, lent) (pack_by_message (message_with identifier ms) vs lent)
+    pub pack_short : length vs ≡ length m.placements → (length lent ≡ frame_bytes → ⊥) → ◌≡◌ {A = Result (Unit {0}) PackRefusal × List ℕ} (Err Pack.NotEightBytes, lent) (pack_by_message (message_with identifier ms) vs lent)
     unfolding pack_by_message
     pack_short e n = rw (f, eq-eqb (length vs) (length m.placements) e, ne_eqb (length lent) frame_bytes n) refl
 
     -- the message of a taken book: what is put is what is sent
-    pub pack_known : good ms ≡ true → length vs ≡ length m.placements → length lent ≡ frame_bytes → (out : Packing × List ℕ) → out ≡ pack_into m vs lent → out ≡ pack_by_message (message_with identifier ms) vs lent
+    pub pack_known : good ms ≡ true → length vs ≡ length m.placements → length lent ≡ frame_bytes → (out : Result (Unit {0}) PackRefusal × List ℕ) → out ≡ pack_into m vs lent → out ≡ pack_by_message (message_with identifier ms) vs lent
     unfolding pack_by_message
     pack_known g e n out h =
         rw (f, eq-eqb (length vs) (length m.placements) e, eq-eqb (length lent) frame_bytes n)
@@ -79,19 +80,19 @@ module _ (ms : List Message) (identifier : ℕ) (vs lent : List ℕ) where
 -- ---- the test of the book
 
 module _ (words : List ℕ) (identifier : ℕ) where
-  pub read_no_book : (frame : List ℕ) (lent : Slices) → messages_taken_spec words ≡ false → ◌≡◌ {A = Reading × Slices} (Read.NotABook, lent) (reading words identifier frame lent)
+  pub read_no_book : (frame : List ℕ) (lent : Slices) → messages_taken_spec words ≡ false → ◌≡◌ {A = Result ℕ ReadRefusal × Slices} (Err Read.NotABook, lent) (reading words identifier frame lent)
   unfolding reading
   read_no_book frame lent e = rw e refl
 
-  pub read_book : (frame : List ℕ) (lent : Slices) (out : Reading × Slices) → messages_taken_spec words ≡ true → out ≡ read_by_messages (messages_of words) identifier frame lent → out ≡ reading words identifier frame lent
+  pub read_book : (frame : List ℕ) (lent : Slices) (out : Result ℕ ReadRefusal × Slices) → messages_taken_spec words ≡ true → out ≡ read_by_messages (messages_of words) identifier frame lent → out ≡ reading words identifier frame lent
   unfolding reading
   read_book frame lent out e h = rw e h
 
-  pub pack_no_book : (vs lent : List ℕ) → messages_taken_spec words ≡ false → ◌≡◌ {A = Packing × List ℕ} (Pack.NotABook, lent) (packing words identifier vs lent)
+  pub pack_no_book : (vs lent : List ℕ) → messages_taken_spec words ≡ false → ◌≡◌ {A = Result (Unit {0}) PackRefusal × List ℕ} (Err Pack.NotABook, lent) (packing words identifier vs lent)
   unfolding packing
   pack_no_book vs lent e = rw e refl
 
-  pub pack_book : (vs lent : List ℕ) (out : Packing × List ℕ) → messages_taken_spec words ≡ true → out ≡ pack_by_message (message_with identifier (messages_of words)) vs lent → out ≡ packing words identifier vs lent
+  pub pack_book : (vs lent : List ℕ) (out : Result (Unit {0}) PackRefusal × List ℕ) → messages_taken_spec words ≡ true → out ≡ pack_by_message (message_with identifier (messages_of words)) vs lent → out ≡ packing words identifier vs lent
   unfolding packing
   pack_book vs lent out e h = rw e h
 

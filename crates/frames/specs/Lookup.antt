@@ -1,13 +1,11 @@
 -- Finding the message of an identifier in the columns of a book. Assumes nothing: these are definitions.
-use Rattle.std.specs.Prelude.{◌≡◌, cond, List, [], ◌∷◌, ℕ, suc, ◌-◌, ◌≤◌, eqb, length, get_or, take, drop}
+use Rattle.std.specs.Prelude.{◌≡◌, cond, List, [], ◌∷◌, ℕ, suc, ◌-◌, ◌≤◌, eqb, length, get_or, take, drop, Option, Some, None}
 use Rattle.std.proofs.Math.Option.{none, some}
 use Rattle.books.specs.Words.{side_by_side, messages_of}
 use Rattle.framing.specs.Messages.{message_with}
 use Rattle.record.specs.Columns.{message_count_of, ids_of, ends_of, numbers_of, starts_of}
 use Rattle.record.specs.Limits.{signal_limit}
 use Rattle.messages.specs.Signals.{AllFit, message_from}
-use Rattle.frames.specs.declared.lookup.MessageFound.{MessageFound}
-use Rattle.frames.specs.declared.lookup.MessageFound.TheVariants.{Signals, Nothing}
 
 -- how many entries stand before the first n: all, where none is n
 unfoldable pub first_at : ℕ → List ℕ → ℕ
@@ -33,6 +31,6 @@ pub record Spans (words : List ℕ) (identifier from to : ℕ) : Type 0 where
   pub same : length (part from to (starts_of words)) ≡ length (part from to (numbers_of words))
   pub fit : AllFit (side_by_side (part from to (numbers_of words)) (part from to (starts_of words)))
 
-abbrev pub Finds : List ℕ → ℕ → MessageFound → Type 0
-Finds words identifier (Signals from to) = Spans words identifier from to
-Finds words identifier Nothing = message_with identifier (messages_of words) ≡ none
+abbrev pub Finds : List ℕ → ℕ → Option (ℕ × ℕ) → Type 0
+Finds words identifier (Some (from, to)) = Spans words identifier from to
+Finds words identifier None = message_with identifier (messages_of words) ≡ none

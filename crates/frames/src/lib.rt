@@ -3,6 +3,7 @@
 // and specs/Packing). `find_message` is for a caller in this repository that has tested the book itself.
 #![tactic(auto)]
 
+mod book;
 mod lookup;
 mod tested;
 
@@ -10,8 +11,9 @@ ghost use Rattle.framing.specs.Lending.{ReadsInto, PacksInto};
 ghost use Rattle.framing.specs.Reading.{reading};
 ghost use Rattle.framing.specs.Packing.{packing};
 
-use framing::{Packing, Reading};
-pub use lookup::{MessageFound, find_message};
+pub use book::TestedBook;
+use framing::{PackRefusal, ReadRefusal};
+pub use lookup::find_message;
 use record::BOOK_WORDS;
 use tested::{pack_tested, read_tested};
 
@@ -25,24 +27,29 @@ pub fn read(
     raws: &mut [u32],
     classes: &mut [u8],
     thousandths: &mut [i64],
-) -> Reading
+) -> Result<u32, ReadRefusal>
     ensures { ReadsInto (reading book.now identifier frame.now) result raws classes thousandths }
 {
-    if !tables::messages_taken(book) {
-        return Reading::NotABook;
-    }
-    read_tested(book, identifier, frame, raws, classes, thousandths)
+    let Some(book) = TestedBook::tested(book) else {
+        return Err(ReadRefusal::NotABook);
+    };
+    read_tested(&book, identifier, frame, raws, classes, thousandths)
 }
 
 // Packs raw counts, one for each placement in the order of the S lines, into a lent frame of 8 bytes; what is given for 503 is ignored,
 // and its count is filled in last. Every other bit is 1. A refusal leaves the frame as it was: no book of the record's tables, an
 // identifier that the book lacks, another count of values than of placements, a frame that is not 8 bytes, and at the first bad position
 // a count too wide for its signal, or reserved or outside.
-pub fn pack(book: &[u32; BOOK_WORDS], identifier: u32, values: &[u32], frame: &mut [u8]) -> Packing
+pub fn pack(
+    book: &[u32; BOOK_WORDS],
+    identifier: u32,
+    values: &[u32],
+    frame: &mut [u8],
+) -> Result<(), PackRefusal>
     ensures { PacksInto (packing book.now identifier values.now) result frame }
 {
-    if !tables::messages_taken(book) {
-        return Packing::NotABook;
-    }
-    pack_tested(book, identifier, values, frame)
+    let Some(book) = TestedBook::tested(book) else {
+        return Err(PackRefusal::NotABook);
+    };
+    pack_tested(&book, identifier, values, frame)
 }

@@ -15,8 +15,9 @@ use Rattle.books.specs.Lines.{frame_bits}
 use Rattle.books.specs.Words.{messages_of, messages_taken_spec}
 use Rattle.books.proofs.Columns.{taken_stands}
 use Rattle.bits.specs.Frame.{frame_bytes}
-use Rattle.framing.specs.declared.Reading.{Reading}
-use Rattle.framing.specs.declared.Reading.TheVariants.{Read, NotABook, NotEightBytes, WrongChecksum, TooLittleRoom}
+use Rattle.std.specs.Prelude.{Result, Ok, Err}
+use Rattle.framing.specs.declared.ReadRefusal.{ReadRefusal}
+use Rattle.framing.specs.declared.ReadRefusal.TheVariants.{NotABook, NotEightBytes, WrongChecksum, TooLittleRoom}
 use Rattle.framing.specs.Messages.{message_with}
 use Rattle.framing.specs.Reading.{Slices, checksum_holds, room, readings, read_by_message, read_by_messages, reading, reading_number}
 use Rattle.framing.proofs.WellPlaced.{Sits, BesideAll, WellPlaced, sound_message}
@@ -93,25 +94,25 @@ few s = omega (arith, few_below frame_bits s, all_below_law s)
 pub few_signals : (words : List ℕ) (identifier : ℕ) (m : Message) → messages_taken_spec words ≡ true → message_with identifier (messages_of words) ≡ some m → length m.placements ≤ frame_bits
 few_signals words identifier m t found = few (sound_message identifier (messages_of words) m (taken_stands words t).1 found)
 
-enough : (o : Option Message) (frame : List ℕ) (lent : Slices) → ((m : Message) → o ≡ some m → length m.placements ≤ room lent) → reading_number (read_by_message o frame lent).0 ≡ reading_number TooLittleRoom → ⊥
+enough : (o : Option Message) (frame : List ℕ) (lent : Slices) → ((m : Message) → o ≡ some m → length m.placements ≤ room lent) → reading_number (read_by_message o frame lent).0 ≡ reading_number (Err TooLittleRoom) → ⊥
 unfolding read_by_message
 enough none frame lent h e = omega arith
 enough (some m) frame lent h e = go (checksum_holds m frame) (leb (length m.placements) (room lent)) (le-leb (length m.placements) (room lent) (h m refl)) e
   where
     go : (a b : Bool) → b ≡ true
-        → reading_number (cond {A = Reading × Slices} a (cond b (Read (length m.placements), readings frame m.placements lent) (TooLittleRoom, lent)) (WrongChecksum, lent)).0 ≡ 24 → ⊥
+        → reading_number (cond {A = Result ℕ ReadRefusal × Slices} a (cond b (Ok (length m.placements), readings frame m.placements lent) (Err TooLittleRoom, lent)) (Err WrongChecksum, lent)).0 ≡ 24 → ⊥
     go a false k e = let z : ◌≡◌ {A = ℕ} 0 1 = cc in omega arith
     go true true k e = omega arith
     go false true k e = omega arith
 
 -- and slices with room for 64 readings are never too small (24)
 pub room_enough : (words : List ℕ) (identifier : ℕ) (frame : List ℕ) (lent : Slices) → frame_bits ≤ room lent
-    → reading_number (reading words identifier frame lent).0 ≡ reading_number TooLittleRoom → ⊥
+    → reading_number (reading words identifier frame lent).0 ≡ reading_number (Err TooLittleRoom) → ⊥
 unfolding reading read_by_messages
 room_enough words identifier frame lent h e = go (messages_taken_spec words) (eqb (length frame) frame_bytes) refl e
   where
     go : (a b : Bool) → messages_taken_spec words ≡ a
-        → reading_number (cond {A = Reading × Slices} a (cond b (read_by_message (message_with identifier (messages_of words)) frame lent) (NotEightBytes, lent)) (NotABook, lent)).0 ≡ 24 → ⊥
+        → reading_number (cond {A = Result ℕ ReadRefusal × Slices} a (cond b (read_by_message (message_with identifier (messages_of words)) frame lent) (Err NotEightBytes, lent)) (Err NotABook, lent)).0 ≡ 24 → ⊥
     go true true t e = enough (message_with identifier (messages_of words)) frame lent (λ m found. omega (arith, few_signals words identifier m t found)) e
     go true false t e = omega arith
     go false b t e = omega arith

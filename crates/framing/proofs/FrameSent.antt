@@ -4,7 +4,7 @@ use mathlib.Core.Path.{◌≡◌, refl, sym, ap, ◌∙◌, subst}
 use mathlib.Core.Bool.{Bool, true, false, ◌||◌}
 use mathlib.Core.Logic.{◌⊎◌, inl, inr, ⊎_elim}
 use mathlib.Core.List.{List, [], ◌∷◌}
-use Prim.Native.Nat.{ℕ, ◌+◌, ◌-◌, ◌^◌, ◌≤◌, ◌<◌}
+use Prim.Native.Nat.{ℕ, ◌+◌, ◌^◌, ◌≤◌, ◌<◌}
 use native.Mathlib.Omega.{arith}
 use lib.Dec.{eqb, lit<, lit≤}
 use lib.ListN.{length}
@@ -17,8 +17,8 @@ use Rattle.bits.proofs.Weights.{read_bytes, bytes_bit, of_bytes}
 use Rattle.books.specs.Book.{Placement, Message, numbers}
 use Rattle.books.specs.Lines.{is_in, frame_bits}
 use Rattle.catalogue.specs.Find.{bits_of_spec}
-use Rattle.framing.specs.declared.Packing.{Packing}
-use Rattle.framing.specs.declared.Packing.TheVariants.{Packed, NotABook, UnknownIdentifier, WrongCountOfValues, NotEightBytes, TooWide, ReservedOrOutside}
+use Rattle.std.specs.Prelude.{Result, Ok, Err}
+use Rattle.framing.specs.declared.PackRefusal.{PackRefusal}
 use Rattle.framing.specs.Messages.{checksum_number, checksum_start, checksum_bits, places_checksum}
 use Rattle.framing.specs.Packing.{judged_values, packed_frame, packed_or}
 use Rattle.framing.specs.Putting.{all_ones, put, with_checksum, put_frame}
@@ -123,11 +123,6 @@ pub put_or : (m : Message) (vs lent : List ℕ) → WellPlaced m.placements → 
     → packed_or (judged_values m.placements vs) (put_frame m vs) lent ≡ packed_or (judged_values m.placements vs) (packed_frame m vs) lent
 put_or m vs lent s n = go (judged_values m.placements vs) refl
   where
-    go : (r : Packing) → judged_values m.placements vs ≡ r → packed_or r (put_frame m vs) lent ≡ packed_or r (packed_frame m vs) lent
-    go Packed e = put_sent m vs s (accepted m.placements vs n e)
-    go NotABook e = refl
-    go UnknownIdentifier e = refl
-    go WrongCountOfValues e = refl
-    go NotEightBytes e = refl
-    go TooWide e = refl
-    go ReservedOrOutside e = refl
+    go : (r : Result (Unit {0}) PackRefusal) → judged_values m.placements vs ≡ r → packed_or r (put_frame m vs) lent ≡ packed_or r (packed_frame m vs) lent
+    go (Ok _) e = put_sent m vs s (accepted m.placements vs n e)
+    go (Err why) e = refl

@@ -20,11 +20,12 @@ use Rattle.books.specs.Words.{messages_of}
 use Rattle.books.proofs.Columns.{taken_stands}
 use Rattle.catalogue.specs.Find.{bits_of_spec}
 use Rattle.catalogue.specs.Class.{class_number}
+use Rattle.std.specs.Prelude.{Result, Ok, Err}
 use Rattle.catalogue.specs.declared.Class.{Class}
-use Rattle.catalogue.specs.declared.Class.TheVariants.{Value, Invalid, Absent, Error, Reserved, Outside, NotInCatalogue, TooWide}
-use Rattle.framing.specs.declared.Reading.{Reading}
-use Rattle.framing.specs.declared.Reading.TheVariants.{Read}
-use Rattle.framing.specs.declared.Packing.TheVariants.{Packed}
+use Rattle.catalogue.specs.declared.NoClass.{NoClass}
+use Rattle.catalogue.specs.declared.Class.TheVariants.{Value, Invalid, Absent, Error, Reserved, Outside}
+use Rattle.catalogue.specs.declared.NoClass.TheVariants.{NotInCatalogue, TooWide}
+use Rattle.framing.specs.declared.ReadRefusal.{ReadRefusal}
 use Rattle.framing.specs.Messages.{checksum_number, checksum_start, checksum_bits, message_with, places_checksum, count_of, placed_class}
 use Rattle.framing.specs.Reading.{Slices, class_code, checksum_holds, reading, readings, reading_number}
 use Rattle.framing.specs.Packing.{packable, packing, packed_frame}
@@ -38,15 +39,15 @@ use Rattle.framing.proofs.FrameSent.{is_packed, sum_placed}
 use Rattle.framing.proofs.Answers.{WasRead, read_was, was_read, was_packed}
 use Rattle.framing.proofs.ReadBack.{carried_at}
 
-neither_packs : (c : Class) → class_number c ≡ 0 → (class_code c ≡ reserved_code → ⊥) → (class_code c ≡ outside_code → ⊥) → packable c ≡ true
-neither_packs (Value t) k r o = refl
-neither_packs (Invalid x) k r o = refl
-neither_packs (Absent x) k r o = refl
-neither_packs (Error x) k r o = refl
-neither_packs (Reserved x) k r o = absurd (r refl)
-neither_packs (Outside x) k r o = absurd (o refl)
-neither_packs NotInCatalogue k r o = absurd (omega (arith, k))
-neither_packs TooWide k r o = absurd (omega (arith, k))
+neither_packs : (c : Result Class NoClass) → class_number c ≡ 0 → (class_code c ≡ reserved_code → ⊥) → (class_code c ≡ outside_code → ⊥) → packable c ≡ true
+neither_packs (Ok (Value t)) k r o = refl
+neither_packs (Ok (Invalid x)) k r o = refl
+neither_packs (Ok (Absent x)) k r o = refl
+neither_packs (Ok (Error x)) k r o = refl
+neither_packs (Ok (Reserved x)) k r o = absurd (r refl)
+neither_packs (Ok (Outside x)) k r o = absurd (o refl)
+neither_packs (Err NotInCatalogue) k r o = absurd (omega (arith, k))
+neither_packs (Err TooWide) k r o = absurd (omega (arith, k))
 
 -- a placement that is none, where one is asked for past the last
 abbrev no_placement : Placement
@@ -96,15 +97,15 @@ holds_sum m frame h e = go (places_checksum m.placements) e h
 
 -- n counts were read by the message m, none of them reserved or outside
 module _ (words : List ℕ) (identifier : ℕ) (frame : List ℕ) (small : (k : ℕ) → get_or frame k 0 < 256) (slices : Slices) (n : ℕ) (out : Slices)
-    (e : reading words identifier frame slices ≡ (Read n, out)) (m : Message) (w : WasRead words identifier frame slices m) (none : NoneBarred n out) where
-  as_read : ◌≡◌ {A = Reading × Slices} (Read (length m.placements), readings frame m.placements slices) (Read n, out)
+    (e : reading words identifier frame slices ≡ (Ok n, out)) (m : Message) (w : WasRead words identifier frame slices m) (none : NoneBarred n out) where
+  as_read : ◌≡◌ {A = Result ℕ ReadRefusal × Slices} (Ok (length m.placements), readings frame m.placements slices) (Ok n, out)
   as_read = sym (was_read words identifier frame slices m w) ∙ e
 
   count : length m.placements ≡ n
-  count = let answers : Read (length m.placements) ≡ Read n = ap (λ (x : Reading × Slices). x.0) as_read in (cc)
+  count = let answers : ◌≡◌ {A = Result ℕ ReadRefusal} (Ok (length m.placements)) (Ok n) = ap (λ (x : Result ℕ ReadRefusal × Slices). x.0) as_read in (cc)
 
   outs : readings frame m.placements slices ≡ out
-  outs = ap (λ (x : Reading × Slices). x.1) as_read
+  outs = ap (λ (x : Result ℕ ReadRefusal × Slices). x.1) as_read
 
   sound : WellPlaced m.placements
   sound = sound_message identifier (messages_of words) m (taken_stands words w.taken).1 w.found
@@ -144,7 +145,7 @@ module _ (words : List ℕ) (identifier : ℕ) (frame : List ℕ) (small : (k : 
   raws_first : take n out.raws ≡ Raws
   raws_first = ap (λ (x : Slices). take n x.raws) (sym outs) ∙ take_at Raws (drop (length Raws) slices.raws) n (many ∙ count)
 
-  packs : (lent : List ℕ) → length lent ≡ frame_bytes → packing words identifier (take n out.raws) lent ≡ (Packed, packed_frame m Raws)
+  packs : (lent : List ℕ) → length lent ≡ frame_bytes → packing words identifier (take n out.raws) lent ≡ (Ok tt, packed_frame m Raws)
   packs lent eight =
       rw raws_first
       (was_packed words identifier Raws lent m (record { taken = w.taken; found = w.found; many = many; eight = eight; good = accepted_judged fine }))
@@ -172,18 +173,18 @@ module _ (words : List ℕ) (identifier : ℕ) (frame : List ℕ) (small : (k : 
 
 -- for every book, identifier, frame of bytes and slices: n counts were read, none of them reserved or outside
 module _ (words : List ℕ) (identifier : ℕ) (frame : List ℕ) (small : (k : ℕ) → get_or frame k 0 < 256) (slices : Slices) (n : ℕ) (out : Slices)
-    (e : reading words identifier frame slices ≡ (Read n, out)) (none : NoneBarred n out) where
+    (e : reading words identifier frame slices ≡ (Ok n, out)) (none : NoneBarred n out) where
   was : (m : Message) × WasRead words identifier frame slices m
-  was = read_was words identifier frame slices (ap (λ (x : Reading × Slices). reading_number x.0) e)
+  was = read_was words identifier frame slices (ap (λ (x : Result ℕ ReadRefusal × Slices). reading_number x.0) e)
 
   pub packs_again : PacksAgain words identifier frame n out.raws
   packs_again = renews words identifier frame small slices n out e was.0 was.1 none
 
   -- and a frame that has 1 in every unplaced bit packs again to itself, 503 and all
   pub packs_same : (m : Message) → message_with identifier (messages_of words) ≡ some m → OnesElsewhere m frame → (lent : List ℕ) → length lent ≡ frame_bytes
-      → packing words identifier (take n out.raws) lent ≡ (Packed, frame)
+      → packing words identifier (take n out.raws) lent ≡ (Ok tt, frame)
   packs_same m found ones lent eight =
       let one : some was.0 ≡ some m = sym was.1.found ∙ found in
       let same : was.0 ≡ m = (cc) in
       packs words identifier frame small slices n out e was.0 was.1 none lent eight
-      ∙ ap (λ (f : List ℕ). (Packed, f)) (sym (own_frame words identifier frame small slices n out e was.0 was.1 none (subst⁻¹ (λ (x : Message). OnesElsewhere x frame) same ones)))
+      ∙ ap (λ (f : List ℕ). (Ok tt, f)) (sym (own_frame words identifier frame small slices n out e was.0 was.1 none (subst⁻¹ (λ (x : Message). OnesElsewhere x frame) same ones)))

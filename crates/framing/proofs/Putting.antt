@@ -15,8 +15,9 @@ use Rattle.books.specs.Book.{Placement}
 use Rattle.books.specs.Lines.{frame_bits}
 use Rattle.catalogue.specs.Find.{bits_of_spec}
 use Rattle.catalogue.specs.Class.{class_of_spec}
-use Rattle.framing.specs.declared.Packing.{Packing}
-use Rattle.framing.specs.declared.Packing.TheVariants.{Packed, TooWide, ReservedOrOutside}
+use Rattle.std.specs.Prelude.{Result, Ok, Err}
+use Rattle.framing.specs.declared.PackRefusal.{PackRefusal}
+use Rattle.framing.specs.declared.PackRefusal.TheVariants.{TooWide, ReservedOrOutside}
 use Rattle.framing.specs.Messages.{checksum_number}
 use Rattle.framing.specs.Packing.{packable, judged_values}
 use Rattle.framing.specs.Putting.{put}
@@ -30,23 +31,20 @@ pub data Accepted : List Placement → List ℕ → Type 0 where
   fine : {p : Placement} {ps : List Placement} {v : ℕ} {vs : List ℕ} → (p.number ≡ checksum_number → ⊥) → v < 2 ^ bits_of_spec p.number → packable (class_of_spec p.number (record { 0 = v })) ≡ true
       → Accepted ps vs → Accepted (p ∷ ps) (v ∷ vs)
 
-not_packed : {A : Type 0} → TooWide ≡ Packed → A
+not_packed : {A : Type 0} {why : PackRefusal} → ◌≡◌ {A = Result (Unit {0}) PackRefusal} (Err why) (Ok tt) → A
 not_packed e = let z : ◌≡◌ {A = ℕ} 0 1 = cc in absurd (omega arith)
-
-not_packed' : {A : Type 0} → ReservedOrOutside ≡ Packed → A
-not_packed' e = let z : ◌≡◌ {A = ℕ} 0 1 = cc in absurd (omega arith)
 
 -- one position: the tests that `judged_values` makes of it
 accept : (p : Placement) (ps : List Placement) (v : ℕ) (vs : List ℕ) (a b c : Bool)
     → eqb p.number checksum_number ≡ a → leb (2 ^ bits_of_spec p.number) v ≡ b → packable (class_of_spec p.number (record { 0 = v })) ≡ c
-    → (judged_values ps vs ≡ Packed → Accepted ps vs)
-    → cond a (judged_values ps vs) (cond b TooWide (cond c (judged_values ps vs) ReservedOrOutside)) ≡ Packed → Accepted (p ∷ ps) (v ∷ vs)
+    → (judged_values ps vs ≡ Ok tt → Accepted ps vs)
+    → cond a (judged_values ps vs) (cond b (Err TooWide) (cond c (judged_values ps vs) (Err ReservedOrOutside))) ≡ Ok tt → Accepted (p ∷ ps) (v ∷ vs)
 accept p ps v vs true b c x y z rest e = Accepted.skip (eqb-true p.number checksum_number x) (rest e)
 accept p ps v vs false true c x y z rest e = not_packed e
 accept p ps v vs false false true x y z rest e = Accepted.fine (eqb-false p.number checksum_number x) (leb-false (2 ^ bits_of_spec p.number) v y) z (rest e)
-accept p ps v vs false false false x y z rest e = not_packed' e
+accept p ps v vs false false false x y z rest e = not_packed e
 
-pub accepted : (ps : List Placement) (vs : List ℕ) → length vs ≡ length ps → judged_values ps vs ≡ Packed → Accepted ps vs
+pub accepted : (ps : List Placement) (vs : List ℕ) → length vs ≡ length ps → judged_values ps vs ≡ Ok tt → Accepted ps vs
 unfolding judged_values
 accepted [] [] n e = Accepted.none
 accepted [] (v ∷ vs) n e = absurd (omega arith)
@@ -60,10 +58,10 @@ accepted_many Accepted.none = refl
 accepted_many (Accepted.skip e a) = ap suc (accepted_many a)
 accepted_many (Accepted.fine n h k a) = ap suc (accepted_many a)
 
-passes : (a b c : Bool) (rest : Packing) → a ≡ false → b ≡ false → c ≡ true → cond a rest (cond b TooWide (cond c rest ReservedOrOutside)) ≡ rest
+passes : (a b c : Bool) (rest : Result (Unit {0}) PackRefusal) → a ≡ false → b ≡ false → c ≡ true → cond a rest (cond b (Err TooWide) (cond c rest (Err ReservedOrOutside))) ≡ rest
 passes a b c rest x y z = rw (x, y, z) refl
 
-pub accepted_judged : {ps : List Placement} {vs : List ℕ} → Accepted ps vs → judged_values ps vs ≡ Packed
+pub accepted_judged : {ps : List Placement} {vs : List ℕ} → Accepted ps vs → judged_values ps vs ≡ Ok tt
 unfolding judged_values
 accepted_judged Accepted.none = refl
 accepted_judged (Accepted.skip {p} {ps} {v} {vs} e a) = rw (eq-eqb p.number checksum_number e) (accepted_judged a)

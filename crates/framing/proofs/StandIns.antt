@@ -17,9 +17,9 @@ use Rattle.books.specs.Good.{good_after, good_from, good}
 use Rattle.books.specs.Words.{Stands, messages_of, messages_taken_spec, words_of}
 use Rattle.books.proofs.Columns.{within, shows, stands_taken, words_stand}
 use Rattle.bits.specs.Frame.{frame_bytes, count_at}
-use Rattle.framing.specs.declared.Reading.{Reading}
-use Rattle.framing.specs.declared.Reading.TheVariants.{Read}
-use Rattle.framing.specs.declared.Packing.{Packing}
+use Rattle.std.specs.Prelude.{Result, Ok}
+use Rattle.framing.specs.declared.ReadRefusal.{ReadRefusal}
+use Rattle.framing.specs.declared.PackRefusal.{PackRefusal}
 use Rattle.framing.specs.Messages.{message_with, checksum_number}
 use Rattle.framing.specs.Reading.{Slices, checksum_holds, reading, readings, reading_number}
 use Rattle.framing.specs.Packing.{judged_values, packing, packing_number}
@@ -57,14 +57,14 @@ zeros = replicate frame_bytes 0
 abbrev slices : Slices
 slices = record { raws = 0 ∷ []; classes = 0 ∷ []; thousandths = pos 0 ∷ [] }
 
-reads : reading words 0 zeros slices ≡ (Read 1, readings zeros message.placements slices)
+reads : reading words 0 zeros slices ≡ (Ok 1, readings zeros message.placements slices)
 unfolding checksum_holds is_in
 reads = was_read words 0 zeros slices message (record { taken = taken; eight = refl; found = found; checked = refl; roomy = omega arith })
 
 packs : packing_number (packing words 0 (250 ∷ []) zeros).0 ≡ 0
 unfolding judged_values class_of_spec bits_of_spec row_of rows between
 packs =
-    ap (λ (x : Packing × List ℕ). packing_number x.0)
+    ap (λ (x : Result (Unit {0}) PackRefusal × List ℕ). packing_number x.0)
     (was_packed words 0 (250 ∷ []) zeros message (record { taken = taken; found = found; many = refl; eight = refl; good = refl }))
 
 -- a packer that refuses what ours refuses, and otherwise leaves the frame as lent: not all that it accepts reads back
@@ -77,11 +77,11 @@ writes_nothing back =
     let counted : (placement_at r.message 0).number ≡ checksum_number → ⊥ =
     subst (λ (m : Message). (placement_at m 0).number ≡ checksum_number → ⊥) same (λ (e : 204 ≡ checksum_number). omega arith) in
     let given = (r.reads slices (omega arith)).counts 0 (omega arith) counted in
-    let nothing : ◌≡◌ {A = ℕ} 0 250 = sym (ap (λ (x : Reading × Slices). get_or x.1.raws 0 0) reads) ∙ given in
+    let nothing : ◌≡◌ {A = ℕ} 0 250 = sym (ap (λ (x : Result ℕ ReadRefusal × Slices). get_or x.1.raws 0 0) reads) ∙ given in
     omega arith
 
 -- a reader that refuses all does not read as it should
-pub refuses_all : (reader : List ℕ → ℕ → List ℕ → Slices → Reading × Slices)
+pub refuses_all : (reader : List ℕ → ℕ → List ℕ → Slices → Result ℕ ReadRefusal × Slices)
     → ((words : List ℕ) (identifier : ℕ) (frame : List ℕ) (lent : Slices) → reading_number (reader words identifier frame lent).0 ≡ 0 → ⊥)
     → ((words : List ℕ) (identifier : ℕ) (frame : List ℕ) (lent : Slices) → reader words identifier frame lent ≡ reading words identifier frame lent) → ⊥
-refuses_all reader refuses same = refuses words 0 zeros slices (ap (λ (x : Reading × Slices). reading_number x.0) (same words 0 zeros slices ∙ reads))
+refuses_all reader refuses same = refuses words 0 zeros slices (ap (λ (x : Result ℕ ReadRefusal × Slices). reading_number x.0) (same words 0 zeros slices ∙ reads))

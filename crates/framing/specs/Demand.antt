@@ -1,6 +1,6 @@
 -- Demand 2: what is packed is the one frame that carries the values, it reads back, and what is read can be packed again. The theorems
 -- are in proofs/PackedBy.antt, proofs/ReadBack.antt and proofs/PackAgain.antt. Assumes nothing: these are definitions.
-use Rattle.std.specs.Prelude.{◌≡◌, List, ℕ, ◌+◌, ◌≤◌, ◌<◌, length, get_or, take}
+use Rattle.std.specs.Prelude.{◌≡◌, List, ℕ, ◌+◌, ◌≤◌, ◌<◌, length, get_or, take, Result, Ok}
 use Rattle.std.proofs.Math.Option.{some}
 use Rattle.books.specs.Book.{Placement, Message}
 use Rattle.books.specs.Words.{messages_of}
@@ -9,9 +9,7 @@ use Rattle.bits.specs.Checksum.{checksum_of}
 use Rattle.catalogue.specs.Find.{bits_of_spec}
 use Rattle.catalogue.specs.declared.Raw.{Raw}
 use Rattle.catalogue.specs.declared.Class.TheVariants.{Reserved, Outside}
-use Rattle.framing.specs.declared.Reading.{Reading}
-use Rattle.framing.specs.declared.Reading.TheVariants.{Read}
-use Rattle.framing.specs.declared.Packing.TheVariants.{Packed}
+use Rattle.framing.specs.declared.ReadRefusal.{ReadRefusal}
 use Rattle.framing.specs.Messages.{checksum_number, message_with}
 use Rattle.framing.specs.Reading.{Slices, class_code, room, reading}
 use Rattle.framing.specs.Packing.{packing}
@@ -33,8 +31,8 @@ abbrev pub Counted : Message → ℕ → Type 0
 Counted m i = (placement_at m i).number ≡ checksum_number → ⊥
 
 -- reading gave as many readings as there are values, and the values again, apart from 503
-pub record SameCounts (m : Message) (vs : List ℕ) (out : Reading × Slices) : Type 0 where
-  pub answer : out.0 ≡ Read (length vs)
+pub record SameCounts (m : Message) (vs : List ℕ) (out : Result ℕ ReadRefusal × Slices) : Type 0 where
+  pub answer : out.0 ≡ Ok (length vs)
   pub counts : (i : ℕ) → i < length vs → Counted m i → get_or out.1.raws i 0 ≡ get_or vs i 0
 
 -- a frame reads back as these values: it reads under the identifier, with no refusal, into any slices that have room
@@ -49,10 +47,10 @@ some_raw = record { 0 = 0 }
 
 -- the codes of the two classes that are not packed
 abbrev pub reserved_code : ℕ
-reserved_code = class_code (Reserved some_raw)
+reserved_code = class_code (Ok (Reserved some_raw))
 
 abbrev pub outside_code : ℕ
-outside_code = class_code (Outside some_raw)
+outside_code = class_code (Ok (Outside some_raw))
 
 -- no count that was read is reserved or outside
 abbrev pub NoneBarred : ℕ → Slices → Type 0
@@ -70,4 +68,4 @@ pub record PacksAgain (words : List ℕ) (identifier : ℕ) (frame : List ℕ) (
   pub message : Message
   pub found : message_with identifier (messages_of words) ≡ some message
   pub packs : (lent : List ℕ) → length lent ≡ frame_bytes
-      → ((packing words identifier (take n raws) lent).0 ≡ Packed) × Renewed message frame (packing words identifier (take n raws) lent).1
+      → ((packing words identifier (take n raws) lent).0 ≡ Ok tt) × Renewed message frame (packing words identifier (take n raws) lent).1

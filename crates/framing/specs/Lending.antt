@@ -1,10 +1,10 @@
 -- What a call makes of what it is lent to write: its answer, with what stands there at exit, by what stood there at entry. Contracts say
 -- it in these words. Assumes nothing: these are definitions.
-use Rattle.std.specs.Prelude.{◌≡◌, List, ℕ, ℤ}
+use Rattle.std.specs.Prelude.{◌≡◌, List, ℕ, ℤ, Result}
 use Rattle.std.specs.Borrow.{MutBor}
 use denote.Triple.Both.{Both}
-use Rattle.framing.specs.declared.Reading.{Reading}
-use Rattle.framing.specs.declared.Packing.{Packing}
+use Rattle.framing.specs.declared.ReadRefusal.{ReadRefusal}
+use Rattle.framing.specs.declared.PackRefusal.{PackRefusal}
 use Rattle.framing.specs.Reading.{Slices}
 
 -- a slice that is lent to write, at entry and at exit
@@ -19,9 +19,9 @@ abbrev pub slices_left : Lent ℕ → Lent ℕ → Lent ℤ → Slices
 slices_left raws classes thousandths = record { raws = raws.exit.now; classes = classes.exit.now; thousandths = thousandths.exit.now }
 
 -- the answer, with the slices left, is what a reading makes of the slices lent
-abbrev pub ReadsInto : (Slices → Reading × Slices) → Reading → Lent ℕ → Lent ℕ → Lent ℤ → Type 0
-ReadsInto by answer raws classes thousandths = ◌≡◌ {A = Reading × Slices} (answer, slices_left raws classes thousandths) (by (slices_lent raws classes thousandths))
+abbrev pub ReadsInto : (Slices → Result ℕ ReadRefusal × Slices) → Result ℕ ReadRefusal → Lent ℕ → Lent ℕ → Lent ℤ → Type 0
+ReadsInto by answer raws classes thousandths = ◌≡◌ {A = Result ℕ ReadRefusal × Slices} (answer, slices_left raws classes thousandths) (by (slices_lent raws classes thousandths))
 
 -- the answer, with the frame left, is what a packing makes of the frame lent
-abbrev pub PacksInto : (List ℕ → Packing × List ℕ) → Packing → Lent ℕ → Type 0
-PacksInto by answer frame = ◌≡◌ {A = Packing × List ℕ} (answer, frame.exit.now) (by frame.entry.now)
+abbrev pub PacksInto : (List ℕ → Result (Unit {0}) PackRefusal × List ℕ) → Result (Unit {0}) PackRefusal → Lent ℕ → Type 0
+PacksInto by answer frame = ◌≡◌ {A = Result (Unit {0}) PackRefusal × List ℕ} (answer, frame.exit.now) (by frame.entry.now)

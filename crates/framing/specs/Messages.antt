@@ -1,5 +1,5 @@
 -- A message of the book, and where its signals stand in a frame. Assumes nothing: these are definitions.
-use Rattle.std.specs.Prelude.{Bool, cond, List, [], ◌∷◌, ◌++◌, ℕ, eqb, length, drop}
+use Rattle.std.specs.Prelude.{Bool, cond, List, [], ◌∷◌, ◌++◌, ℕ, eqb, length, drop, Result}
 use Rattle.std.proofs.Math.Option.{Option, none, some}
 use Rattle.books.specs.Book.{Placement, Message, numbers}
 pub use Rattle.books.specs.Fixed.{checksum_number, checksum_start}
@@ -8,6 +8,7 @@ use Rattle.bits.specs.Frame.{count_at}
 use Rattle.catalogue.specs.Find.{bits_of_spec}
 use Rattle.catalogue.specs.Class.{class_of_spec}
 use Rattle.catalogue.specs.declared.Class.{Class}
+use Rattle.catalogue.specs.declared.NoClass.{NoClass}
 
 -- the checksum, signal 503, has 4 bits
 abbrev pub checksum_bits : ℕ
@@ -26,7 +27,7 @@ places_checksum ps = is_in checksum_number (numbers ps)
 abbrev pub count_of : List ℕ → Placement → ℕ
 count_of frame p = count_at frame p.start (bits_of_spec p.number)
 
-abbrev pub placed_class : List ℕ → Placement → Class
+abbrev pub placed_class : List ℕ → Placement → Result Class NoClass
 placed_class frame p = class_of_spec p.number (record { 0 = count_of frame p })
 
 -- entries written into a lent slice from the front; those beyond them stay as lent

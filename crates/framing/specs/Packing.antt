@@ -2,7 +2,7 @@
 -- frame as it was; otherwise each frame bit is the bit of the value placed there, that of 503 being the checksum, and 1 where no signal
 -- is placed. specs/Packed.antt says the same as what holds of a frame; proofs/FrameSent.antt and proofs/PackedOnce.antt show that it holds
 -- of this one and no other. specs/Putting.antt is how the code goes about it. Assumes nothing: these are definitions.
-use Rattle.std.specs.Prelude.{Bool, true, false, cond, List, [], ◌∷◌, map, ℕ, zero, suc, ◌+◌, ◌-◌, ◌*◌, ◌/◌, ◌%◌, ◌^◌, eqb, leb, length}
+use Rattle.std.specs.Prelude.{Bool, true, false, cond, List, [], ◌∷◌, map, ℕ, zero, suc, ◌+◌, ◌-◌, ◌*◌, ◌/◌, ◌%◌, ◌^◌, eqb, leb, length, Result, Ok, Err}
 use Rattle.std.proofs.Math.Option.{Option, none, some}
 use Rattle.books.specs.Belonging.{bit_belongs}
 use Rattle.books.specs.Book.{Placement, Message}
@@ -12,42 +12,46 @@ use Rattle.bits.specs.Checksum.{checksum_of}
 use Rattle.catalogue.specs.Find.{bits_of_spec}
 use Rattle.catalogue.specs.Class.{class_of_spec}
 use Rattle.catalogue.specs.declared.Class.{Class}
+use Rattle.catalogue.specs.declared.NoClass.{NoClass}
 use Rattle.catalogue.specs.declared.Class.TheVariants as Of
-use Rattle.framing.specs.declared.Packing.{Packing}
-use Rattle.framing.specs.declared.Packing.TheVariants.{Packed, NotABook, UnknownIdentifier, WrongCountOfValues, NotEightBytes, TooWide, ReservedOrOutside}
+use Rattle.framing.specs.declared.PackRefusal.{PackRefusal}
+use Rattle.framing.specs.declared.PackRefusal.TheVariants.{NotABook, UnknownIdentifier, WrongCountOfValues, NotEightBytes, TooWide, ReservedOrOutside}
 use Rattle.framing.specs.Messages.{checksum_number, message_with}
 
--- document 01's number for each answer; 0 is no refusal
-abbrev pub packing_number : Packing → ℕ
-packing_number Packed = 0
-packing_number NotABook = 12
-packing_number UnknownIdentifier = 22
-packing_number WrongCountOfValues = 25
-packing_number NotEightBytes = 21
-packing_number TooWide = 26
-packing_number ReservedOrOutside = 27
+-- document 01's number of each refusal
+abbrev pub pack_refusal_number : PackRefusal → ℕ
+pack_refusal_number NotABook = 12
+pack_refusal_number UnknownIdentifier = 22
+pack_refusal_number WrongCountOfValues = 25
+pack_refusal_number NotEightBytes = 21
+pack_refusal_number TooWide = 26
+pack_refusal_number ReservedOrOutside = 27
 
--- a count of this class is sent; reserved and outside are not. The last two don't come: a placed signal is in the catalogue
+-- and of each answer; 0 is no refusal
+abbrev pub packing_number : Result (Unit {0}) PackRefusal → ℕ
+packing_number (Ok packed) = 0
+packing_number (Err why) = pack_refusal_number why
+
+-- a count of this class is sent; reserved and outside are not. A refusal doesn't come: a placed signal is in the catalogue
 -- (proofs/Classes.antt), and one too wide is refused before
-abbrev pub packable : Class → Bool
-packable (Of.Value t) = true
-packable (Of.Invalid r) = true
-packable (Of.Absent r) = true
-packable (Of.Error r) = true
-packable (Of.Reserved r) = false
-packable (Of.Outside r) = false
-packable Of.NotInCatalogue = false
-packable Of.TooWide = false
+abbrev pub packable : Result Class NoClass → Bool
+packable (Ok (Of.Value t)) = true
+packable (Ok (Of.Invalid r)) = true
+packable (Ok (Of.Absent r)) = true
+packable (Ok (Of.Error r)) = true
+packable (Ok (Of.Reserved r)) = false
+packable (Ok (Of.Outside r)) = false
+packable (Err e) = false
 
 -- the first bad position, with 26 before 27; 503 is skipped
-unfoldable pub judged_values : List Placement → List ℕ → Packing
-judged_values [] vs = Packed
-judged_values (p ∷ ps) [] = Packed
+unfoldable pub judged_values : List Placement → List ℕ → Result (Unit {0}) PackRefusal
+judged_values [] vs = Ok tt
+judged_values (p ∷ ps) [] = Ok tt
 judged_values (p ∷ ps) (v ∷ vs) =
     cond (eqb p.number checksum_number) (judged_values ps vs)
-    (cond (leb (2 ^ bits_of_spec p.number) v) TooWide
+    (cond (leb (2 ^ bits_of_spec p.number) v) (Err TooWide)
     (cond (packable (class_of_spec p.number (record { 0 = v }))) (judged_values ps vs)
-    ReservedOrOutside))
+    (Err ReservedOrOutside)))
 
 -- ---- the frame that is sent, bit by bit
 
@@ -84,28 +88,23 @@ unfoldable pub packed_frame : Message → List ℕ → List ℕ
 packed_frame m vs = frame_sent (checksum_of m.identifier (frame_sent 0 m.placements vs)) m.placements vs
 
 -- values that are judged good are packed, others leave the frame as lent
-abbrev pub packed_or : Packing → List ℕ → List ℕ → List ℕ
-packed_or Packed packed lent = packed
-packed_or NotABook packed lent = lent
-packed_or UnknownIdentifier packed lent = lent
-packed_or WrongCountOfValues packed lent = lent
-packed_or NotEightBytes packed lent = lent
-packed_or TooWide packed lent = lent
-packed_or ReservedOrOutside packed lent = lent
+abbrev pub packed_or : Result (Unit {0}) PackRefusal → List ℕ → List ℕ → List ℕ
+packed_or (Ok done) packed lent = packed
+packed_or (Err why) packed lent = lent
 
 -- values packed by their message
-unfoldable pub pack_by_message : Option Message → List ℕ → List ℕ → Packing × List ℕ
-pack_by_message none vs lent = (UnknownIdentifier, lent)
+unfoldable pub pack_by_message : Option Message → List ℕ → List ℕ → Result (Unit {0}) PackRefusal × List ℕ
+pack_by_message none vs lent = (Err UnknownIdentifier, lent)
 pack_by_message (some m) vs lent =
     cond (eqb (length vs) (length m.placements))
     (cond (eqb (length lent) frame_bytes)
     (judged_values m.placements vs, packed_or (judged_values m.placements vs) (packed_frame m vs) lent)
-    (NotEightBytes, lent))
-    (WrongCountOfValues, lent)
+    (Err NotEightBytes, lent))
+    (Err WrongCountOfValues, lent)
 
 -- values packed by the words of a book
-unfoldable pub packing : List ℕ → ℕ → List ℕ → List ℕ → Packing × List ℕ
+unfoldable pub packing : List ℕ → ℕ → List ℕ → List ℕ → Result (Unit {0}) PackRefusal × List ℕ
 packing words identifier vs lent =
     cond (messages_taken_spec words)
     (pack_by_message (message_with identifier (messages_of words)) vs lent)
-    (NotABook, lent)
+    (Err NotABook, lent)

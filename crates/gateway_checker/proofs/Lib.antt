@@ -1,4 +1,3 @@
-pub mod Found
 pub mod Meeting
 pub mod Gathering
 pub mod Starting

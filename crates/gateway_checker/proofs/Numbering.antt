@@ -3,7 +3,7 @@ use mathlib.Core.Path.{◌≡◌, sym, ap, ◌∙◌, subst}
 use Prim.Native.Nat.{ℕ, ◌+◌, ◌-◌, ◌<◌, ◌≤◌}
 use native.Mathlib.Omega.{arith}
 use mathlib.Core.List.{List, ◌++◌}
-use lib.ListN.{length, get_or, take, drop, length-append, get_or-append}
+use lib.ListN.{length, get_or, take, drop, length-append, length-take, length-drop, get_or-append}
 use lib.Seq.{get_or-take, get_or-drop, get_or-append-add}
 use Rattle.masks.specs.Bit.{width}
 use Rattle.numbering.specs.Numbers.{FirstAt, Numbered}
@@ -15,10 +15,16 @@ use Rattle.verdict.proofs.Renaming.{Renames, judged_renamed}
 
 -- places and their numbers give each other their names
 module _ (fs ts numbers starts ends : List ℕ) (same : length fs ≡ length ts) (numbered : Numbered (ts ++ fs) numbers)
-    (is-starts : starts ≡ take (length fs + length fs - length fs) (drop (length fs) numbers)) (is-ends : ends ≡ take (length fs - 0) (drop 0 numbers))
-    (start_count : length starts ≡ length fs + length fs - length fs) (end-count : length ends ≡ length fs - 0) where
+    (room : length fs + length fs ≤ length numbers)
+    (is-starts : starts ≡ take (length fs + length fs - length fs) (drop (length fs) numbers)) (is-ends : ends ≡ take (length fs) numbers) where
   abbrev n : ℕ
   n = length fs
+
+  start_count : length starts ≡ n
+  start_count = ap length is-starts ∙ simp (length-take, length-drop) (omega arith)
+
+  end-count : length ends ≡ n
+  end-count = ap length is-ends ∙ simp length-take (omega arith)
 
   start_at : (j : ℕ) → j < n → FirstAt (ts ++ fs) (n + j) (get_or starts j 0)
   unfolding Numbered
@@ -31,7 +37,7 @@ module _ (fs ts numbers starts ends : List ℕ) (same : length fs ≡ length ts)
   unfolding Numbered
   end_at j l =
       subst (λ (r : ℕ). FirstAt (ts ++ fs) j r)
-      (sym (ap (λ (x : List ℕ). get_or x j 0) is-ends ∙ get_or-take (n - 0) (drop 0 numbers) j 0 (omega arith)))
+      (sym (ap (λ (x : List ℕ). get_or x j 0) is-ends ∙ get_or-take n numbers j 0 l))
       (numbered j (omega (arith, length-append ts fs)))
 
   from_at : (j : ℕ) → get_or (ts ++ fs) (n + j) 0 ≡ get_or fs j 0

@@ -1,9 +1,15 @@
 -- What the searches over the masks of `reach` look for: the working side, which no entry point's contract names. `gateway_checker: Masks
 -- back_same, none_begins, begins_same` tie it to chains, and `gateway_checker: Judging loop_by, sound_by, doubling_by` make the verdict of it.
 -- Assumes nothing: these are definitions.
-use Rattle.std.specs.Prelude.{◌≡◌, Bool, true, ◌||◌, ℕ, ◌<◌, List, length, get_or}
+use Rattle.std.specs.Prelude.{◌≡◌, Bool, true, ◌||◌, ℕ, ◌<◌, List, length, get_or, Option, Some, None}
 use Rattle.masks.specs.Bit.{width, bit, meeting}
+use Rattle.chains.specs.Tests.{FirstPassing}
 use Rattle.reach.specs.Led.{turn}
+
+-- the first of n routes that passes, and `None` where none does
+abbrev pub FirstOf : (ℕ → Bool) → ℕ → Option ℕ → Type 0
+FirstOf P n None = FirstPassing P n n
+FirstOf P n (Some i) = (i < n) × FirstPassing P n i
 
 -- route i leads on to where it starts
 abbrev pub leads_back : List ℕ → List ℕ → ℕ → Bool

@@ -2,126 +2,92 @@
 // crate `verdict`; how it is found is said only here.
 #![tactic(auto)]
 
-ghost use Rattle.std.specs.Prelude.{◌≡◌, ℕ, ◌-◌, ◌<◌, ◌≤◌, length, take, drop};
+ghost use Rattle.std.specs.Prelude.{◌≡◌, ℕ, ◌-◌, ◌<◌, ◌≤◌, length};
 ghost use Rattle.chains.specs.Chain.{IsSound};
 ghost use Rattle.chains.specs.Tells.{Tells};
-ghost use Rattle.chains.specs.Tests.{FirstPassing};
 ghost use Rattle.masks.specs.Bit.{width, bit};
-ghost use Rattle.reach.specs.Led.{Starts, Numbers};
-ghost use Rattle.gateway_checker.specs.Searches.{leads_back, ForksEarlier, StartsAt, begins_by};
+ghost use Rattle.gateway_checker.specs.Searches.{FirstOf, leads_back, ForksEarlier, StartsAt, begins_by};
 ghost use Rattle.verdict.specs.Verdicts.{Judged};
 
 use masks::WIDTH;
-use reach::NUMBERS;
+use reach::{NUMBERS, NumberedRoutes};
 use verdict::Verdict;
 
 // Whether the mask has a number, which may be one that no mask has.
 fn among(mask: u64, number: usize) -> bool
     ensures { result ≡ bit mask number }
 {
-    if number < WIDTH {
-        return masks::has(mask, number as u32);
-    }
-    false
+    number < WIDTH && masks::has(mask, number as u32)
 }
 
-// The first route that leads on to where it starts, or n.
-fn first_loop(starts: &[u8], onward: &[u64]) -> usize
-    requires { Starts starts.now × (length starts.now ≤ length onward.now) }
-    ensures { FirstPassing (leads_back starts.now onward.now) (length starts.now) result }
+// The first route that leads on to where it starts.
+fn first_loop(table: &NumberedRoutes<'_>, onward: &[u64; WIDTH]) -> Option<usize>
+    ensures { FirstOf (leads_back table.now.starts.now onward.now) (length table.now.starts.now) result }
 {
-    let mut i: usize = 0;
-    while i < starts.len() {
-        if among(onward[i], reach::start_of(starts, i)) {
-            return i;
-        }
-        i += 1;
-    }
-    i
+    (0..table.starts.len()).find(|i| among(onward[*i], usize::from(table.starts[*i])))
 }
 
 // The routes that fork with one of an earlier turn: both start at one place and lead on to one place.
-fn forking(starts: &[u8], onward: &[u64], down: bool) -> u64
-    requires { Starts starts.now × (length starts.now ≤ length onward.now) }
-    ensures { (a : ℕ) → Tells (ForksEarlier starts.now onward.now down (length starts.now) a) (bit result a) }
+fn forking(table: &NumberedRoutes<'_>, onward: &[u64; WIDTH], down: bool) -> u64
+    ensures { (a : ℕ) → Tells (ForksEarlier table.now.starts.now onward.now down (length table.now.starts.now) a) (bit result a) }
 {
-    let n = starts.len();
+    let n = table.starts.len();
     let mut seen = [0u64; NUMBERS];
     let mut forks: u64 = 0;
-    let mut t: usize = 0;
-    while t < n {
+    for t in 0..n {
         let a = reach::nth(t, n, down);
-        let start = reach::start_of(starts, a);
+        let start = usize::from(table.starts[a]);
         let earlier = seen[start];
         if masks::meet(earlier, onward[a]) {
             forks = masks::with(forks, a as u32);
         }
         seen[start] = masks::either(earlier, onward[a]);
-        t += 1;
     }
     forks
 }
 
 // The numbers at which routes of the mask start, of those that a mask can have.
-fn starts_of(starts: &[u8], routes: u64) -> u64
-    requires { Starts starts.now }
-    ensures { (x : ℕ) → Tells (StartsAt starts.now routes (length starts.now) x) (bit result x) }
+fn starts_of(table: &NumberedRoutes<'_>, routes: u64) -> u64
+    ensures { (x : ℕ) → Tells (StartsAt table.now.starts.now routes (length table.now.starts.now) x) (bit result x) }
 {
     let mut at: u64 = 0;
-    let mut a: usize = 0;
-    while a < starts.len() {
-        let start = reach::start_of(starts, a);
+    for (a, start) in table.starts.iter().enumerate() {
+        let start = usize::from(*start);
         if masks::has(routes, a as u32) & (start < WIDTH) {
             at = masks::with(at, start as u32);
         }
-        a += 1;
     }
     at
 }
 
-// The first route that forks or leads on to where one starts that does, or n.
-fn first_doubling(onward: &[u64], forks: u64, places: u64, n: usize) -> usize
-    requires { (n ≤ width) × (n ≤ length onward.now) }
-    ensures { FirstPassing (begins_by onward.now forks places) n result }
+// The first route that forks or leads on to where one starts that does.
+fn first_doubling(onward: &[u64; WIDTH], forks: u64, places: u64, n: usize) -> Option<usize>
+    requires { n ≤ width }
+    ensures { FirstOf (begins_by onward.now forks places) n result }
 {
-    let mut i: usize = 0;
-    while i < n {
-        if masks::has(forks, i as u32) | masks::meet(onward[i], places) {
-            return i;
-        }
-        i += 1;
-    }
-    i
+    (0..n).find(|i| masks::has(forks, *i as u32) | masks::meet(onward[*i], places))
 }
 
 // The verdict on a table of routes between numbered places.
-fn judge_numbered(starts: &[u8], ends: &[u8]) -> Verdict
-    requires { Numbers starts.now ends.now }
-    ensures { Judged starts.now ends.now result }
+fn judge_numbered(table: &NumberedRoutes<'_>) -> Verdict
+    ensures { Judged table.now.starts.now table.now.ends.now result }
 {
-    let n = starts.len();
     let mut onward = [0u64; WIDTH];
-    reach::fill(starts, ends, &mut onward);
-    let i = first_loop(starts, &onward);
-    if i < n {
+    reach::fill(table, &mut onward);
+    if let Some(i) = first_loop(table, &onward) {
         return Verdict::Loop(i);
     }
     // of two routes that fork the higher is met upwards
-    let up = forking(starts, &onward, false);
+    let up = forking(table, &onward, false);
     if up == 0 {
         return Verdict::Sound;
     }
-    let forks = masks::either(up, forking(starts, &onward, true));
-    let j = first_doubling(&onward, forks, starts_of(starts, forks), n);
-    Verdict::Doubling(j)
-}
-
-// The numbers from `first` on, up to `end`.
-fn part(numbers: &[u8], first: usize, end: usize) -> &[u8]
-    requires { (first ≤ end) × (end ≤ length numbers.now) }
-    ensures { (result.now ≡ take (end - first) (drop first numbers.now)) × (length result.now ≡ end - first) }
-{
-    &numbers[first..end]
+    let forks = masks::either(up, forking(table, &onward, true));
+    let places = starts_of(table, forks);
+    match first_doubling(&onward, forks, places, table.starts.len()) {
+        Some(j) => Verdict::Doubling(j),
+        None => Verdict::Sound,
+    }
 }
 
 // The verdict. It is the same whether routes join places or their numbers.
@@ -132,7 +98,10 @@ pub fn judge(froms: &[u32], tos: &[u32]) -> Verdict
     let n = froms.len();
     let mut numbers = [0u8; NUMBERS];
     numbering::number_all(tos, froms, &mut numbers);
-    judge_numbered(part(&numbers, n, n + n), part(&numbers, 0, n))
+    judge_numbered(&NumberedRoutes {
+        starts: &numbers[n..n + n],
+        ends: &numbers[..n],
+    })
 }
 
 // Whether the verdict is sound.
@@ -140,9 +109,5 @@ pub fn sound(froms: &[u32], tos: &[u32]) -> bool
     requires { (length froms.now ≤ width) × (length froms.now ≡ length tos.now) }
     ensures { Tells (IsSound froms.now tos.now) result }
 {
-    match judge(froms, tos) {
-        Verdict::Loop(_) => false,
-        Verdict::Doubling(_) => false,
-        Verdict::Sound => true,
-    }
+    matches!(judge(froms, tos), Verdict::Sound)
 }

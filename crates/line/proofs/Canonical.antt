@@ -6,8 +6,7 @@ use mathlib.Core.List.{List, [], ◌∷◌}
 use Prim.Native.Nat.{ℕ}
 use lib.Dec.{eqb}
 use borrow.Author.Tests.{eqb-true}
-use Rattle.numerals.specs.declared.Number.{Number}
-use Rattle.numerals.specs.declared.Number.TheVariants.{Is, Not}
+use Rattle.std.specs.Prelude.{Option, Some, None}
 use Rattle.numerals.specs.Numeral.{identifier, decimal}
 use Rattle.numerals.proofs.Identifiers.{identifier_written}
 use Rattle.numerals.proofs.Decimals.{decimal_written}
@@ -33,34 +32,34 @@ ill : (fs : List (List ℕ)) → SaidOrIll fs IllFormed
 unfolding SaidOrIll
 ill fs = inl refl
 
-message_said : (i : List ℕ) (n : Number) → identifier i ≡ n → SaidOrIll ((77 ∷ []) ∷ i ∷ []) (message_of n)
+message_said : (i : List ℕ) (n : Option ℕ) → identifier i ≡ n → SaidOrIll ((77 ∷ []) ∷ i ∷ []) (message_of n)
 unfolding SaidOrIll fields_of
-message_said i (Is x) e = let h : IdentifierWritten i x = identifier_written i x e in inr (record { writable = h.small; same = rw h.text })
-message_said i Not e = inl refl
+message_said i (Some x) e = let h : IdentifierWritten i x = identifier_written i x e in inr (record { writable = h.small; same = rw h.text })
+message_said i None e = inl refl
 
-signal_said : (n s : List ℕ) (x y : Number) → decimal n ≡ x → decimal s ≡ y → SaidOrIll ((83 ∷ []) ∷ n ∷ s ∷ []) (signal_of x y)
+signal_said : (n s : List ℕ) (x y : Option ℕ) → decimal n ≡ x → decimal s ≡ y → SaidOrIll ((83 ∷ []) ∷ n ∷ s ∷ []) (signal_of x y)
 unfolding SaidOrIll fields_of
-signal_said n s (Is x) (Is y) e f =
+signal_said n s (Some x) (Some y) e f =
     let h : DecimalWritten n x = decimal_written n x e in
     let k : DecimalWritten s y = decimal_written s y f in
     inr (record { writable = (h.small, k.small); same = rw (h.text, k.text) })
-signal_said n s (Is x) Not e f = inl refl
-signal_said n s Not y e f = inl refl
+signal_said n s (Some x) None e f = inl refl
+signal_said n s None y e f = inl refl
 
-route_said : (a i b j : List ℕ) (w x y z : Number) → decimal a ≡ w → identifier i ≡ x → decimal b ≡ y → identifier j ≡ z
+route_said : (a i b j : List ℕ) (w x y z : Option ℕ) → decimal a ≡ w → identifier i ≡ x → decimal b ≡ y → identifier j ≡ z
     → SaidOrIll ((82 ∷ []) ∷ a ∷ i ∷ b ∷ j ∷ []) (route_of w x y z)
 unfolding SaidOrIll fields_of
-route_said a i b j (Is w) (Is x) (Is y) (Is z) p q r s =
+route_said a i b j (Some w) (Some x) (Some y) (Some z) p q r s =
     let h : DecimalWritten a w = decimal_written a w p in
     let k : IdentifierWritten i x = identifier_written i x q in
     let l : DecimalWritten b y = decimal_written b y r in
     let m : IdentifierWritten j z = identifier_written j z s in
     inr
     (record { writable = ((h.small, k.small), (l.small, m.small)); same = rw (h.text, k.text, l.text, m.text) })
-route_said a i b j (Is w) (Is x) (Is y) Not p q r s = inl refl
-route_said a i b j (Is w) (Is x) Not z p q r s = inl refl
-route_said a i b j (Is w) Not y z p q r s = inl refl
-route_said a i b j Not x y z p q r s = inl refl
+route_said a i b j (Some w) (Some x) (Some y) None p q r s = inl refl
+route_said a i b j (Some w) (Some x) None z p q r s = inl refl
+route_said a i b j (Some w) None y z p q r s = inl refl
+route_said a i b j None x y z p q r s = inl refl
 
 of_message_law : (fs : List (List ℕ)) → SaidOrIll ((77 ∷ []) ∷ fs) (of_message fs)
 unfolding SaidOrIll of_message

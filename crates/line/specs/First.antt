@@ -1,7 +1,5 @@
--- Working definitions: what the functions for each kind of line ask, and what they answer where the line is not of its form.
--- Assumes nothing.
-use Rattle.std.specs.Prelude.{◌≡◌, ℕ, ◌≤◌, List, length, get_or}
-use Rattle.parts.specs.Parts.{tab}
+-- Working definitions: what the functions for each kind of line answer. Assumes nothing.
+use Rattle.std.specs.Prelude.{◌≡◌, List, ℕ, Option, Some, None}
 use Rattle.line.specs.declared.Line.TheVariants.{IllFormed}
 use Rattle.line.specs.declared.ReadLine.{ReadLine}
 use Rattle.line.specs.LineAt.{read_line, first_line}
@@ -10,8 +8,7 @@ use Rattle.line.specs.LineAt.{read_line, first_line}
 abbrev pub ill_formed_spec : List ℕ → ReadLine
 ill_formed_spec text = read_line IllFormed (first_line text).next
 
--- a text that begins with a kind of line and a tab
-pub record OfKind (letter : ℕ) (text : List ℕ) : Type 0 where
-  pub long : 2 ≤ length text
-  pub kind : get_or text 0 0 ≡ letter
-  pub parted : get_or text 1 0 ≡ tab
+-- a text's first line; none only where it is ill formed
+abbrev pub FirstOrIll : List ℕ → Option ReadLine → Type 0
+FirstOrIll text (Some read) = read ≡ first_line text
+FirstOrIll text None = ill_formed_spec text ≡ first_line text

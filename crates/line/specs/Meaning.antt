@@ -1,8 +1,6 @@
 -- "The route book": what one line says, by its fields. Only its form is judged here; the limits are not. Assumes nothing.
-use Rattle.std.specs.Prelude.{ℕ, cond, List, [], ◌∷◌, eqb}
+use Rattle.std.specs.Prelude.{ℕ, cond, List, [], ◌∷◌, eqb, Option, Some, None}
 use Rattle.numerals.specs.Numeral.{identifier, decimal}
-use Rattle.numerals.specs.declared.Number.{Number}
-use Rattle.numerals.specs.declared.Number.TheVariants.{Is, Not}
 use Rattle.parts.specs.Parts.{fields, TextLine, ended, unended}
 use Rattle.line.specs.declared.Line.{Line}
 use Rattle.line.specs.declared.Line.TheVariants.{Message, Signal, Route, IllFormed}
@@ -18,21 +16,21 @@ abbrev pub letter_r : ℕ
 letter_r = 82
 
 -- a line of well formed numbers; ill formed where one is not
-abbrev pub message_of : Number → Line
-message_of (Is i) = Message i
-message_of Not = IllFormed
+abbrev pub message_of : Option ℕ → Line
+message_of (Some i) = Message i
+message_of None = IllFormed
 
-abbrev pub signal_of : Number → Number → Line
-signal_of (Is n) (Is s) = Signal n s
-signal_of (Is n) Not = IllFormed
-signal_of Not s = IllFormed
+abbrev pub signal_of : Option ℕ → Option ℕ → Line
+signal_of (Some n) (Some s) = Signal n s
+signal_of (Some n) None = IllFormed
+signal_of None s = IllFormed
 
-abbrev pub route_of : Number → Number → Number → Number → Line
-route_of (Is a) (Is i) (Is b) (Is j) = Route a i b j
-route_of (Is a) (Is i) (Is b) Not = IllFormed
-route_of (Is a) (Is i) Not j = IllFormed
-route_of (Is a) Not b j = IllFormed
-route_of Not i b j = IllFormed
+abbrev pub route_of : Option ℕ → Option ℕ → Option ℕ → Option ℕ → Line
+route_of (Some a) (Some i) (Some b) (Some j) = Route a i b j
+route_of (Some a) (Some i) (Some b) None = IllFormed
+route_of (Some a) (Some i) None j = IllFormed
+route_of (Some a) None b j = IllFormed
+route_of None i b j = IllFormed
 
 -- `M` identifier
 unfoldable pub of_message : List (List ℕ) → Line

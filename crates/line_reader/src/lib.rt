@@ -23,6 +23,7 @@ pub fn reader_at<'a>(text: &'a [u8], at: usize) -> LineReader<'a>
 }
 
 // The line at the reader's place; the reader is then at the next one.
+// Kept: an Iterator is no plainer: it ends with its text, and a reader at its text's end reads an ill-formed line (`next_line_spec`).
 pub fn next_line<'s, 'a>(reader: &'s mut LineReader<'a>) -> Line
     ensures { (result, reader.new) ≡ next_line_spec reader.old }
 {

@@ -2,7 +2,7 @@
 -- Assumes nothing.
 use mathlib.Core.Path.{◌≡◌, refl, sym, ap, ◌∙◌}
 use Prim.Native.Nat.{ℕ, ◌+◌, ◌≤◌, ◌<◌}
-use native.Mathlib.Nat.{add-zero, zero-add}
+use native.Mathlib.Nat.{add-zero}
 use native.Mathlib.Omega.{arith}
 use mathlib.Core.List.{List, [], ◌∷◌, ◌++◌}
 use lib.ListN.{length}
@@ -67,9 +67,6 @@ module _ {old : List ℕ} {first : ℕ} {all : List Line} {out : List ℕ} {at :
 -- ---- a sum of lengths: with that of the lines that are left it is that of all
 pub record LengthSoFar (all : List Line) (sum : ℕ) (left : List Line) : Type 0 where
   pub whole : sum + length (lines_text left) ≡ length (lines_text all)
-
-pub none_summed : (all : List Line) → LengthSoFar all 0 all
-none_summed all = record { whole = zero-add (length (lines_text all)) }
 
 module _ {all : List Line} {sum : ℕ} where
   pub one_summed : (l : Line) (left : List Line) → LengthSoFar all sum (l ∷ left) → {n : ℕ} → n ≡ length (lines_text (l ∷ [])) → LengthSoFar all (sum + n) left

@@ -1,44 +1,28 @@
 -- Each public function's contract allows one outcome and no other: a length; or the place after the line, and what stands in the lent
 -- slice at exit. Assumes nothing.
-use mathlib.Core.Path.{refl, sym, ◌∙◌}
+use mathlib.Core.Path.{refl}
 use mathlib.Core.List.{List, [], ◌∷◌}
 use Prim.Native.Nat.{ℕ}
 use lib.ListN.{length}
 use seplogic.Ra.Ura.{Ura}
 use base.Logic.{SProp}
-use base.Stored.{coded_ℕ}
 use prog.Memory.{Memory}
 use prog.Routine.{Routine}
 use types.Logic.{Logic}
 use contract.Lifetimes.{Lfts}
 use contract.Monad.{Fun}
 use denote.Ref.{MutBor, at_last}
-use denote.Triple.Clauses.{AtExit}
 use Rattle.only.specs.Only.{Only}
 use Rattle.only.specs.Outcomes.{OneResult, result_is}
 use Rattle.line.specs.declared.Line.TheVariants.{Message}
 use Rattle.books.specs.Book.{placement, route_between}
 use Rattle.reading.specs.Written.{signal_line, route_line, lines_text}
 use Rattle.printing.proofs.OneOutcome.{one_put}
-use Rattle.reading.proofs.LineLengths.{message_long}
-use Rattle.line_writer.specs.Fitting.{EveryMessageHas}
-use Rattle.line_writer.specs.contracts.message_length as message-length
 use Rattle.line_writer.specs.contracts.signal_length as signal-length
 use Rattle.line_writer.specs.contracts.route_length as route-length
 use Rattle.line_writer.specs.contracts.put_message as put-message
 use Rattle.line_writer.specs.contracts.put_signal as put-signal
 use Rattle.line_writer.specs.contracts.put_route as put-route
-
-module _ {M : Type 1} {𝓤 : Ura M} (𝓛 : Logic 𝓤) (mem : Memory → SProp 𝓤) (run : Routine → Fun 𝓤) where
-  pub one_message_length : (e : AtExit message-length.ended tt) → Only 𝓤 (λ r. (message-length.clauses 𝓛 mem run tt tt).ensures tt r e)
-  one_message_length e = record {
-    coded = coded_ℕ;
-    outcome = 11;
-    Says = EveryMessageHas;
-    says = λ r. refl;
-    there = λ i. sym (message_long i);
-    alone = λ r h. h 0 ∙ message_long 0;
-  }
 
 pub one_signal_length : (M : Type 1) → OneResult M signal-length.ended (λ _. signal-length.clauses)
 one_signal_length M = result_is (λ c. length (lines_text (signal_line (placement c.arguments.0 c.arguments.1.0) ∷ []))) refl

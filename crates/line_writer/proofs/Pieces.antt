@@ -9,7 +9,9 @@ use Rattle.books.specs.Book.{placement, route_between}
 use Rattle.reading.specs.Written.{signal_line, route_line, lines_text, place_text}
 use Rattle.printing.specs.Put.{Put}
 use Rattle.printing.proofs.Puts.{and_then, put_as}
-use Rattle.reading.proofs.LineLengths.{message_text_law, signal_text, route_text}
+use Rattle.reading.proofs.LineLengths.{message_text_law, message_long, signal_text, route_text}
+use Rattle.line_writer.specs.Fitting.{EveryMessageHas}
+use Rattle.line_writer.specs.declared.TheConstants.{MESSAGE_LENGTH}
 
 module _ {old a new : List ℕ} {at first next : ℕ} where
   pub message_put : (i : ℕ) {b : List ℕ} {end : ℕ} → Put old at (77 ∷ 9 ∷ []) a first → Put a first (identifier_text i) b end → Put b end (10 ∷ []) new next
@@ -28,3 +30,7 @@ module _ {old a new : List ℕ} {at first next : ℕ} where
     pub route_put : (p q : ℕ) → Put old at (82 ∷ 9 ∷ []) a first → Put a first (place_text p) b after → Put b after (9 ∷ []) c second
         → Put c second (place_text q) d end → Put d end (10 ∷ []) new next → Put old at (lines_text (route_line (route_between p q) ∷ [])) new next
     route_put p q k f t g e = put_as (sym (route_text p q)) (and_then k (and_then (and_then f (and_then t g)) e))
+
+-- what the code takes for the length of an M line is that of every M line
+pub message_length : EveryMessageHas MESSAGE_LENGTH
+message_length i = sym (message_long i)

@@ -1,6 +1,8 @@
 // The lines of a route book into a lent slice at a place, as `line: Written` has their texts, newlines included; and how many bytes a
 // line has before it is written. For crate `book_writer`. What writes asks for room and for numbers that a line can say, writes just its
 // line, and answers the place after it; what counts asks nothing.
+// Kept: a slice and a place, and not a cursor with methods. What may not change: `put_byte`, `put_decimal` and `put_identifier` of crates
+// printing and writing take a slice and a place and answer the next, as their laws one_put_byte and so on say.
 #![tactic(auto)]
 
 ghost use Rattle.std.specs.Prelude.{◌≡◌, [], ◌∷◌, ◌+◌, ◌≤◌, length};
@@ -9,19 +11,15 @@ ghost use Rattle.line.specs.declared.Line.TheVariants.{Message};
 ghost use Rattle.books.specs.Book.{placement, route_between};
 ghost use Rattle.reading.specs.Written.{signal_line, route_line, lines_text, place_text};
 ghost use Rattle.printing.specs.Put.{Put};
-ghost use Rattle.line_writer.specs.Fitting.{EveryMessageHas, place_room, LinesFit};
+ghost use Rattle.line_writer.specs.Fitting.{place_room, LinesFit};
 
 use parts::{NEWLINE, TAB};
 use printing::put_byte;
 use record::IDENTIFIER_LIMIT;
 use writing::{decimal_width, put_decimal, put_identifier};
 
-// How many bytes an M line has, whatever its identifier.
-pub fn message_length() -> u32
-    ensures { EveryMessageHas result }
-{
-    11
-}
+// How many bytes an M line has, whatever its identifier: letter, tab, eight digits, newline (proofs/Pieces.antt, `message_length`).
+pub const MESSAGE_LENGTH: u32 = 11;
 
 // How many bytes an S line has.
 pub fn signal_length(number: u32, start: u32) -> u32

@@ -1,21 +1,21 @@
 // Frame lines from standard input, through one buffer.
-ghost use Rattle.std.specs.Prelude.{◌≡◌, ◌+◌, ◌-◌, ◌≤◌, length, take, drop};
+ghost use Rattle.std.specs.Prelude.{◌+◌, ◌≤◌, length};
 ghost use Rattle.lister.specs.Whole.{WholeUsed};
 
-use listing::{Listed, list};
+use listing::list;
 use parts::{NEWLINE, find, part_before, part_from};
 use record::BOOK_WORDS;
 use signal_lines::{Figures, ILL_FORMED_LINE};
 use std::io::Read;
 use streams::{print_bytes, write_first};
 
-// Where the listing stands: how many bytes of an unfinished line the buffer holds, whether a line too long for it is passed
-// over, and whether there is more to read.
-#[derive(Drop)]
-pub struct Held {
-    pub size: usize,
-    pub passing: bool,
-    pub more: bool,
+// Where the listing stands, while there is more to read.
+#[derive(Clone, Copy, PartialEq, Eq)]
+pub enum Held {
+    // The buffer begins with so many bytes of an unfinished line.
+    Part(usize),
+    // A line too long for the buffer is passed over.
+    TooLong,
 }
 
 // The line of an ill-formed line.
@@ -44,31 +44,16 @@ fn list_whole(
     let mut used: usize = 0;
     while used < text.len() {
         let rest = part_from(text, used);
-        match list(book, rest, &mut *out, figures) {
-            Listed::Lines(more, written) => {
-                let _ = write_first(rt, &*out, written);
-                if more == 0 {
-                    return used;
-                }
-                used += more;
-            }
-            Listed::NotABook => return used,
+        let Ok(listed) = list(book, rest, &mut *out, figures) else {
+            return used;
+        };
+        let _ = write_first(rt, &*out, listed.written);
+        if listed.used == 0 {
+            return used;
         }
+        used += listed.used;
     }
     used
-}
-
-// Moves the bytes from `from` to before `size` to the front, and answers how many they are.
-fn keep(input: &mut [u8], from: usize, size: usize) -> usize
-    requires { (from ≤ size) × (size ≤ length input.old) }
-    ensures { (result ≡ size - from) × (take result input.new ≡ take (size - from) (drop from input.old)) }
-{
-    let mut i: usize = 0;
-    while i < size - from {
-        input[i] = input[from + i];
-        i += 1;
-    }
-    i
 }
 
 // Lists what stands in the buffer from `from` to before `size`. A line that fills the buffer is too long: it is ill formed.
@@ -85,23 +70,16 @@ fn list_buffer(
 {
     let used = list_whole(rt, book, &input[from..size], &mut *out, figures);
     let begin = from + used;
-    let left = keep(&mut *input, begin, size);
+    let left = size - begin;
+    input.copy_within(begin..size, 0);
     if left < input.len() {
-        return Held {
-            size: left,
-            passing: false,
-            more: true,
-        };
+        return Held::Part(left);
     }
     send_ill_formed(rt);
-    Held {
-        size: 0,
-        passing: true,
-        more: true,
-    }
+    Held::TooLong
 }
 
-// Reads once, and lists what came. A last line without a newline is ill formed.
+// Reads once, and lists what came; nothing is held once the input has ended. A last line without a newline is ill formed.
 pub fn read_and_list<R: Read>(
     rt: &impl Print,
     from: &mut R,
@@ -110,38 +88,29 @@ pub fn read_and_list<R: Read>(
     out: &mut [u8],
     held: Held,
     figures: Figures,
-) -> Held {
-    let before = held.size;
-    let passing = held.passing;
+) -> Option<Held> {
+    let before = match held {
+        Held::Part(size) => size,
+        Held::TooLong => 0,
+    };
     if before > input.len() {
-        return Held {
-            size: 0,
-            passing: false,
-            more: false,
-        };
+        return None;
     }
     let got = read_more(from, &mut *input, before);
     if got == 0 {
         if before > 0 {
             send_ill_formed(rt);
         }
-        return Held {
-            size: 0,
-            passing: false,
-            more: false,
-        };
+        return None;
     }
     let size = before + got;
-    if passing {
+    let mut begin = 0;
+    if held == Held::TooLong {
         let end = find(part_before(&*input, size), NEWLINE);
         if end >= size {
-            return Held {
-                size: 0,
-                passing: true,
-                more: true,
-            };
+            return Some(Held::TooLong);
         }
-        return list_buffer(rt, book, &mut *input, &mut *out, end + 1, size, figures);
+        begin = end + 1;
     }
-    list_buffer(rt, book, &mut *input, &mut *out, 0, size, figures)
+    Some(list_buffer(rt, book, &mut *input, &mut *out, begin, size, figures))
 }

@@ -6,7 +6,6 @@
 
 mod input;
 
-use answers::Answer;
 use book::read;
 use book_streams::{ENOUGH, send_answer};
 use input::{Held, read_and_list};
@@ -38,16 +37,12 @@ fn list_input<R: Read>(
     out: &mut [u8],
     figures: Figures,
 ) {
-    let mut held = Held {
-        size: 0,
-        passing: false,
-        more: true,
-    };
+    let mut held = Held::Part(0);
     for _ in 0..u64::MAX {
-        held = read_and_list(rt, from, book, &mut *input, &mut *out, held, figures);
-        if !held.more {
+        let Some(next) = read_and_list(rt, from, book, &mut *input, &mut *out, held, figures) else {
             return;
-        }
+        };
+        held = next;
     }
 }
 
@@ -60,7 +55,7 @@ pub fn run<R: Files + Print, F: Read>(rt: &R, from: &mut F, figures: Figures) {
     }
     let mut words = [0u32; BOOK_WORDS];
     let answer = read(parts::part_before(&text, size), &mut words);
-    if let Answer::Taken(_, _, _) = answer {
+    if answer.is_ok() {
         let mut input = [0u8; INPUT];
         let mut out = [0u8; OUTPUT];
         list_input(rt, from, &words, &mut input, &mut out, figures);

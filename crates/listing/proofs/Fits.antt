@@ -7,8 +7,7 @@ use lib.ListN.{length, take, drop}
 use lib.Seq.{sets-eq, take_at}
 use borrow.Author.Tests.{le-leb, lt-leb}
 use Rattle.printing.specs.Put.{Put, PutWithin}
-use Rattle.listing.specs.declared.Fitted.{Fitted}
-use Rattle.listing.specs.declared.Fitted.TheVariants.{Next, NoRoom}
+use Rattle.std.specs.Prelude.{Option, Some, None}
 use Rattle.listing.specs.Working.{fitted}
 
 -- a text that stands at the front of a list is its first part
@@ -17,16 +16,16 @@ front {old} {text} {new} {n} p h =
     ap (take n) (p.now_there ∙ sets-eq text old 0 (omega arith)) ∙ take_at text (drop (0 + length text) old) n (omega (arith, p.now_at))
 
 module _ (out : List ℕ) (at : ℕ) (text : List ℕ) where
-  pub fits : length text ≤ length out - at → {new : List ℕ} {next : ℕ} → Put out at text new next → ◌≡◌ {A = Fitted × List ℕ} (Next next, new) (fitted out at text)
+  pub fits : length text ≤ length out - at → {new : List ℕ} {next : ℕ} → Put out at text new next → ◌≡◌ {A = Option ℕ × List ℕ} (Some next, new) (fitted out at text)
   unfolding fitted
   fits h {new} {next} p = rw (le-leb (length text) (length out - at) h, ← p.now_at, ← p.now_there)
 
-  pub too_long : length out - at < length text → ◌≡◌ {A = Fitted × List ℕ} (NoRoom, out) (fitted out at text)
+  pub too_long : length out - at < length text → ◌≡◌ {A = Option ℕ × List ℕ} (None, out) (fitted out at text)
   unfolding fitted
   too_long h = rw (lt-leb (length text) (length out - at) h)
 
 -- another text that is the same
-pub fitted_as : (out : List ℕ) (at : ℕ) {a b : List ℕ} {r : Fitted × List ℕ} → a ≡ b → r ≡ fitted out at a → r ≡ fitted out at b
+pub fitted_as : (out : List ℕ) (at : ℕ) {a b : List ℕ} {r : Option ℕ × List ℕ} → a ≡ b → r ≡ fitted out at a → r ≡ fitted out at b
 fitted_as out at e p = p ∙ ap (fitted out at) e
 
 -- a text that was written aside first, at the front of zeros that are enough for it

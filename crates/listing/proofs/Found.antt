@@ -2,25 +2,15 @@
 use mathlib.Core.Path.{◌≡◌, sym, ap, ◌∙◌, subst}
 use mathlib.Core.Bool.{true}
 use mathlib.Core.List.{List}
-use mathlib.Core.Option.{none}
 use Prim.Native.Nat.{ℕ, ◌-◌, ◌≤◌}
 use native.Mathlib.Omega.{arith}
 use lib.ListN.{length, drop, length-take}
-use Rattle.books.specs.Words.{side_by_side, messages_of, messages_taken_spec}
-use Rattle.frames.specs.Lookup.{Spans, Finds, part}
-use Rattle.frames.specs.declared.lookup.MessageFound.{MessageFound}
-use Rattle.frames.specs.declared.lookup.MessageFound.TheVariants.{Signals, Nothing}
+use Rattle.books.specs.Words.{side_by_side, messages_taken_spec}
+use Rattle.frames.specs.Lookup.{Spans, part}
 use Rattle.messages.specs.Signals.{AllFit, message_from}
-use Rattle.framing.specs.Messages.{message_with}
 use Rattle.framing.proofs.Few.{few_signals}
 use Rattle.record.specs.Columns.{numbers_of, starts_of}
 use Rattle.listing.specs.Working.{Listable}
-
-pub found_signals : (words : List ℕ) (identifier : ℕ) {from to : ℕ} {f : MessageFound} → f ≡ Signals from to → Finds words identifier f → Spans words identifier from to
-found_signals words identifier e p = subst (Finds words identifier) e p
-
-pub found_nothing : (words : List ℕ) (identifier : ℕ) {f : MessageFound} → f ≡ Nothing → Finds words identifier f → message_with identifier (messages_of words) ≡ none
-found_nothing words identifier e p = subst (Finds words identifier) e p
 
 -- a part of a column
 pub column_part : (from to : ℕ) {ns column words : List ℕ} → ns ≡ part from to column → column ≡ words → ns ≡ part from to words

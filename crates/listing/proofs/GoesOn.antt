@@ -10,7 +10,8 @@ use lib.ListN.{length, get_or, drop, length-append}
 use Rattle.books.specs.Words.{messages_of, messages_taken_spec}
 use Rattle.signal_lines.specs.declared.figures.Figures.{Figures}
 use Rattle.listing.specs.declared.Listed.{Listed}
-use Rattle.listing.specs.declared.Listed.TheVariants.{Lines}
+use Rattle.listing.specs.declared.ListRefusal.{ListRefusal}
+use Rattle.std.specs.Prelude.{Result, Ok}
 use Rattle.listing.specs.Printout.{printout}
 use Rattle.listing.specs.Listing.{listing}
 use Rattle.listing.specs.Together.{whole_lines, unfinished, printouts, whole_listing, printed_by, left_by, calls, longest_printout}
@@ -45,10 +46,10 @@ module _ (figures : Figures) (words text lent : List ℕ) (t : messages_taken_sp
             let left = left_by (listing figures words text lent).0 text in
             inr (omega (arith, ap length (ap whole_lines p.there ∙ whole_after p.frees left ∙ ap (λ (x : List (List ℕ)). x ++ whole_lines left) e), length-append ls (whole_lines left)))
 
-    pub takes_a_line : (used wrote : ℕ) (out : List ℕ) → ◌≡◌ {A = Listed × List ℕ} (Lines used wrote, out) (listing figures words text lent) → used ≡ 0 → whole_lines text ≡ []
-    takes_a_line used wrote out e z =
+    pub takes_a_line : (listed : Listed) (out : List ℕ) → ◌≡◌ {A = Result Listed ListRefusal × List ℕ} (Ok listed, out) (listing figures words text lent) → listed.used ≡ 0 → whole_lines text ≡ []
+    takes_a_line listed out e z =
         let same : whole_lines text ≡ whole_lines (left_by (listing figures words text lent).0 text) =
-        ap (λ (n : ℕ). whole_lines (drop n text)) (sym z) ∙ ap (λ (x : Listed × List ℕ). whole_lines (left_by x.0 text)) e in
+        ap (λ (n : ℕ). whole_lines (drop n text)) (sym z) ∙ ap (λ (x : Result Listed ListRefusal × List ℕ). whole_lines (left_by x.0 text)) e in
         ⊎_elim (λ none. same ∙ none) (λ less. absurd (omega (arith, less, ap length same))) fewer
 
 no_lines : (ls : List (List ℕ)) → length ls ≤ 0 → ls ≡ []

@@ -11,16 +11,18 @@ use Rattle.bits.specs.Word.{bytes_of}
 use Rattle.bits.proofs.Weights.{word_bytes}
 use Rattle.books.specs.Book.{Placement, Message}
 use Rattle.books.specs.Words.{side_by_side, messages_of}
+use Rattle.std.specs.Prelude.{Result}
 use Rattle.catalogue.specs.declared.Class.{Class}
+use Rattle.catalogue.specs.declared.NoClass.{NoClass}
 use Rattle.frame_lines.specs.declared.FrameLine.TheVariants.{NotEightBytes}
 use Rattle.frame_lines.specs.Meaning.{ill_formed_spec, frame_line_says, frame_line_number}
 use Rattle.frame_lines.proofs.Behind.{SaysFrame, SaysFewer}
 use Rattle.frames.specs.Lookup.{Spans, part}
 use Rattle.messages.specs.Signals.{AllFit, check_holds, message_from}
 use Rattle.messages.proofs.Readings.{check_same, class_same}
-use Rattle.framing.specs.declared.Reading.TheVariants.{UnknownIdentifier, WrongChecksum}
+use Rattle.framing.specs.declared.ReadRefusal.TheVariants.{UnknownIdentifier, WrongChecksum}
 use Rattle.framing.specs.Messages.{message_with, placed_class}
-use Rattle.framing.specs.Reading.{reading_number, checksum_holds}
+use Rattle.framing.specs.Reading.{read_refusal_number, checksum_holds}
 use Rattle.record.specs.Columns.{numbers_of, starts_of}
 use Rattle.signal_lines.specs.declared.figures.Figures.{Figures}
 use Rattle.signal_lines.specs.Printed.{reading_line, refused_frame_line, ill_formed_line}
@@ -33,15 +35,15 @@ lines_same : (figures : Figures) (identifier word : ℕ) → word < 2 ^ 64 → {
 unfolding word_lines reading_lines
 lines_same figures identifier word h AllFit.none = refl
 lines_same figures identifier word h (AllFit.more {p} {ps} f fs) =
-    ap (λ (c : Class). reading_line figures identifier p.number c ++ word_lines figures identifier word ps) (class_same word h p f)
+    ap (λ (c : Result Class NoClass). reading_line figures identifier p.number c ++ word_lines figures identifier word ps) (class_same word h p f)
     ∙ ap (λ (l : List ℕ). reading_line figures identifier p.number (placed_class (bytes_of word) p) ++ l) (lines_same figures identifier word h fs)
 
 module _ (figures : Figures) (identifier word : ℕ) (h : word < 2 ^ 64) (ns ss : List ℕ) (same : length ss ≡ length ns) (fit : AllFit (side_by_side ns ss)) where
   text_same : message_text figures identifier word ns ss ≡ message_listing figures identifier (bytes_of word) (some (message_from identifier ns ss))
   unfolding message_text message_listing
   text_same =
-      ap (λ (b : Bool). cond b (word_lines figures identifier word (side_by_side ns ss)) (refused_frame_line identifier (reading_number WrongChecksum))) (check_same identifier word ns ss h same)
-      ∙ ap (λ (l : List ℕ). cond (checksum_holds (message_from identifier ns ss) (bytes_of word)) l (refused_frame_line identifier (reading_number WrongChecksum))) (lines_same figures identifier word h fit)
+      ap (λ (b : Bool). cond b (word_lines figures identifier word (side_by_side ns ss)) (refused_frame_line identifier (read_refusal_number WrongChecksum))) (check_same identifier word ns ss h same)
+      ∙ ap (λ (l : List ℕ). cond (checksum_holds (message_from identifier ns ss) (bytes_of word)) l (refused_frame_line identifier (read_refusal_number WrongChecksum))) (lines_same figures identifier word h fit)
 
 -- ---- what each answer on the way prints
 
@@ -51,7 +53,7 @@ module _ (figures : Figures) (identifier word : ℕ) (ns ss : List ℕ) {b : Boo
   unfolding message_text
   message_signals e = rw (sym c ∙ e)
 
-  pub message_refused : b ≡ false → refused_frame_line identifier (reading_number WrongChecksum) ≡ message_text figures identifier word ns ss
+  pub message_refused : b ≡ false → refused_frame_line identifier (read_refusal_number WrongChecksum) ≡ message_text figures identifier word ns ss
   unfolding message_text
   message_refused e = rw (sym c ∙ e)
 
@@ -66,7 +68,7 @@ module _ (figures : Figures) (words : List ℕ) (identifier word : ℕ) where
       ∙ ap (message_listing figures identifier (bytes_of word)) (sym s.found)
 
   pub frame_unknown : message_with identifier (messages_of words) ≡ none
-      → refused_frame_line identifier (reading_number UnknownIdentifier) ≡ message_listing figures identifier (bytes_of word) (message_with identifier (messages_of words))
+      → refused_frame_line identifier (read_refusal_number UnknownIdentifier) ≡ message_listing figures identifier (bytes_of word) (message_with identifier (messages_of words))
   unfolding message_listing
   frame_unknown e = rw e
 

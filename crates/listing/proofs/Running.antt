@@ -15,10 +15,9 @@ use Rattle.parts.specs.Parts.{ended, lines, index_of}
 use Rattle.parts.proofs.LineEnds.{lines_none, lines_more, lines_last}
 use Rattle.printing.specs.Put.{Put}
 use Rattle.printing.proofs.Puts.{sets_append, put_length}
-use Rattle.listing.specs.declared.Fitted.{Fitted}
-use Rattle.listing.specs.declared.Fitted.TheVariants.{Next, NoRoom}
+use Rattle.std.specs.Prelude.{Option, Some, None, Result, Ok}
 use Rattle.listing.specs.declared.Listed.{Listed}
-use Rattle.listing.specs.declared.Listed.TheVariants.{Lines}
+use Rattle.listing.specs.declared.ListRefusal.{ListRefusal}
 use Rattle.listing.specs.Listing.{ListedLines, no_lines_spec, line_then, lines_that_fit, listed_answer}
 use Rattle.listing.specs.Working.{fitted}
 
@@ -32,29 +31,30 @@ pub record Stayed (out : List ℕ) (at : ℕ) (text new : List ℕ) : Type 0 whe
   pub longer : length out - at < length text
   pub same : new ≡ out
 
-module _ (out : List ℕ) (at : ℕ) (text : List ℕ) {new : List ℕ} {f : Fitted} (e : ◌≡◌ {A = Fitted × List ℕ} (f, new) (fitted out at text)) where
-  pub went : (next : ℕ) → f ≡ Next next → Went out at text new next
+module _ (out : List ℕ) (at : ℕ) (text : List ℕ) {new : List ℕ} where
+  pub went : (next : ℕ) → ◌≡◌ {A = Option ℕ × List ℕ} (Some next, new) (fitted out at text) → Went out at text new next
   unfolding fitted
-  went next g = go (leb (length text) (length out - at)) refl (ap (λ (p : Fitted × List ℕ). p.0) e) (ap (λ (p : Fitted × List ℕ). p.1) e)
+  went next e = go (leb (length text) (length out - at)) refl (ap (λ (p : Option ℕ × List ℕ). p.0) e) (ap (λ (p : Option ℕ × List ℕ). p.1) e)
     where
       go : (b : Bool) → leb (length text) (length out - at) ≡ b
-          → f ≡ (cond {A = Fitted × List ℕ} b (Next (at + length text), sets out at text) (NoRoom, out)).0
-          → new ≡ (cond {A = Fitted × List ℕ} b (Next (at + length text), sets out at text) (NoRoom, out)).1 → Went out at text new next
+          → Some next ≡ (cond {A = Option ℕ × List ℕ} b (Some (at + length text), sets out at text) (None, out)).0
+          → new ≡ (cond {A = Option ℕ × List ℕ} b (Some (at + length text), sets out at text) (None, out)).1 → Went out at text new next
       go true q x y = let z : next ≡ at + length text = cc in record { fits = leb-true _ _ q; put = record { now_there = y; now_at = z } }
       go false q x y = absurd (let z : ◌≡◌ {A = ℕ} 0 1 = cc in omega arith)
 
-  pub stayed : f ≡ NoRoom → Stayed out at text new
-  unfolding fitted
-  stayed g = go (leb (length text) (length out - at)) refl (ap (λ (p : Fitted × List ℕ). p.0) e) (ap (λ (p : Fitted × List ℕ). p.1) e)
-    where
-      go : (b : Bool) → leb (length text) (length out - at) ≡ b
-          → f ≡ (cond {A = Fitted × List ℕ} b (Next (at + length text), sets out at text) (NoRoom, out)).0
-          → new ≡ (cond {A = Fitted × List ℕ} b (Next (at + length text), sets out at text) (NoRoom, out)).1 → Stayed out at text new
-      go true q x y = absurd (let z : ◌≡◌ {A = ℕ} 0 1 = cc in omega arith)
-      go false q x y = record { longer = leb-false _ _ q; same = y }
+  module _ (e : ◌≡◌ {A = Option ℕ × List ℕ} (None, new) (fitted out at text)) where
+    pub stayed : Stayed out at text new
+    unfolding fitted
+    stayed = go (leb (length text) (length out - at)) refl (ap (λ (p : Option ℕ × List ℕ). p.0) e) (ap (λ (p : Option ℕ × List ℕ). p.1) e)
+      where
+        go : (b : Bool) → leb (length text) (length out - at) ≡ b
+            → None ≡ (cond {A = Option ℕ × List ℕ} b (Some (at + length text), sets out at text) (None, out)).0
+            → new ≡ (cond {A = Option ℕ × List ℕ} b (Some (at + length text), sets out at text) (None, out)).1 → Stayed out at text new
+        go true q x y = absurd (let z : ◌≡◌ {A = ℕ} 0 1 = cc in omega arith)
+        go false q x y = record { longer = leb-false _ _ q; same = y }
 
-  pub stayed_long : f ≡ NoRoom → length new ≡ length out
-  stayed_long g = ap length (stayed g).same
+    pub stayed_long : length new ≡ length out
+    stayed_long = ap length stayed.same
 
 -- ---- the loop
 
@@ -86,23 +86,23 @@ none_ran print text old =
 
 module _ {print : List ℕ → List ℕ} {text old out : List ℕ} {used wrote : ℕ} (r : Ran print text old out used wrote) where
   -- nothing more is listed
-  finished : left print text old used wrote ≡ no_lines_spec → ◌≡◌ {A = Listed × List ℕ} (Lines used wrote, out) (listed_answer (whole print text old) old)
+  finished : left print text old used wrote ≡ no_lines_spec → ◌≡◌ {A = Result Listed ListRefusal × List ℕ} (Ok (record { used = used; written = wrote }), out) (listed_answer (whole print text old) old)
   finished e =
       let bytes : used ≡ (whole print text old).used = omega (arith, ap (λ (x : ListedLines). x.used) e, r.bytes) in
       let end : wrote ≡ length (whole print text old).text = omega (arith, ap (λ (x : ListedLines). length x.text) e, r.end) in
       let there : out ≡ sets old 0 (whole print text old).text = ap (λ (x : ListedLines). sets out wrote x.text) (sym e) ∙ r.there in
       let stands : out ≡ written (whole print text old).text old =
       there ∙ sets-eq (whole print text old).text old 0 (omega (arith, r.inside)) ∙ ap (λ (n : ℕ). (whole print text old).text ++ drop n old) (zero-add (length (whole print text old).text)) in
-      ap (λ (n : ℕ). (Lines n wrote, out)) bytes
-      ∙ ap (λ (n : ℕ). (Lines (whole print text old).used n, out)) end
-      ∙ ap (λ (l : List ℕ). (Lines (whole print text old).used (length (whole print text old).text), l)) stands
+      ap (λ (n : ℕ). (Ok (record { used = n; written = wrote }), out)) bytes
+      ∙ ap (λ (n : ℕ). (Ok (record { used = (whole print text old).used; written = n }), out)) end
+      ∙ ap (λ (l : List ℕ). (Ok (record { used = (whole print text old).used; written = (length (whole print text old).text) }), l)) stands
 
-  pub all_ran : length text ≤ used → ◌≡◌ {A = Listed × List ℕ} (Lines used wrote, out) (listed_answer (whole print text old) old)
+  pub all_ran : length text ≤ used → ◌≡◌ {A = Result Listed ListRefusal × List ℕ} (Ok (record { used = used; written = wrote }), out) (listed_answer (whole print text old) old)
   unfolding lines_that_fit
   all_ran h = finished (ap (lines_that_fit print (length old - wrote)) (lines_none text used h))
 
   module _ (h : used < length text) {rest : List ℕ} (x : rest ≡ drop used text) {k : ℕ} (e : k ≡ index_of 10 rest) where
-    pub no_end : length rest ≤ k → ◌≡◌ {A = Listed × List ℕ} (Lines used wrote, out) (listed_answer (whole print text old) old)
+    pub no_end : length rest ≤ k → ◌≡◌ {A = Result Listed ListRefusal × List ℕ} (Ok (record { used = used; written = wrote }), out) (listed_answer (whole print text old) old)
     unfolding lines_that_fit
     no_end t =
         finished
@@ -118,10 +118,10 @@ module _ {print : List ℕ → List ℕ} {text old out : List ℕ} {used wrote :
           ∙ ap (λ (l : List ℕ). ended line ∷ lines l) (drop-drop (k + 1) used text)
 
       -- the line does not fit
-      pub no_room : {new : List ℕ} → Stayed out wrote (print line) new → ◌≡◌ {A = Listed × List ℕ} (Lines used wrote, new) (listed_answer (whole print text old) old)
+      pub no_room : {new : List ℕ} → Stayed out wrote (print line) new → ◌≡◌ {A = Result Listed ListRefusal × List ℕ} (Ok (record { used = used; written = wrote }), new) (listed_answer (whole print text old) old)
       unfolding lines_that_fit
       no_room {new} s =
-          ap (λ (l : List ℕ). (Lines used wrote, l)) s.same
+          ap (λ (l : List ℕ). (Ok (record { used = used; written = wrote }), l)) s.same
           ∙ finished (ap (lines_that_fit print (length old - wrote)) next_line_law ∙ rw (lt-leb (length (print line)) (length old - wrote) (omega (arith, s.longer, r.size))))
 
       -- the line fits, and is listed

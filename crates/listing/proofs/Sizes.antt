@@ -12,7 +12,9 @@ use Rattle.framing.specs.Messages.{written}
 use Rattle.parts.specs.Parts.{TextLine, ended, unended, lines}
 use Rattle.signal_lines.specs.declared.figures.Figures.{Figures}
 use Rattle.listing.specs.declared.Listed.{Listed}
-use Rattle.listing.specs.declared.Listed.TheVariants.{Lines, NotABook}
+use Rattle.listing.specs.declared.ListRefusal.{ListRefusal}
+use Rattle.listing.specs.declared.ListRefusal.TheVariants.{NotABook}
+use Rattle.std.specs.Prelude.{Result, Ok, Err}
 use Rattle.listing.specs.Printout.{printout}
 use Rattle.listing.specs.Listing.{no_lines_spec, line_then, lines_that_fit, listing_by, listing}
 use Rattle.listing.proofs.Parted.{listing_parts}
@@ -35,20 +37,19 @@ listing_long : (figures : Figures) (words text lent : List ℕ) → length (list
 unfolding listing
 listing_long figures words text lent = go (messages_taken_spec words)
   where
-    go : (b : Bool) → length (cond {A = Listed × List ℕ} b (listing_by figures (messages_of words) text lent) (NotABook, lent)).1 ≡ length lent
+    go : (b : Bool) → length (cond {A = Result Listed ListRefusal × List ℕ} b (listing_by figures (messages_of words) text lent) (Err NotABook, lent)).1 ≡ length lent
     go true = written_long (lines_that_fit (printout figures (messages_of words)) (length lent) (lines text)).text lent (fits_room (printout figures (messages_of words)) (length lent) (lines text))
     go false = refl
 
 -- what the call says of its room
-pub list_long : (figures : Figures) (words text lent : List ℕ) {r : Listed} {new : List ℕ} → ◌≡◌ {A = Listed × List ℕ} (r, new) (listing figures words text lent) → length new ≡ length lent
-list_long figures words text lent e = ap (λ (x : Listed × List ℕ). length x.1) e ∙ listing_long figures words text lent
+pub list_long : (figures : Figures) (words text lent : List ℕ) {r : Result Listed ListRefusal} {new : List ℕ} → ◌≡◌ {A = Result Listed ListRefusal × List ℕ} (r, new) (listing figures words text lent) → length new ≡ length lent
+list_long figures words text lent e = ap (λ (x : Result Listed ListRefusal × List ℕ). length x.1) e ∙ listing_long figures words text lent
 
 -- what the call says of its text
-pub list_used : (figures : Figures) (words text lent : List ℕ) {r : Listed} {new : List ℕ} → ◌≡◌ {A = Listed × List ℕ} (r, new) (listing figures words text lent)
-    → (used wrote : ℕ) → r ≡ Lines used wrote → used ≤ length text
+pub list_used : (figures : Figures) (words text lent : List ℕ) {listed : Listed} {new : List ℕ} → ◌≡◌ {A = Result Listed ListRefusal × List ℕ} (Ok listed, new) (listing figures words text lent) → listed.used ≤ length text
 unfolding listing
-list_used figures words text lent {r} e used wrote x = go (messages_taken_spec words) (ap (λ (y : Listed × List ℕ). y.0) e)
+list_used figures words text lent {listed} e = go (messages_taken_spec words) (ap (λ (y : Result Listed ListRefusal × List ℕ). y.0) e)
   where
-    go : (b : Bool) → r ≡ (cond {A = Listed × List ℕ} b (listing_by figures (messages_of words) text lent) (NotABook, lent)).0 → used ≤ length text
-    go true y = let z : used ≡ (lines_that_fit (printout figures (messages_of words)) (length lent) (lines text)).used = cc in omega (arith, (listing_parts (printout figures (messages_of words)) (length lent) text).within)
+    go : (b : Bool) → Ok listed ≡ (cond {A = Result Listed ListRefusal × List ℕ} b (listing_by figures (messages_of words) text lent) (Err NotABook, lent)).0 → listed.used ≤ length text
+    go true y = let z : listed ≡ record { used = (lines_that_fit (printout figures (messages_of words)) (length lent) (lines text)).used; written = length (lines_that_fit (printout figures (messages_of words)) (length lent) (lines text)).text } = cc in omega (arith, ap (λ (l : Listed). l.used) z, (listing_parts (printout figures (messages_of words)) (length lent) text).within)
     go false y = absurd (let z : ◌≡◌ {A = ℕ} 0 1 = cc in omega arith)

@@ -11,7 +11,9 @@ use Rattle.books.specs.Words.{messages_of, messages_taken_spec}
 use Rattle.parts.specs.Parts.{lines}
 use Rattle.signal_lines.specs.declared.figures.Figures.{Figures}
 use Rattle.listing.specs.declared.Listed.{Listed}
-use Rattle.listing.specs.declared.Listed.TheVariants.{Lines, NotABook}
+use Rattle.listing.specs.declared.ListRefusal.{ListRefusal}
+use Rattle.listing.specs.declared.ListRefusal.TheVariants.{NotABook}
+use Rattle.std.specs.Prelude.{Result, Ok, Err}
 use Rattle.listing.specs.Printout.{printout}
 use Rattle.listing.specs.Listing.{lines_that_fit, listing_by, listing}
 use Rattle.listing.specs.Together.{whole_lines, unfinished, printouts, whole_listing, printed_by, left_by, calls}
@@ -28,7 +30,7 @@ module _ (figures : Figures) (words text lent : List ℕ) where
   unfolding listing
   call_parts = go (messages_taken_spec words)
     where
-      go : (b : Bool) → let answer = cond {A = Listed × List ℕ} b (listing_by figures (messages_of words) text lent) (NotABook, lent) in Parted (printout figures (messages_of words)) text (printed_by answer.0 answer.1) (left_by answer.0 text)
+      go : (b : Bool) → let answer = cond {A = Result Listed ListRefusal × List ℕ} b (listing_by figures (messages_of words) text lent) (Err NotABook, lent) in Parted (printout figures (messages_of words)) text (printed_by answer.0 answer.1) (left_by answer.0 text)
       go true = subst (λ (t : List ℕ). Parted (printout figures (messages_of words)) text t (drop (lines_that_fit (printout figures (messages_of words)) (length lent) (lines text)).used text)) (sym front) (listing_parts (printout figures (messages_of words)) (length lent) text).parts
       go false = parted_nowhere (printout figures (messages_of words)) text
 
@@ -38,16 +40,16 @@ module _ (figures : Figures) (words text lent : List ℕ) where
   unfolding listing
   call_stops t = go (messages_taken_spec words) t
     where
-      go : (b : Bool) → b ≡ true → let answer = cond {A = Listed × List ℕ} b (listing_by figures (messages_of words) text lent) (NotABook, lent) in
+      go : (b : Bool) → b ≡ true → let answer = cond {A = Result Listed ListRefusal × List ℕ} b (listing_by figures (messages_of words) text lent) (Err NotABook, lent) in
           (l : List ℕ) (more : List (List ℕ)) → whole_lines (left_by answer.0 text) ≡ l ∷ more → length lent < length (printed_by answer.0 answer.1) + length (printout figures (messages_of words) l)
       go true e l more q = omega (arith, (listing_parts (printout figures (messages_of words)) (length lent) text).stops l more q, ap length front)
       go false e l more q = absurd (let z : ◌≡◌ {A = ℕ} 0 1 = cc in omega arith)
 
   -- what it wrote, followed by what the rest of its text prints, is what the text prints
-  pub one_call : (used wrote : ℕ) (out : List ℕ) → ◌≡◌ {A = Listed × List ℕ} (Lines used wrote, out) (listing figures words text lent)
-      → take wrote out ++ whole_listing (printout figures (messages_of words)) (drop used text) ≡ whole_listing (printout figures (messages_of words)) text
-  one_call used wrote out e =
-      ap (λ (x : Listed × List ℕ). printed_by x.0 x.1 ++ whole_listing (printout figures (messages_of words)) (left_by x.0 text)) e ∙ parted call_parts
+  pub one_call : (listed : Listed) (out : List ℕ) → ◌≡◌ {A = Result Listed ListRefusal × List ℕ} (Ok listed, out) (listing figures words text lent)
+      → take listed.written out ++ whole_listing (printout figures (messages_of words)) (drop listed.used text) ≡ whole_listing (printout figures (messages_of words)) text
+  one_call listed out e =
+      ap (λ (x : Result Listed ListRefusal × List ℕ). printed_by x.0 x.1 ++ whole_listing (printout figures (messages_of words)) (left_by x.0 text)) e ∙ parted call_parts
 
 -- ---- successive calls
 

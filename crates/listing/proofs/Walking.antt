@@ -7,7 +7,9 @@ use lib.ListN.{length, get_or, length-append}
 use lib.Seq.{sets}
 use Rattle.bits.specs.Word.{Fits}
 use Rattle.books.specs.Words.{side_by_side}
+use Rattle.std.specs.Prelude.{Result}
 use Rattle.catalogue.specs.declared.Class.{Class}
+use Rattle.catalogue.specs.declared.NoClass.{NoClass}
 use Rattle.catalogue.specs.Find.{bits_of_spec}
 use Rattle.messages.specs.Signals.{AllFit, class_from}
 use Rattle.messages.proofs.Steps.{placement_at, rest, rest_more, rest_none, fits_at, fits_on}
@@ -31,12 +33,12 @@ none_walked old at figures identifier word ns ss r =
 
 module _ {old : List ℕ} {at : ℕ} {figures : Figures} {identifier word : ℕ} {ns ss out : List ℕ} {next i : ℕ} (w : Walked old at figures identifier word ns ss out next i) where
   -- one signal more
-  module _ (r : Roomy old at ns ss) (h : i < length ns) {class : Class} (c : class ≡ class_from word (placement_at ns ss i)) where
+  module _ (r : Roomy old at ns ss) (h : i < length ns) {class : Result Class NoClass} (c : class ≡ class_from word (placement_at ns ss i)) where
     lines : word_lines figures identifier word (rest ns ss i) ≡ reading_line figures identifier (get_or ns i 0) class ++ word_lines figures identifier word (rest ns ss (i + 1))
     unfolding word_lines
     lines =
         ap (word_lines figures identifier word) (rest_more ns ss i h r.same)
-        ∙ ap (λ (k : Class). reading_line figures identifier (get_or ns i 0) k ++ word_lines figures identifier word (rest ns ss (i + 1))) (sym c)
+        ∙ ap (λ (k : Result Class NoClass). reading_line figures identifier (get_or ns i 0) k ++ word_lines figures identifier word (rest ns ss (i + 1))) (sym c)
 
     pub signal_walked : {new : List ℕ} {next' : ℕ} → PutWithin out next listed_line_room (reading_line figures identifier (get_or ns i 0) class) new next'
         → Walked old at figures identifier word ns ss new next' (i + 1)

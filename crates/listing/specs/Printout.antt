@@ -6,9 +6,9 @@ use Rattle.bits.specs.Frame.{frame_bytes}
 use Rattle.books.specs.Book.{Placement, Message}
 use Rattle.frame_lines.specs.declared.FrameLine.TheVariants.{NotEightBytes}
 use Rattle.frame_lines.specs.Meaning.{FrameMeaning, frame, ill_formed_spec, frame_line_says, frame_line_number}
-use Rattle.framing.specs.declared.Reading.TheVariants.{UnknownIdentifier, WrongChecksum}
+use Rattle.framing.specs.declared.ReadRefusal.TheVariants.{UnknownIdentifier, WrongChecksum}
 use Rattle.framing.specs.Messages.{message_with, placed_class}
-use Rattle.framing.specs.Reading.{reading_number, checksum_holds}
+use Rattle.framing.specs.Reading.{read_refusal_number, checksum_holds}
 use Rattle.signal_lines.specs.declared.figures.Figures.{Figures}
 use Rattle.signal_lines.specs.Printed.{reading_line, refused_frame_line, ill_formed_line}
 
@@ -20,11 +20,11 @@ reading_lines figures identifier bytes (p ∷ ps) =
 
 -- a frame of 8 bytes, by its message: refusals 22 and 23 as in reading
 unfoldable pub message_listing : Figures → ℕ → List ℕ → Option Message → List ℕ
-message_listing figures identifier bytes none = refused_frame_line identifier (reading_number UnknownIdentifier)
+message_listing figures identifier bytes none = refused_frame_line identifier (read_refusal_number UnknownIdentifier)
 message_listing figures identifier bytes (some m) =
     cond (checksum_holds m bytes)
     (reading_lines figures identifier bytes m.placements)
-    (refused_frame_line identifier (reading_number WrongChecksum))
+    (refused_frame_line identifier (read_refusal_number WrongChecksum))
 
 -- a frame of any length: the line's own refusal, 21, comes first
 unfoldable pub frame_listing : Figures → List Message → ℕ → List ℕ → List ℕ

@@ -1,12 +1,13 @@
 -- Listings put together: what the whole lines of a text print, and successive calls of `list`, each on what the call before left and
 -- into a room of its own. The theorems are in proofs/Together.antt and proofs/GoesOn.antt. Assumes nothing: these are definitions.
-use Rattle.std.specs.Prelude.{List, [], ◌∷◌, ◌++◌, ℕ, ◌*◌, take, drop}
+use Rattle.std.specs.Prelude.{List, [], ◌∷◌, ◌++◌, ℕ, ◌*◌, take, drop, Result, Ok, Err}
 use Rattle.books.specs.Lines.{frame_bits}
 use Rattle.parts.specs.Parts.{TextLine, ended, unended, lines}
 use Rattle.signal_lines.specs.declared.figures.Figures.{Figures}
 use Rattle.signal_lines.specs.Printed.{listed_line_room}
 use Rattle.listing.specs.declared.Listed.{Listed}
-use Rattle.listing.specs.declared.Listed.TheVariants.{Lines, NotABook}
+use Rattle.listing.specs.declared.ListRefusal.{ListRefusal}
+use Rattle.listing.specs.declared.ListRefusal.TheVariants.{NotABook}
 use Rattle.listing.specs.Listing.{listing}
 
 -- the lines that a newline ends
@@ -38,14 +39,14 @@ abbrev pub whole_listing : (List ℕ → List ℕ) → List ℕ → List ℕ
 whole_listing print text = printouts print (whole_lines text)
 
 -- what a call printed, by its answer and what stands in its room: the bytes that were written
-abbrev pub printed_by : Listed → List ℕ → List ℕ
-printed_by (Lines used wrote) out = take wrote out
-printed_by NotABook out = []
+abbrev pub printed_by : Result Listed ListRefusal → List ℕ → List ℕ
+printed_by (Ok listed) out = take listed.written out
+printed_by (Err NotABook) out = []
 
 -- and what it left of its text: the bytes that were not used
-abbrev pub left_by : Listed → List ℕ → List ℕ
-left_by (Lines used wrote) text = drop used text
-left_by NotABook text = text
+abbrev pub left_by : Result Listed ListRefusal → List ℕ → List ℕ
+left_by (Ok listed) text = drop listed.used text
+left_by (Err NotABook) text = text
 
 -- what calls printed, one after another, and what they left of the text
 pub record Called : Type 0 where

@@ -2,7 +2,6 @@
 ghost use Rattle.books.specs.Words.{side_by_side};
 ghost use Rattle.listing.specs.Working.{word_lines, message_text, Roomy, Listable, SignalsPut, PutIfFits};
 
-use crate::Fitted;
 use crate::room::{fit, list_refused};
 use messages::checked;
 use signal_lines::{Figures, LISTED_LINE_ROOM, put_reading};
@@ -25,14 +24,10 @@ fn put_signals(
     requires { Roomy out.old at numbers.now starts.now }
     ensures { SignalsPut out.old at figures identifier word numbers.now starts.now out.new result }
 {
-    let mut next: usize = at;
-    let mut i: usize = 0;
-    while i < numbers.len() {
-        let number = numbers[i];
-        let cut = catalogue::cut_of(number, bits::window(word, starts[i]));
-        let class = cut.class;
-        next = put_reading(&mut *out, next, identifier, number, class, figures);
-        i += 1;
+    let mut next = at;
+    for (i, number) in numbers.iter().enumerate() {
+        let cut = catalogue::cut_of(*number, bits::window(word, starts[i]));
+        next = put_reading(&mut *out, next, identifier, *number, cut.class, figures);
     }
     next
 }
@@ -46,12 +41,12 @@ fn list_signals(
     numbers: &[u32],
     starts: &[u32],
     figures: Figures,
-) -> Fitted
+) -> Option<usize>
     requires { Listable out.old at numbers.now starts.now }
     ensures { PutIfFits out.old at (word_lines figures identifier word (side_by_side numbers.now starts.now)) out.new result }
 {
     if LISTED_LINE_ROOM * numbers.len() <= out.len() - at {
-        return Fitted::Next(put_signals(&mut *out, at, identifier, word, numbers, starts, figures));
+        return Some(put_signals(&mut *out, at, identifier, word, numbers, starts, figures));
     }
     let mut aside = [0u8; LONGEST];
     let length = put_signals(&mut aside, 0, identifier, word, numbers, starts, figures);
@@ -67,7 +62,7 @@ pub fn list_message(
     numbers: &[u32],
     starts: &[u32],
     figures: Figures,
-) -> Fitted
+) -> Option<usize>
     requires { Listable out.old at numbers.now starts.now }
     ensures { PutIfFits out.old at (message_text figures identifier word numbers.now starts.now) out.new result }
 {

@@ -1,13 +1,14 @@
 -- Each contract allows one outcome and no other: a result, with what stands in what was lent at exit. Assumes nothing.
 use mathlib.Core.Path.{refl}
 use mathlib.Core.Option.{some}
-use base.Stored.{coded_ℕ, coded_ℤ, coded×, coded_list}
+use base.Stored.{coded_ℕ, coded_ℤ, coded_unit, coded×, coded_list}
+use Rattle.std.specs.Coded.{coded_result}
 use Rattle.only.specs.Outcomes.{OneResult, OneOutcome, result_is, outcome_is}
 use Rattle.bits.specs.Word.{bytes_of}
 use Rattle.framing.specs.Reading.{read_by_message}
 use Rattle.framing.proofs.CodedSlices.{coded_slices}
-use Rattle.framing.specs.contracts.Reading as the-reading
-use Rattle.framing.specs.contracts.Packing as the-packing
+use Rattle.framing.specs.contracts.ReadRefusal as the-read-refusal
+use Rattle.framing.specs.contracts.PackRefusal as the-pack-refusal
 use Rattle.messages.specs.Signals.{numbers_of_class, check_holds, message_from}
 use Rattle.messages.specs.Put.{pack_into}
 use Rattle.messages.specs.contracts.classes.class_numbers as class-numbers
@@ -26,7 +27,7 @@ module _ (M : Type 1) where
 
   pub one_read_message : OneOutcome M read-message.ended (λ _. read-message.clauses)
   one_read_message =
-      outcome_is (coded× (the-reading.the_row).coded coded_slices)
+      outcome_is (coded× (coded_result coded_ℕ (the-read-refusal.the_row).coded) coded_slices)
       (λ c o. let left = o.1.1.1.1.1 in (o.0, record { raws = left.0; classes = left.1.0; thousandths = left.1.1.0 }))
       (λ c x. (x.0, (tt, (tt, (tt, (tt, (x.1.raws, (x.1.classes, (x.1.thousandths, tt))))))))) (λ c o. refl) (λ c x. refl)
       (λ c. let message = message_from c.arguments.0 c.arguments.1.1.0.now c.arguments.1.1.1.0.now in
@@ -35,6 +36,6 @@ module _ (M : Type 1) where
 
   pub one_pack_message : OneOutcome M pack-message.ended (λ _. pack-message.clauses)
   one_pack_message =
-      outcome_is (coded× (the-packing.the_row).coded (coded_list coded_ℕ)) (λ c o. (o.0, o.1.1.1.1.1.0)) (λ c x. (x.0, (tt, (tt, (tt, (tt, (x.1, tt)))))))
+      outcome_is (coded× (coded_result coded_unit (the-pack-refusal.the_row).coded) (coded_list coded_ℕ)) (λ c o. (o.0, o.1.1.1.1.1.0)) (λ c x. (x.0, (tt, (tt, (tt, (tt, (x.1, tt)))))))
       (λ c o. refl) (λ c x. refl)
       (λ c. pack_into (message_from c.arguments.0 c.arguments.1.0.now c.arguments.1.1.0.now) c.arguments.1.1.1.0.now c.arguments.1.1.1.1.0.now) refl

@@ -1,9 +1,10 @@
 -- From the word back to the frame: what was read from the word is what the frame reads as. Assumes nothing.
 use mathlib.Core.Path.{◌≡◌, refl, sym, ap, ◌∙◌}
+use Rattle.std.specs.Prelude.{Result, Ok, Err}
 use mathlib.Core.Bool.{true, false, ◌||◌, not}
 use mathlib.Core.List.{List, ◌∷◌, ◌++◌, map}
 use mathlib.Core.Option.{some}
-use Prim.Native.Nat.{ℕ, ◌+◌, ◌^◌, ◌≤◌, ◌<◌}
+use Prim.Native.Nat.{ℕ, ◌^◌, ◌≤◌, ◌<◌}
 use native.Mathlib.Nat.{zero-add}
 use native.Mathlib.Omega.{arith}
 use lib.Dec.{eqb, lit≤}
@@ -19,8 +20,8 @@ use Rattle.books.specs.Words.{side_by_side}
 use Rattle.books.proofs.Sides.{side_length, side_numbers}
 use Rattle.catalogue.specs.Find.{bits_of_spec}
 use Rattle.catalogue.specs.Class.{class_of_spec}
-use Rattle.framing.specs.declared.Reading.{Reading}
-use Rattle.framing.specs.declared.Reading.TheVariants.{Read, WrongChecksum, TooLittleRoom}
+use Rattle.framing.specs.declared.ReadRefusal.{ReadRefusal}
+use Rattle.framing.specs.declared.ReadRefusal.TheVariants.{WrongChecksum, TooLittleRoom}
 use Rattle.framing.specs.Messages.{checksum_number, checksum_start, checksum_bits, count_of, placed_class, written}
 use Rattle.framing.specs.Reading.{Slices, class_code, thousandths_of_spec, checksum_holds, room, readings, read_by_message}
 use Rattle.messages.specs.Signals.{AllFit, raw_in, class_from, code_in, reading_in, check_holds, message_from, Readable}
@@ -61,11 +62,11 @@ module _ (identifier word : ℕ) (ns ss : List ℕ) (hw : word < 2 ^ 64) (r : Re
         ap (sets l 0) (map_fit f g h r.fit)
         ∙ sets_written l (map g (side_by_side ns ss)) (omega (arith, length-map (side_by_side ns ss) g, side_length ns ss r.same))
 
-    pub refused_check : check_holds identifier word ns ≡ false → ◌≡◌ {A = Reading × Slices} (WrongChecksum, lent) (read_by_message (some M) (bytes_of word) lent)
+    pub refused_check : check_holds identifier word ns ≡ false → ◌≡◌ {A = Result ℕ ReadRefusal × Slices} (Err WrongChecksum, lent) (read_by_message (some M) (bytes_of word) lent)
     unfolding read_by_message
     refused_check e = rw (sym check ∙ e) refl
 
-    pub refused_room : check_holds identifier word ns ≡ true → room lent < length ns → ◌≡◌ {A = Reading × Slices} (TooLittleRoom, lent) (read_by_message (some M) (bytes_of word) lent)
+    pub refused_room : check_holds identifier word ns ≡ true → room lent < length ns → ◌≡◌ {A = Result ℕ ReadRefusal × Slices} (Err TooLittleRoom, lent) (read_by_message (some M) (bytes_of word) lent)
     unfolding read_by_message
     refused_room e h = rw (sym check ∙ e, side_length ns ss r.same, lt-leb (length ns) (room lent) h) refl
 
@@ -73,11 +74,11 @@ module _ (identifier word : ℕ) (ns ss : List ℕ) (hw : word < 2 ^ 64) (r : Re
         → out.raws ≡ sets lent.raws 0 (map (raw_in word) (side_by_side ns ss))
         → out.classes ≡ sets lent.classes 0 (map (code_in word) (side_by_side ns ss))
         → out.thousandths ≡ sets lent.thousandths 0 (map (reading_in word) (side_by_side ns ss))
-        → ◌≡◌ {A = Reading × Slices} (Read count, out) (read_by_message (some M) (bytes_of word) lent)
+        → ◌≡◌ {A = Result ℕ ReadRefusal × Slices} (Ok count, out) (read_by_message (some M) (bytes_of word) lent)
     unfolding read_by_message
     was_read e h count many out a b c =
         let raws = a ∙ wrote (raw_in word) (count_of (bytes_of word)) lent.raws (count_same word hw) (omega arith) in
         let classes = b ∙ wrote (code_in word) (λ (p : Placement). class_code (placed_class (bytes_of word) p)) lent.classes (λ p f. ap class_code (class_same word hw p f)) (omega arith) in
         let thousandths = c ∙ wrote (reading_in word) (λ (p : Placement). thousandths_of_spec (placed_class (bytes_of word) p)) lent.thousandths (λ p f. ap thousandths_of_spec (class_same word hw p f)) (omega arith) in
         let done : out ≡ readings (bytes_of word) (side_by_side ns ss) lent = λ i. record { raws = raws i; classes = classes i; thousandths = thousandths i } in
-        rw (sym check ∙ e, side_length ns ss r.same, le-leb (length ns) (room lent) h) (λ i. (Read (many i), done i))
+        rw (sym check ∙ e, side_length ns ss r.same, le-leb (length ns) (room lent) h) (λ i. (Ok (many i), done i))

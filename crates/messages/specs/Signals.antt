@@ -1,5 +1,5 @@
 -- What the code works with: a message's numbers and starts side by side, and a frame as its word. Assumes nothing: these are definitions.
-use Rattle.std.specs.Prelude.{◌≡◌, Bool, cond, ◌||◌, not, List, [], ◌∷◌, map, ℕ, ◌≤◌, eqb, ℤ, length}
+use Rattle.std.specs.Prelude.{◌≡◌, Bool, cond, ◌||◌, not, List, [], ◌∷◌, map, ℕ, ◌≤◌, eqb, ℤ, length, Result}
 use Rattle.std.proofs.lemmas.List.Edits.{sets}
 use Rattle.record.specs.Limits.{signal_limit}
 use Rattle.bits.specs.Word.{Fits, bytes_of, field_of}
@@ -12,6 +12,7 @@ use Rattle.catalogue.specs.Find.{bits_of_spec}
 use Rattle.catalogue.specs.Class.{class_of_spec}
 use Rattle.catalogue.specs.declared.Raw.{Raw}
 use Rattle.catalogue.specs.declared.Class.{Class}
+use Rattle.catalogue.specs.declared.NoClass.{NoClass}
 use Rattle.catalogue.specs.declared.Cut.{Cut}
 use Rattle.framing.specs.Lending.{Lent}
 use Rattle.framing.specs.Messages.{checksum_number, checksum_start, checksum_bits}
@@ -43,7 +44,7 @@ numbers_of_class number raw = (thousandths_of_spec (class_of_spec number raw), c
 abbrev pub raw_in : ℕ → Placement → ℕ
 raw_in word p = field_of word p.start (bits_of_spec p.number)
 
-abbrev pub class_from : ℕ → Placement → Class
+abbrev pub class_from : ℕ → Placement → Result Class NoClass
 class_from word p = class_of_spec p.number (record { 0 = raw_in word p })
 
 abbrev pub code_in : ℕ → Placement → ℕ

@@ -4,37 +4,21 @@ ghost use Rattle.framing.specs.Reading.{class_code, thousandths_of_spec};
 ghost use Rattle.catalogue.specs.Cut.{cut_of_spec};
 ghost use Rattle.messages.specs.Signals.{numbers_of_cut, numbers_of_class};
 
-use catalogue::{Class, Raw};
+use catalogue::{Class, NoClass, Raw};
 
-// The code of a class.
-fn code_of(class: Class) -> u8
-    ensures { result ≡ class_code class }
+// The code of a class, and the thousandths of a value; 0 where the class is no value.
+fn numbers_of(class: Result<Class, NoClass>) -> (u8, i64)
+    ensures { (result.0 ≡ class_code class) × (result.1 ≡ thousandths_of_spec class) }
 {
     match class {
-        Class::Value(_) => 0,
-        Class::Invalid(_) => 1,
-        Class::Absent(_) => 2,
-        Class::Error(_) => 3,
-        Class::Reserved(_) => 4,
-        Class::Outside(_) => 5,
-        Class::NotInCatalogue => 6,
-        Class::TooWide => 7,
-    }
-}
-
-// The thousandths of a value, and 0 where the class is no value.
-fn thousandths_of(class: Class) -> i64
-    ensures { result ≡ thousandths_of_spec class }
-{
-    match class {
-        Class::Value(reading) => reading.0,
-        Class::Invalid(_) => 0,
-        Class::Absent(_) => 0,
-        Class::Error(_) => 0,
-        Class::Reserved(_) => 0,
-        Class::Outside(_) => 0,
-        Class::NotInCatalogue => 0,
-        Class::TooWide => 0,
+        Ok(Class::Value(reading)) => (0, reading.0),
+        Ok(Class::Invalid(_)) => (1, 0),
+        Ok(Class::Absent(_)) => (2, 0),
+        Ok(Class::Error(_)) => (3, 0),
+        Ok(Class::Reserved(_)) => (4, 0),
+        Ok(Class::Outside(_)) => (5, 0),
+        Err(NoClass::NotInCatalogue) => (6, 0),
+        Err(NoClass::TooWide) => (7, 0),
     }
 }
 
@@ -46,11 +30,11 @@ pub fn cut_numbers(number: u32, window: u32, bits: &mut u32, count: &mut u32, co
 {
     let cut = catalogue::cut_of(number, window);
     let raw = cut.raw;
-    let class = cut.class;
+    let (its_code, reading) = numbers_of(cut.class);
     *bits = cut.bits;
     *count = raw.0;
-    *code = code_of(class);
-    thousandths_of(class)
+    *code = its_code;
+    reading
 }
 
 // The class of one raw count of the signal with a number: its code goes where it is lent, and the answer is its thousandths.
@@ -61,8 +45,9 @@ pub fn class_numbers(number: u32, raw: Raw, code: &mut u8) -> i64
     let mut count: u32 = 0;
     let reading = cut_numbers(number, raw.0, &mut bits, &mut count, &mut *code);
     if count != raw.0 {
-        *code = code_of(Class::TooWide);
-        return 0;
+        let (too_wide, no_reading) = numbers_of(Err(NoClass::TooWide));
+        *code = too_wide;
+        return no_reading;
     }
     reading
 }

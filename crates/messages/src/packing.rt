@@ -11,61 +11,46 @@ ghost use Rattle.messages.specs.Put.{Packable, put_one_spec, put_all, pack_into}
 
 use crate::checksum::summed;
 use crate::classes::cut_numbers;
-use framing::Packing;
+use framing::PackRefusal;
 use record::CHECKSUM;
 
+// Kept: a number, since `cut_numbers` hands a class on in numbers; tried, as an enum it misses a bar of speed (docs/DECISIONS.md, The
+// catalogue).
 // The code of the first class that is not sent: reserved, and after it outside.
 const RESERVED: u8 = 4;
 
-// A word with counts put in, or why one is not.
-#[derive(Clone, Copy)]
-pub enum PutWord {
-    Word(u64),
-    TooWide,
-    ReservedOrOutside,
-}
-
 // The word with one more value at its place; 503 is skipped. A value that is more than the count cut from it is too wide.
-fn put_one(word: u64, number: u32, start: u32, value: u32) -> PutWord
+fn put_one(word: u64, number: u32, start: u32, value: u32) -> Result<u64, PackRefusal>
     requires { Fits start (bits_of_spec number) }
     ensures { result ≡ put_one_spec word (record { number = number; start = start }) value }
 {
     if number == CHECKSUM {
-        return PutWord::Word(word);
+        return Ok(word);
     }
     let mut bits: u32 = 0;
     let mut count: u32 = 0;
     let mut code: u8 = 0;
     cut_numbers(number, value, &mut bits, &mut count, &mut code);
     if count != value {
-        return PutWord::TooWide;
+        return Err(PackRefusal::TooWide);
     }
     if code >= RESERVED {
-        return PutWord::ReservedOrOutside;
+        return Err(PackRefusal::ReservedOrOutside);
     }
-    PutWord::Word(bits::place(word, start, bits, value))
+    Ok(bits::place(word, start, bits, value))
 }
 
 // A word of ones with each value but that of 503 at its place.
-fn put_all(numbers: &[u32], starts: &[u32], values: &[u32]) -> PutWord
+fn put_all(numbers: &[u32], starts: &[u32], values: &[u32]) -> Result<u64, PackRefusal>
     requires { Packable numbers.now starts.now values.now }
-    ensures { result ≡ put_all (PutWord.Word all_ones) (side_by_side numbers.now starts.now) values.now }
+    ensures { result ≡ put_all (Ok all_ones) (side_by_side numbers.now starts.now) values.now }
 {
-    let mut word: u64 = 0xffff_ffff_ffff_ffff;
-    let mut left = columns::length_of(numbers);
-    let mut i: usize = 0;
-    while left > 0 {
-        match put_one(word, numbers[i], starts[i], values[i]) {
-            PutWord::Word(next) => {
-                word = next;
-                i += 1;
-                left -= 1;
-            }
-            PutWord::TooWide => return PutWord::TooWide,
-            PutWord::ReservedOrOutside => return PutWord::ReservedOrOutside,
-        }
+    let mut word = u64::MAX;
+    for at in 0..columns::length_of(numbers) {
+        let i = at as usize;
+        word = put_one(word, numbers[i], starts[i], values[i])?;
     }
-    PutWord::Word(word)
+    Ok(word)
 }
 
 // As many values as the message has placements, packed into a lent frame of 8 bytes.
@@ -75,16 +60,11 @@ pub fn pack_message(
     starts: &[u32],
     values: &[u32],
     frame: &mut [u8],
-) -> Packing
+) -> Result<(), PackRefusal>
     requires { Packable numbers.now starts.now values.now × (length frame.old ≡ frame_bytes) }
     ensures { PacksInto (pack_into (message_from identifier numbers.now starts.now) values.now) result frame }
 {
-    match put_all(numbers, starts, values) {
-        PutWord::Word(word) => {
-            bits::store(summed(identifier, word, numbers), frame);
-            Packing::Packed
-        }
-        PutWord::TooWide => Packing::TooWide,
-        PutWord::ReservedOrOutside => Packing::ReservedOrOutside,
-    }
+    let word = put_all(numbers, starts, values)?;
+    bits::store(summed(identifier, word, numbers), frame);
+    Ok(())
 }

@@ -1,5 +1,5 @@
 // A frame read by its message, whose signals' numbers and starts stand in two slices, side by side.
-ghost use Rattle.std.specs.Prelude.{◌≡◌, min, length};
+ghost use Rattle.std.specs.Prelude.{length};
 ghost use Rattle.std.proofs.Math.Option.{some};
 ghost use Rattle.bits.specs.Word.{bytes_of};
 ghost use Rattle.books.specs.Words.{side_by_side};
@@ -9,8 +9,9 @@ ghost use Rattle.messages.specs.Signals.{InStep, SignalsRead, message_from, Read
 
 use crate::checksum::checked;
 use crate::classes::cut_numbers;
-use framing::Reading;
+use framing::ReadRefusal;
 
+// Kept: three slices in step, for the C interface lends them so.
 // The raw count, class code and thousandths of each signal, from the front of three slices that have room for them.
 pub fn read_signals(
     word: u64,
@@ -23,27 +24,17 @@ pub fn read_signals(
     requires { InStep numbers.now starts.now (length raws.old) (length classes.old) (length thousandths.old) }
     ensures { SignalsRead word (side_by_side numbers.now starts.now) raws classes thousandths }
 {
-    let mut left = columns::length_of(numbers);
-    let mut i: usize = 0;
     let mut bits: u32 = 0;
     let mut raw: u32 = 0;
     let mut code: u8 = 0;
-    while left > 0 {
-        let number = numbers[i];
+    for at in 0..columns::length_of(numbers) {
+        let i = at as usize;
         let window = bits::window(word, starts[i]);
-        let reading = cut_numbers(number, window, &mut bits, &mut raw, &mut code);
+        let reading = cut_numbers(numbers[i], window, &mut bits, &mut raw, &mut code);
         raws[i] = raw;
         classes[i] = code;
         thousandths[i] = reading;
-        i += 1;
-        left -= 1;
     }
-}
-
-fn least(a: usize, b: usize) -> usize
-    ensures { result ≡ min a b }
-{
-    if a < b { a } else { b }
 }
 
 // A frame of 8 bytes, given as its word, read by its message.
@@ -55,16 +46,16 @@ pub fn read_message(
     raws: &mut [u32],
     classes: &mut [u8],
     thousandths: &mut [i64],
-) -> Reading
+) -> Result<u32, ReadRefusal>
     requires { Readable numbers.now starts.now }
     ensures { ReadsInto (read_by_message (some (message_from identifier numbers.now starts.now)) (bytes_of word)) result raws classes thousandths }
 {
     if !checked(identifier, word, numbers) {
-        return Reading::WrongChecksum;
+        return Err(ReadRefusal::WrongChecksum);
     }
-    if least(raws.len(), least(classes.len(), thousandths.len())) < numbers.len() {
-        return Reading::TooLittleRoom;
+    if raws.len().min(classes.len()).min(thousandths.len()) < numbers.len() {
+        return Err(ReadRefusal::TooLittleRoom);
     }
     read_signals(word, numbers, starts, raws, classes, thousandths);
-    Reading::Read(columns::length_of(numbers))
+    Ok(columns::length_of(numbers))
 }

@@ -8,7 +8,7 @@ use native.Mathlib.Omega.{arith}
 use lib.Dec.{eqb, ltb}
 use lib.ListN.{length, get_or}
 use borrow.Author.Tests.{eq-eqb, ne_eqb, lt-ltb, le-ltb, ltb-true, ltb-false}
-use Rattle.numerals.specs.declared.Number.TheVariants.{Is, Not}
+use Rattle.std.specs.Prelude.{Some, None}
 use Rattle.numerals.specs.Numeral.{numeral_from, needless_zero, decimal_digits, decimal}
 use Rattle.numerals.specs.Written.{digit_byte_spec, digits_of_spec, decimal_width_spec, decimal_limit, decimal_text, DecimalWritten}
 use Rattle.numerals.proofs.Digits.{length_digits, numeral_read, NumeralText, numeral_written}
@@ -39,14 +39,14 @@ wide_of : (k n : ℕ) → k < 5 → n < 10 ^ suc k → (0 < k → 10 ^ k ≤ n) 
 wide_of k n f h l = record { few = f; below = h; above = l; width = width_of k n f h l }
 
 -- every number below 100,000
-pub record Some (n : ℕ) : Type 0 where
+pub record SomeWidth (n : ℕ) : Type 0 where
   pub k : ℕ
   pub wide : Wide n k
 
-pub some_width : (n : ℕ) → n < decimal_limit → Some n
+pub some_width : (n : ℕ) → n < decimal_limit → SomeWidth n
 some_width n h = go (ltb n 10) (ltb n 100) (ltb n 1000) (ltb n 10000) refl refl refl refl
   where
-    go : (a b c d : Bool) → ltb n 10 ≡ a → ltb n 100 ≡ b → ltb n 1000 ≡ c → ltb n 10000 ≡ d → Some n
+    go : (a b c d : Bool) → ltb n 10 ≡ a → ltb n 100 ≡ b → ltb n 1000 ≡ c → ltb n 10000 ≡ d → SomeWidth n
     go true b c d p q r s = record { k = 0; wide = wide_of 0 n (omega arith) (ltb-true _ _ p) (λ z. absurd (omega arith)) }
     go false true c d p q r s = record { k = 1; wide = wide_of 1 n (omega arith) (ltb-true _ _ q) (λ z. ltb-false _ _ p) }
     go false false true d p q r s = record { k = 2; wide = wide_of 2 n (omega arith) (ltb-true _ _ r) (λ z. ltb-false _ _ q) }
@@ -70,11 +70,11 @@ written_well n (suc k) h l =
     let long : 1 < suc (suc (length (digits_of_spec 10 k (n % 10 ^ suc k % 10 ^ k)))) = omega arith in
     rw (lt-ltb _ _ long) (first (suc k) n (l (omega arith)) h)
 
-pub decimal_read : (n : ℕ) → n < decimal_limit → decimal (decimal_text n) ≡ Is n
+pub decimal_read : (n : ℕ) → n < decimal_limit → decimal (decimal_text n) ≡ Some n
 unfolding decimal decimal_text
 decimal_read n h = go (some_width n h)
   where
-    go : Some n → decimal (digits_of_spec 10 (decimal_width_spec n) n) ≡ Is n
+    go : SomeWidth n → decimal (digits_of_spec 10 (decimal_width_spec n) n) ≡ Some n
     go s =
         let long : 1 ≤ length (digits_of_spec 10 (suc s.k) n) = omega (arith, length_digits 10 (suc s.k) n) in
         let short : length (digits_of_spec 10 (suc s.k) n) ≤ 5 = omega (arith, length_digits 10 (suc s.k) n, s.wide.few) in
@@ -99,7 +99,7 @@ of_wide l n k w e =
     let top : 10 ^ suc k ≤ 10 ^ 5 = pow-le-pow_right {n = 10} (omega arith) {i = suc k} {j = 5} w.few in
     record { small = lt_of_lt_of_le w.below top; text = rw w.width e }
 
-never : {A : Type 0} {n : ℕ} → Not ≡ Is n → A
+never : {A : Type 0} {n : ℕ} → None ≡ Some n → A
 never e = absurd (let z : ◌≡◌ {A = ℕ} 0 1 = cc in omega arith)
 
 from_digits : (b : ℕ) (t : List ℕ) (n : ℕ) → length t < 5 → needless_zero (b ∷ t) ≡ false → NumeralText 10 (b ∷ t) (suc (length t)) n
@@ -108,13 +108,13 @@ unfolding digits_of_spec
 from_digits b t n f z w =
     of_wide (b ∷ t) n (length t) (wide_of (length t) n f w.fits (not_less b t n z (ap (λ (l : List ℕ). get_or l 0 0) w.text))) w.text
 
-pub decimal_written : (l : List ℕ) (n : ℕ) → decimal l ≡ Is n → DecimalWritten l n
+pub decimal_written : (l : List ℕ) (n : ℕ) → decimal l ≡ Some n → DecimalWritten l n
 unfolding decimal
 decimal_written [] n e = never e
 decimal_written (b ∷ t) n e = go (ltb (suc (length t)) 1) (ltb 5 (suc (length t))) (needless_zero (b ∷ t)) refl refl e
   where
     go : (p q r : Bool) → ltb 5 (suc (length t)) ≡ q → needless_zero (b ∷ t) ≡ r
-        → cond p Not (cond q Not (cond r Not (numeral_from 10 0 (b ∷ t)))) ≡ Is n → DecimalWritten (b ∷ t) n
+        → cond p None (cond q None (cond r None (numeral_from 10 0 (b ∷ t)))) ≡ Some n → DecimalWritten (b ∷ t) n
     go true q r f z e = never e
     go false true r f z e = never e
     go false false true f z e = never e
@@ -136,7 +136,7 @@ width_few n = go (ltb n 10) (ltb n 100) (ltb n 1000) (ltb n 10000)
 
 -- and as many as hold the number
 pub width_holds : (n : ℕ) → n < decimal_limit → n < 10 ^ decimal_width_spec n
-width_holds n h = let s : Some n = some_width n h in rw s.wide.width s.wide.below
+width_holds n h = let s : SomeWidth n = some_width n h in rw s.wide.width s.wide.below
 
 -- a decimal's length is its width
 pub decimal_long : (n : ℕ) → length (decimal_text n) ≡ decimal_width_spec n

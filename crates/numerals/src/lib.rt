@@ -9,56 +9,42 @@ ghost use Rattle.numerals.specs.Written.{hexadecimal_limit};
 // How many digits an identifier has.
 pub const IDENTIFIER_DIGITS: usize = 8;
 
-// What a field is read as: a number, or none.
-#[derive(Clone, Copy)]
-pub enum Number {
-    Is(u32),
-    Not,
-}
-
 // The value of a digit 0-9 A-F; 16 for a byte that is none.
+// Kept: an Option is no plainer: `digit_value` says 16, and one comparison with the base refuses what is no digit of that base.
+#[tactic(auto, unfolding(crate::specs::Numeral::digit_value))]
 pub fn digit(b: u8) -> u64
     ensures { result ≡ digit_value b }
 {
-    if b < 58 {
-        if b < 48 {
-            return 16;
-        }
-        return (b - 48) as u64;
+    match b {
+        b'0'..=b'9' => u64::from(b - b'0'),
+        b'A'..=b'F' => u64::from(b - b'A' + 10),
+        _ => 16,
     }
-    if b < 65 {
-        return 16;
-    }
-    if b < 71 {
-        return (b - 55) as u64;
-    }
-    16
 }
 
 // The number that digits of a base write, where they are so few that it fits 32 bits.
-fn numeral(s: &[u8], base: u64) -> Number
+fn numeral(s: &[u8], base: u64) -> Option<u32>
     requires { (base ^ (length s.now) ≤ hexadecimal_limit) × (0 < base) }
     ensures { result ≡ numeral_from base 0 s.now }
 {
     let mut v: u64 = 0;
-    let mut i: usize = 0;
-    while i < s.len() {
-        let d = digit(s[i]);
+    for b in s {
+        let d = digit(*b);
         if d >= base {
-            return Number::Not;
+            return None;
         }
         v = v * base + d;
-        i += 1;
     }
-    Number::Is(v as u32)
+    Some(v as u32)
 }
 
 // Exactly 8 digits 0-9 A-F.
-pub fn read_identifier(s: &[u8]) -> Number
+#[tactic(auto, unfolding(crate::specs::Numeral::identifier))]
+pub fn read_identifier(s: &[u8]) -> Option<u32>
     ensures { result ≡ identifier s.now }
 {
     if s.len() != IDENTIFIER_DIGITS {
-        return Number::Not;
+        return None;
     }
     numeral(s, 16)
 }
@@ -67,8 +53,5 @@ pub fn read_identifier(s: &[u8]) -> Number
 pub fn identifier_or_0(s: &[u8]) -> u32
     ensures { result ≡ or_zero (identifier s.now) }
 {
-    match read_identifier(s) {
-        Number::Is(n) => n,
-        Number::Not => 0,
-    }
+    read_identifier(s).unwrap_or(0)
 }

@@ -25,10 +25,10 @@ use Rattle.placing.proofs.Runs.{run_of, run_bits}
 use Rattle.placing.proofs.Filling.{more_there}
 use Rattle.placing.specs.contracts.Filled as the-filled
 use Rattle.placing.specs.contracts.run as run-fn
-use Rattle.placing.specs.contracts.nothing as nothing
-use Rattle.placing.specs.contracts.filled_with as filled-with
+use Rattle.placing.specs.contracts.Filled.new as new
+use Rattle.placing.specs.contracts.Filled.with_signal as with-signal
 use Rattle.placing.specs.contracts.is_misplaced as is-misplaced
-use Rattle.placing.specs.contracts.is_repeated as is-repeated
+use Rattle.placing.specs.contracts.Filled.is_repeated as is-repeated
 use Rattle.placing.specs.contracts.well_placed as well_placed
 
 -- one mask has the bits and marks of a signal more
@@ -43,8 +43,8 @@ module _ {M : Type 1} {𝓤 : Ura M} (𝓛 : Logic 𝓤) (mem : Memory → SProp
   pub one_run : (start bits : ℕ) → FrameRoom start bits → (e : AtExit run-fn.ended tt) → Only 𝓤 (λ r. (run-fn.clauses 𝓛 mem run tt (start, (bits, tt))).ensures tt r e)
   one_run start bits room e = one_mask 𝓤 _ (in_run start bits) (run_of start bits) (run_bits start bits room.to) (λ r. refl)
 
-  pub one_nothing : (e : AtExit nothing.ended tt) → Only 𝓤 (λ r. (nothing.clauses 𝓛 mem run tt tt).ensures tt r e)
-  one_nothing e =
+  pub one_new : (e : AtExit new.ended tt) → Only 𝓤 (λ r. (new.clauses 𝓛 mem run tt tt).ensures tt r e)
+  one_new e =
       record {
         coded = (the-filled.the_row).coded;
         outcome = record { bits = 0; marks = 0 };
@@ -55,9 +55,9 @@ module _ {M : Type 1} {𝓤 : Ura M} (𝓛 : Logic 𝓤) (mem : Memory → SProp
       }
 
   -- where its `requires` holds
-  pub one_filled_with : (f : Filled) (number start bits : ℕ) → FrameRoom start bits
-      → (e : AtExit filled-with.ended tt) → Only 𝓤 (λ r. (filled-with.clauses 𝓛 mem run tt (f, (number, (start, (bits, tt))))).ensures tt r e)
-  one_filled_with f number start bits room e =
+  pub one_with_signal : (f : Filled) (number start bits : ℕ) → FrameRoom start bits
+      → (e : AtExit with-signal.ended tt) → Only 𝓤 (λ r. (with-signal.clauses 𝓛 mem run tt (f, (number, (start, (bits, tt))))).ensures tt r e)
+  one_with_signal f number start bits room e =
       let more = more_there f number start bits room in
       record {
         coded = (the-filled.the_row).coded;
@@ -73,10 +73,10 @@ module _ (M : Type 1) where
   one_is_misplaced = result_is (λ c. misplaced (placement c.arguments.0 c.arguments.1.0)) refl
 
   pub one_is_repeated : OneResult M is-repeated.ended (λ _. is-repeated.clauses)
-  one_is_repeated = result_is (λ c. is_in c.arguments.1.1.0 c.arguments.0.now) refl
+  one_is_repeated = result_is (λ c. is_in c.arguments.1.1.0 c.arguments.1.0.now) refl
 
   pub one_well_placed : OneOutcome M well_placed.ended (λ _. well_placed.clauses)
   one_well_placed =
-      outcome_is (coded× coded_bool (coded_list coded_ℕ)) (λ c o. (o.0, o.1.1.1.1.1.1.0)) (λ c x. (x.0, (tt, (tt, (tt, (tt, (tt, (x.1, (tt, tt)))))))))
+      outcome_is (coded× coded_bool (coded_list coded_ℕ)) (λ c o. (o.0, o.1.1.1.1.0)) (λ c x. (x.0, (tt, (tt, (tt, (x.1, (tt, tt)))))))
       (λ c o. refl) (λ c x. refl)
-      (λ c. stamped_test (side_by_side c.arguments.0.now c.arguments.1.0.now) c.arguments.1.1.1.1.1.1.0 c.arguments.1.1.1.1.1.0.now) refl
+      (λ c. stamped_test (side_by_side c.arguments.0.now c.arguments.1.0.now) c.arguments.1.1.1.1.0 c.arguments.1.1.1.0.now) refl

@@ -35,8 +35,11 @@ earlier ns ss at = side_by_side (take at ns) (take at ss)
 abbrev later : List ℕ → List ℕ → ℕ → List Placement
 later ns ss at = side_by_side (drop at ns) (drop at ss)
 
-abbrev pub nth : List ℕ → List ℕ → ℕ → Placement
-nth ns ss at = placement (get_or ns at 0) (get_or ss at 0)
+-- the signal at `at` has this number and this start
+pub record Turn (ns ss : List ℕ) (at n s : ℕ) : Type 0 where
+  pub within : at < length ns
+  pub number : n ≡ get_or ns at 0
+  pub start : s ≡ get_or ss at 0
 
 side_more : (ns ss : List ℕ) (n s : ℕ) → length ss ≡ length ns → side_by_side (ns ++ (n ∷ [])) (ss ++ (s ∷ [])) ≡ side_by_side ns ss ++ (placement n s ∷ [])
 unfolding side_by_side
@@ -114,104 +117,105 @@ module _ (ns ss lent : List ℕ) (filled : ℕ) (stamps : List ℕ) (stamp at : 
       both true (sym (ap (λ (l : List ℕ). good_after (earlier ns ss at) (side_by_side l (drop at ss))) (drop_of_length-le ns h)) ∙ w.same)
       (sym (ap (λ (l : List ℕ). stamped_after (earlier ns ss at) (side_by_side l (drop at ss)) stamp stamps) (drop_of_length-le ns h)) ∙ w.left)
 
-  module _ (h : at < length ns) where
-    one : later ns ss at ≡ nth ns ss at ∷ later ns ss (at + 1)
+  module _ (n s : ℕ) (u : Turn ns ss at n s) where
+    one : later ns ss at ≡ placement n s ∷ later ns ss (at + 1)
     unfolding side_by_side
-    one = let g : at < length ss = omega arith in rw (drop-cons ns at 0 h, drop-cons ss at 0 g, add-one at)
+    one = let h = u.within in let g : at < length ss = omega arith in rw (u.number, u.start, drop-cons ns at 0 h, drop-cons ss at 0 g, add-one at)
 
     rest : Bool
-    rest = good_after (earlier ns ss at ++ (nth ns ss at ∷ [])) (later ns ss (at + 1))
+    rest = good_after (earlier ns ss at ++ (placement n s ∷ [])) (later ns ss (at + 1))
 
-    step : fits_after (earlier ns ss at) (nth ns ss at) && rest ≡ good_after [] (side_by_side ns ss)
+    step : fits_after (earlier ns ss at) (placement n s) && rest ≡ good_after [] (side_by_side ns ss)
     unfolding good_after rest
     step = sym (ap (good_after (earlier ns ss at)) one) ∙ w.same
 
     further : List ℕ
-    further = stamped_after (earlier ns ss at ++ (nth ns ss at ∷ [])) (later ns ss (at + 1)) stamp (stamped_at stamps (place_of (get_or ns at 0)) stamp)
+    further = stamped_after (earlier ns ss at ++ (placement n s ∷ [])) (later ns ss (at + 1)) stamp (stamped_at stamps (place_of n) stamp)
 
-    left_step : cond (fits_after (earlier ns ss at) (nth ns ss at)) further stamps ≡ stamped_after [] (side_by_side ns ss) stamp lent
+    left_step : cond (fits_after (earlier ns ss at) (placement n s)) further stamps ≡ stamped_after [] (side_by_side ns ss) stamp lent
     unfolding stamped_after further
     left_step = sym (ap (λ (l : List Placement). stamped_after (earlier ns ss at) l stamp stamps) one) ∙ w.left
 
-    fail : fits_after (earlier ns ss at) (nth ns ss at) ≡ false → Answers false
+    fail : fits_after (earlier ns ss at) (placement n s) ≡ false → Answers false
     fail f = both false (ap (λ (t : Bool). t && rest) (sym f) ∙ step) (ap (λ (t : Bool). cond t further stamps) (sym f) ∙ left_step)
 
     long : length (take at ss) ≡ length (take at ns)
-    long = length-take-le at ss (omega arith) ∙ sym (length-take-le at ns (omega arith))
+    long = let h = u.within in length-take-le at ss (omega arith) ∙ sym (length-take-le at ns (omega arith))
 
     listed : numbers (earlier ns ss at) ≡ take at ns
     listed = side_numbers (take at ns) (take at ss) long
 
-    pub refuse_alone : stands_alone (nth ns ss at) ≡ false → Answers false
-    refuse_alone f = fail (not_alone (earlier ns ss at) (nth ns ss at) f)
+    pub refuse_alone : stands_alone (placement n s) ≡ false → Answers false
+    refuse_alone f = fail (not_alone (earlier ns ss at) (placement n s) f)
 
     -- the catalogue has no such signal
-    pub refuse_unknown : place_of (get_or ns at 0) ≡ no_place_spec → Answers false
-    refuse_unknown f = refuse_alone (ap (λ (t : Bool). not (t || misplaced (nth ns ss at))) (unknown (get_or ns at 0) (get_or ss at 0) (no_bits (get_or ns at 0) f)))
+    pub refuse_unknown : place_of n ≡ no_place_spec → Answers false
+    refuse_unknown f = refuse_alone (ap (λ (t : Bool). not (t || misplaced (placement n s))) (unknown n s (no_bits n f)))
 
-    module _ (p : ℕ) (place : (p ≡ place_of (get_or ns at 0)) × (p < no_place_spec)) (last : ℕ) (room : (last < 64) × (64 - last ≡ bits_of_spec (get_or ns at 0))) where
-      known_bits : (0 < 64 - last) × (64 - last ≡ bits_of_spec (get_or ns at 0))
+    module _ (p : ℕ) (place : (p ≡ place_of n) × (p < no_place_spec)) (last : ℕ) (room : (last < 64) × (64 - last ≡ bits_of_spec n)) where
+      known_bits : (0 < 64 - last) × (64 - last ≡ bits_of_spec n)
       known_bits = let l = room.0 in (omega arith, room.1)
 
-      pub refuse_over : last < get_or ss at 0 → Answers false
-      refuse_over l = let i = room.0 in refuse_alone (sym (alone_past (get_or ns at 0) (get_or ss at 0) (64 - last) known_bits (omega arith)))
+      pub refuse_over : last < s → Answers false
+      refuse_over l = let i = room.0 in refuse_alone (sym (alone_past n s (64 - last) known_bits (omega arith)))
 
-      module _ (g : get_or ss at 0 ≤ last) where
-        inside : get_or ss at 0 ≤ frame_bits - (64 - last)
+      module _ (g : s ≤ last) where
+        inside : s ≤ frame_bits - (64 - last)
         inside = let i = room.0 in omega arith
 
-        there : place_of (get_or ns at 0) < no_place_spec
+        there : place_of n < no_place_spec
         there = subst (λ (q : ℕ). q < no_place_spec) place.0 place.1
 
-        told : fixed_place p ≡ false → eqb (get_or stamps p 0) stamp ≡ is_in (get_or ns at 0) (numbers (earlier ns ss at))
+        told : fixed_place p ≡ false → eqb (get_or stamps p 0) stamp ≡ is_in n (numbers (earlier ns ss at))
         told f =
             ap (λ (q : ℕ). eqb (get_or stamps q 0) stamp) place.0
-            ∙ w.stamped (get_or ns at 0) there (ap fixed_place (sym place.0) ∙ f)
-            ∙ sym (ap (is_in (get_or ns at 0)) listed)
+            ∙ w.stamped n there (ap fixed_place (sym place.0) ∙ f)
+            ∙ sym (ap (is_in n) listed)
 
-        fixed_told : fixed_place p ≡ true → at_fixed_start p (get_or ss at 0) ≡ stands_alone (nth ns ss at)
+        fixed_told : fixed_place p ≡ true → at_fixed_start p s ≡ stands_alone (placement n s)
         fixed_told f =
-            ap (λ (q : ℕ). at_fixed_start q (get_or ss at 0)) place.0
-            ∙ fixed_alone (get_or ns at 0) (get_or ss at 0) (64 - last) known_bits inside (ap fixed_place (sym place.0) ∙ f)
+            ap (λ (q : ℕ). at_fixed_start q s) place.0
+            ∙ fixed_alone n s (64 - last) known_bits inside (ap fixed_place (sym place.0) ∙ f)
 
         -- it stands where it may not, or comes again
-        pub refuse_again : stamp ≤ get_or stamps p 0 → at_fixed_start p (get_or ss at 0) ≡ false → Answers false
+        pub refuse_again : stamp ≤ get_or stamps p 0 → at_fixed_start p s ≡ false → Answers false
         refuse_again k f = go (fixed_place p) refl
           where
             go : (t : Bool) → fixed_place p ≡ t → Answers false
             go true e = refuse_alone (sym (fixed_told e) ∙ f)
-            go false e = let l = w.below.below p e in fail (not_new (earlier ns ss at) (nth ns ss at) (sym (told e) ∙ eq-eqb (get_or stamps p 0) stamp (omega (arith, k, l))))
+            go false e = let l = w.below.below p e in fail (not_new (earlier ns ss at) (placement n s) (sym (told e) ∙ eq-eqb (get_or stamps p 0) stamp (omega (arith, k, l))))
 
-        module _ (run : ℕ) (filled-here : (k : ℕ) → bit run k ≡ in_run (get_or ss at 0) (64 - last) k) where
-          own : (k : ℕ) → bit run k ≡ bit_belongs (nth ns ss at) k
-          own k = filled-here k ∙ ap (λ (n : ℕ). in_run (get_or ss at 0) n k) room.1
+        module _ (run : ℕ) (filled-here : (k : ℕ) → bit run k ≡ in_run s (64 - last) k) where
+          own : (k : ℕ) → bit run k ≡ bit_belongs (placement n s) k
+          own k = filled-here k ∙ ap (λ (b : ℕ). in_run s b k) room.1
 
-          same_bits : meeting filled run ≡ meets_earlier (earlier ns ss at) (nth ns ss at)
-          same_bits = same_meeting (earlier ns ss at) (nth ns ss at) filled run w.bits own (alone_wide w.alone) (omega (arith, known_bits.0, known_bits.1))
+          same_bits : meeting filled run ≡ meets_earlier (earlier ns ss at) (placement n s)
+          same_bits = same_meeting (earlier ns ss at) (placement n s) filled run w.bits own (alone_wide w.alone) (omega (arith, known_bits.0, known_bits.1))
 
           pub refuse_meeting : meeting filled run ≡ true → Answers false
-          refuse_meeting f = fail (not_apart (earlier ns ss at) (nth ns ss at) (sym same_bits ∙ f))
+          refuse_meeting f = fail (not_apart (earlier ns ss at) (placement n s) (sym same_bits ∙ f))
 
           module _ (apart : meeting filled run ≡ false) (more : ℕ) (wider : (k : ℕ) → bit more k ≡ bit filled k || bit run k) (stamps' : List ℕ) where
-            next : stands_alone (nth ns ss at) ≡ true → is_in (get_or ns at 0) (numbers (earlier ns ss at)) ≡ false → stamps' ≡ stamped_at stamps (place_of (get_or ns at 0)) stamp
+            next : stands_alone (placement n s) ≡ true → is_in n (numbers (earlier ns ss at)) ≡ false → stamps' ≡ stamped_at stamps (place_of n) stamp
                 → Passed ns ss lent more stamps' stamp (at + 1)
             unfolding rest further
             next alone new put =
-                let passes = well (earlier ns ss at) (nth ns ss at) alone new (sym same_bits ∙ apart) in
+                let passes = well (earlier ns ss at) (placement n s) alone new (sym same_bits ∙ apart) in
+                let h = u.within in
                 let gs : at < length ss = omega arith in
-                let longer : earlier ns ss (at + 1) ≡ earlier ns ss at ++ (nth ns ss at ∷ []) =
-                rw (add-one at, take-suc ns at 0 h, take-suc ss at 0 gs) (side_more (take at ns) (take at ss) (get_or ns at 0) (get_or ss at 0) long)
+                let longer : earlier ns ss (at + 1) ≡ earlier ns ss at ++ (placement n s ∷ []) =
+                rw (add-one at, take-suc ns at 0 h, take-suc ss at 0 gs, ← u.number, ← u.start) (side_more (take at ns) (take at ss) n s long)
                 in
                 record {
                   same = ap (λ (l : List Placement). good_after l (later ns ss (at + 1))) longer ∙ sym (ap (λ (t : Bool). t && rest) passes) ∙ step;
-                  alone = subst EachAlone (sym longer) (alone_more (nth ns ss at) w.alone alone);
+                  alone = subst EachAlone (sym longer) (alone_more (placement n s) w.alone alone);
                   bits = λ k. wider k ∙ ap (λ (t : Bool). t || bit run k) (w.bits k) ∙ ap (λ (t : Bool). covers (earlier ns ss at) k || t) (own k) ∙
-                      sym (covers_more (earlier ns ss at) (nth ns ss at) k) ∙ ap (λ (l : List Placement). covers l k) (sym longer);
+                      sym (covers_more (earlier ns ss at) (placement n s) k) ∙ ap (λ (l : List Placement). covers l k) (sym longer);
                   left = ap (λ (l : List Placement). stamped_after l (later ns ss (at + 1)) stamp stamps') longer ∙
-                      ap (stamped_after (earlier ns ss at ++ (nth ns ss at ∷ [])) (later ns ss (at + 1)) stamp) put ∙
+                      ap (stamped_after (earlier ns ss at ++ (placement n s ∷ [])) (later ns ss (at + 1)) stamp) put ∙
                       sym (ap (λ (t : Bool). cond t further stamps) passes) ∙ left_step;
-                  stamped = rw (put, add-one at, take-suc ns at 0 h) (stamped_more stamps stamp (take at ns) (get_or ns at 0) w.below.each there w.stamped);
-                  below = rw put (below_more stamps stamp (place_of (get_or ns at 0)) w.below);
+                  stamped = rw (put, add-one at, take-suc ns at 0 h, ← u.number) (stamped_more stamps stamp (take at ns) n w.below.each there w.stamped);
+                  below = rw put (below_more stamps stamp (place_of n) w.below);
                 }
 
             -- a signal that may stand anywhere comes for the first time
@@ -221,21 +225,21 @@ module _ (ns ss lent : List ℕ) (filled : ℕ) (stamps : List ℕ) (stamp at : 
                 go : (t : Bool) → fixed_place p ≡ t → Passed ns ss lent more stamps' stamp (at + 1)
                 go true e = let v = w.below.fixed p e in absurd (omega (arith, v, i, most))
                 go false e =
-                    let f : fixed_place (place_of (get_or ns at 0)) ≡ false = ap fixed_place (sym place.0) ∙ e in
-                    next (sym (others_alone (get_or ns at 0) (get_or ss at 0) (64 - last) known_bits inside f)) (sym (told e) ∙ ne_eqb (get_or stamps p 0) stamp (λ z. omega (arith, z, i)))
-                    (put ∙ ap (λ (q : ℕ). set stamps q stamp) place.0 ∙ ap (λ (t : Bool). cond t stamps (set stamps (place_of (get_or ns at 0)) stamp)) (sym f))
+                    let f : fixed_place (place_of n) ≡ false = ap fixed_place (sym place.0) ∙ e in
+                    next (sym (others_alone n s (64 - last) known_bits inside f)) (sym (told e) ∙ ne_eqb (get_or stamps p 0) stamp (λ z. omega (arith, z, i)))
+                    (put ∙ ap (λ (q : ℕ). set stamps q stamp) place.0 ∙ ap (λ (t : Bool). cond t stamps (set stamps (place_of n) stamp)) (sym f))
 
             -- one of the two that have a start of their own stands there
-            pub next_fixed : at_fixed_start p (get_or ss at 0) ≡ true → stamps' ≡ stamps → Passed ns ss lent more stamps' stamp (at + 1)
+            pub next_fixed : at_fixed_start p s ≡ true → stamps' ≡ stamps → Passed ns ss lent more stamps' stamp (at + 1)
             next_fixed i put =
-                let e = fixed_there p (get_or ss at 0) i in
-                let f : fixed_place (place_of (get_or ns at 0)) ≡ true = ap fixed_place (sym place.0) ∙ e in
+                let e = fixed_there p s i in
+                let f : fixed_place (place_of n) ≡ true = ap fixed_place (sym place.0) ∙ e in
                 let alone = sym (fixed_told e) ∙ i in
-                next alone (go alone f (is_in (get_or ns at 0) (numbers (earlier ns ss at))) refl)
-                (put ∙ ap (λ (t : Bool). cond t stamps (set stamps (place_of (get_or ns at 0)) stamp)) (sym f))
+                next alone (go alone f (is_in n (numbers (earlier ns ss at))) refl)
+                (put ∙ ap (λ (t : Bool). cond t stamps (set stamps (place_of n) stamp)) (sym f))
               where
-                go : stands_alone (nth ns ss at) ≡ true → fixed_place (place_of (get_or ns at 0)) ≡ true → (t : Bool) → is_in (get_or ns at 0) (numbers (earlier ns ss at)) ≡ t
-                    → is_in (get_or ns at 0) (numbers (earlier ns ss at)) ≡ false
+                go : stands_alone (placement n s) ≡ true → fixed_place (place_of n) ≡ true → (t : Bool) → is_in n (numbers (earlier ns ss at)) ≡ t
+                    → is_in n (numbers (earlier ns ss at)) ≡ false
                 go alone f true z =
-                    absurd (true≢false (sym (again_meets (earlier ns ss at) (nth ns ss at) w.alone alone f z) ∙ sym same_bits ∙ apart))
+                    absurd (true≢false (sym (again_meets (earlier ns ss at) (placement n s) w.alone alone f z) ∙ sym same_bits ∙ apart))
                 go alone f false z = z

@@ -95,6 +95,3 @@ module _ (r : Bool) (ps : List Placement) (s : ℕ) (lent left : List ℕ) (e : 
 
   pub left_below : Below lent s → Below left (s + 1)
   left_below b = subst (λ (x : Bool × List ℕ). Below x.1 (s + 1)) (sym e) (after_below [] ps s lent (below_next lent s b))
-
-pub below_as : (st : List ℕ) (s t : ℕ) → s ≡ t → Below st s → Below st t
-below_as st s t e b = record { each = b.each; fixed = b.fixed; below = λ p f. let l = b.below p f in omega (arith, l, e) }

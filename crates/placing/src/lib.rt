@@ -4,7 +4,6 @@
 ghost use Rattle.std.specs.Prelude.{◌≡◌, Bool, List, ℕ, ◌-◌, ◌≤◌, ◌<◌, length};
 ghost use Rattle.rows.specs.Rule.{most_bits};
 ghost use Rattle.catalogue.specs.Find.{bits_of_spec};
-ghost use Rattle.catalogue.specs.Places.{StartColumns};
 ghost use Rattle.books.specs.Belonging.{in_run};
 ghost use Rattle.books.specs.Book.{placement};
 ghost use Rattle.books.specs.Lines.{is_in, misplaced, frame_bits};
@@ -13,9 +12,9 @@ ghost use Rattle.masks.specs.Bit.{bit};
 ghost use Rattle.placing.specs.Placing.{FrameRoom};
 ghost use Rattle.placing.specs.Filling.{Marks, FilledMore};
 ghost use Rattle.placing.specs.Stamps.{at_fixed_start, Below, stamped_test};
-ghost use Rattle.record.specs.Limits.{signal_limit, start_limit};
+ghost use Rattle.record.specs.Limits.{start_limit};
 
-use catalogue::{CHECKSUM_PLACE, COUNTER_PLACE, Place};
+use catalogue::{CHECKSUM_PLACE, COUNTER_PLACE, PLACES, SignalStarts};
 use record::{CHECKSUM, CHECKSUM_START, COUNTER, COUNTER_START};
 
 const FRAME_BITS: u32 = 64;
@@ -46,12 +45,6 @@ pub fn is_misplaced(number: u32, start: u32, bits: u32) -> bool
     false
 }
 
-fn wide(last: u8) -> u32
-    ensures { result ≡ last }
-{
-    last as u32
-}
-
 // A mask of the frame bits of a signal.
 pub fn run(start: u32, bits: u32) -> u64
     requires { FrameRoom start bits }
@@ -75,34 +68,33 @@ pub struct Filled {
     pub marks: u64,
 }
 
-// What no signal fills.
-pub fn nothing() -> Filled
-    ensures { (result.bits ≡ 0) × (result.marks ≡ 0) }
-{
-    Filled { bits: 0, marks: 0 }
-}
-
-// What they fill with one signal more.
-pub fn filled_with(filled: Filled, number: u32, start: u32, bits: u32) -> Filled
-    requires { FrameRoom start bits }
-    ensures { FilledMore filled number start bits result }
-{
-    let bits_here = run(start, bits);
-    Filled {
-        bits: masks::either(filled.bits, bits_here),
-        marks: masks::with(filled.marks, number % MARKS),
+impl Filled {
+    // What no signal fills.
+    pub fn new() -> Self
+        ensures { (result.bits ≡ 0) × (result.marks ≡ 0) }
+    {
+        Filled { bits: 0, marks: 0 }
     }
-}
 
-// Whether a number stands among those whose marks are filled: they are looked at only where one of them has the same mark.
-pub fn is_repeated(numbers: &[u32], filled: Filled, number: u32) -> bool
-    requires { Marks numbers.now filled.marks }
-    ensures { result ≡ is_in number numbers.now }
-{
-    if masks::has(filled.marks, number % MARKS) {
-        return columns::holds(numbers, number);
+    // What they fill with one signal more.
+    pub fn with_signal(self, number: u32, start: u32, bits: u32) -> Self
+        requires { FrameRoom start bits }
+        ensures { FilledMore self number start bits result }
+    {
+        let bits_here = run(start, bits);
+        Filled {
+            bits: masks::either(self.bits, bits_here),
+            marks: masks::with(self.marks, number % MARKS),
+        }
     }
-    false
+
+    // Whether a number stands among those whose marks are filled: they are looked at only where one of them has the same mark.
+    pub fn is_repeated(self, numbers: &[u32], number: u32) -> bool
+        requires { Marks numbers.now self.marks }
+        ensures { result ≡ is_in number numbers.now }
+    {
+        masks::has(self.marks, number % MARKS) && columns::holds(numbers, number)
+    }
 }
 
 // Whether a place is that of a signal with a start of its own, and this is the start.
@@ -126,25 +118,19 @@ fn has_fixed_start(place: usize, start: u32) -> bool
 pub fn well_placed(
     numbers: &[u32],
     starts: &[u32],
-    above: &[u32],
-    ends: &[u8],
-    lasts: &[u8],
-    stamps: &mut [u8],
+    columns: &SignalStarts,
+    stamps: &mut [u8; PLACES],
     stamp: u8,
 ) -> bool
-    requires { (length numbers.now ≤ signal_limit) × (length starts.now ≡ length numbers.now) × StartColumns above.now ends.now lasts.now × Below stamps.old stamp }
+    requires { (length starts.now ≡ length numbers.now) × Below stamps.old stamp }
     ensures { ◌≡◌ {A = Bool × List ℕ} (result, stamps.new) (stamped_test (side_by_side numbers.now starts.now) stamp stamps.old) }
 {
     let mut filled: u64 = 0;
-    let mut left = columns::length_of(numbers);
-    let mut at: usize = 0;
-    while left > 0 {
-        let number = numbers[at];
-        let start = starts[at];
-        let Place::At(place) = catalogue::place_of(number, above, ends) else {
+    for (&number, &start) in numbers.iter().zip(starts) {
+        let Some(place) = columns.place_of(number) else {
             return false;
         };
-        let last = wide(lasts[place]);
+        let last = columns.at(place);
         if start > last {
             return false;
         }
@@ -158,8 +144,6 @@ pub fn well_placed(
             return false;
         }
         filled = masks::either(filled, here);
-        at += 1;
-        left -= 1;
     }
     true
 }

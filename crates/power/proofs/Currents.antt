@@ -7,8 +7,10 @@ use native.Mathlib.Omega.{arith}
 use borrow.Author.Tests.{leb-true, leb-false, ltb-true, ltb-false, lt-ltb, le-ltb}
 use lib.Dec.{leb, ltb}
 use lib.IntN.{pos, negsuc}
+use Rattle.std.specs.Prelude.{Ok, Err}
 use Rattle.catalogue.specs.declared.Raw.{Raw}
-use Rattle.catalogue.specs.declared.Class.TheVariants.{Value, Invalid, TooWide}
+use Rattle.catalogue.specs.declared.Class.TheVariants.{Value, Invalid}
+use Rattle.catalogue.specs.declared.NoClass.TheVariants.{TooWide}
 use Rattle.catalogue.specs.Class.{class_of_spec}
 use Rattle.power.specs.Observed.{under10_a, value_under10_a}
 use Rattle.power.proofs.Readings.{current_203}
@@ -21,7 +23,7 @@ module _ (raw : Raw) where
   either_way = rw (current_203 raw) (go (ltb count 65535) (ltb (count * 100) 2000000) (leb 65536 count) (leb 19901 count) (leb count 20099) refl refl refl refl)
     where
       go : (value negative wide low high : Bool) → ltb count 65535 ≡ value → ltb (count * 100) 2000000 ≡ negative → leb 19901 count ≡ low → leb count 20099 ≡ high
-          → low && high ≡ value_under10_a (cond value (Value (record { 0 = cond negative (negsuc (2000000 - suc (count * 100))) (pos (count * 100 - 2000000)) })) (cond wide TooWide (Invalid raw)))
+          → low && high ≡ value_under10_a (cond value (Ok (Value (record { 0 = cond negative (negsuc (2000000 - suc (count * 100))) (pos (count * 100 - 2000000)) }))) (cond wide (Err TooWide) (Ok (Invalid raw))))
       go true true w true true v n l h = simp (lt-ltb (2000000 - suc (count * 100)) 9999 (omega (arith, ltb-true (count * 100) 2000000 n, leb-true 19901 count l)))
       go true true w false true v n l h = simp (le-ltb (2000000 - suc (count * 100)) 9999 (omega (arith, ltb-true (count * 100) 2000000 n, leb-false 19901 count l)))
       go true true w l false v n e h = absurd (omega (arith, ltb-true (count * 100) 2000000 n, leb-false count 20099 h))

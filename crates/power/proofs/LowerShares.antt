@@ -7,10 +7,9 @@ use Prim.Native.Nat.{◌≤◌}
 use borrow.Author.Tests.{leb-true}
 use lib.Dec.{leb}
 use Rattle.power.specs.declared.Observation.{Observation}
-use Rattle.power.specs.declared.Share.{Share}
 use Rattle.power.specs.declared.State.{State}
 use Rattle.power.specs.declared.State.TheVariants.{Off, Rising, Precharge, Both, On, Falling, Fault}
-use Rattle.power.specs.Shares.{hundredths, share_fits_spec, seen_with}
+use Rattle.power.specs.Shares.{hundredths, share_fits_spec, seen_with, Share}
 use Rattle.power.specs.Observed.{shows, all_open_spec, commanded, urgent, precharge_complete_spec}
 use Rattle.power.specs.Pictures.{picture}
 use Rattle.power.specs.Rules.{rule3, rule4, step_else, next_state_spec}

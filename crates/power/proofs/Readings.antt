@@ -8,9 +8,11 @@ use native.Mathlib.Omega.{arith}
 use borrow.Author.Tests.{ltb-true, ltb-false, leb-true, leb-false, le-leb, lt-leb}
 use lib.Dec.{leb, ltb}
 use lib.IntN.{ℤ, pos, ◌+ℤ◌}
+use Rattle.std.specs.Prelude.{Ok, Err}
 use Rattle.rows.specs.declared.Row.{Row}
 use Rattle.catalogue.specs.declared.Raw.{Raw}
-use Rattle.catalogue.specs.declared.Class.TheVariants.{Value, Invalid, TooWide}
+use Rattle.catalogue.specs.declared.Class.TheVariants.{Value, Invalid}
+use Rattle.catalogue.specs.declared.NoClass.TheVariants.{TooWide}
 use Rattle.rows.specs.Rows.{rows, row, plus, minus, invalid, unmarked}
 use Rattle.catalogue.specs.Find.{row_of}
 use Rattle.catalogue.specs.Class.{class_of_spec, class_for, between}
@@ -34,7 +36,7 @@ class_of n offset raw = go (ltb count 65535) (leb 65536 count) refl refl
     count : ℕ
     count = raw.0
 
-    go : (v w : Bool) → ltb count 65535 ≡ v → leb 65536 count ≡ w → class_for (some (measured n offset)) raw ≡ cond v (Value (record { 0 = pos (count * 100) +ℤ offset })) (cond w TooWide (Invalid raw))
+    go : (v w : Bool) → ltb count 65535 ≡ v → leb 65536 count ≡ w → class_for (some (measured n offset)) raw ≡ cond v (Ok (Value (record { 0 = pos (count * 100) +ℤ offset }))) (cond w (Err TooWide) (Ok (Invalid raw)))
     go true w e f =
         simp (lt-leb 65536 count (omega (arith, ltb-true count 65535 e)), lt-leb 65535 count (omega (arith, ltb-true count 65535 e)), no_mark count, le-leb 0 count (omega arith), le-leb count 65535 (omega (arith, ltb-true count 65535 e)))
     go false true e f = simp f

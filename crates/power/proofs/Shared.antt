@@ -1,4 +1,5 @@
 -- What the share does: what is complete with one share is complete with every lower one from 50 on, and none given is 90. Assumes nothing.
+use Rattle.std.specs.Prelude.{Some, None}
 use mathlib.Core.Path.{◌≡◌, refl}
 use mathlib.Core.Bool.{Bool, true, ◌&&◌}
 use Prim.Native.Nat.{◌*◌, ◌≤◌}
@@ -7,11 +8,9 @@ use borrow.Author.Tests.{leb-true, le-leb}
 use lib.Dec.{leb, ltb}
 use Rattle.catalogue.specs.declared.Raw.{Raw}
 use Rattle.power.specs.declared.Observation.{Observation}
-use Rattle.power.specs.declared.Share.{Share}
-use Rattle.power.specs.declared.Share.TheVariants.{Named, NoneGiven}
 use Rattle.power.specs.declared.State.{State}
 use Rattle.power.specs.declared.State.TheVariants.{Off, Rising, Precharge, Both, On, Falling, Fault}
-use Rattle.power.specs.Shares.{hundredths, share_fits_spec, seen_with}
+use Rattle.power.specs.Shares.{hundredths, share_fits_spec, seen_with, Share}
 use Rattle.power.specs.Observed.{valid, precharge_complete_spec}
 use Rattle.power.specs.Pictures.{picture}
 use Rattle.power.specs.Rules.{rule3, rule4, step_else, next_state_spec}
@@ -44,12 +43,12 @@ less_is_complete inside outside a b low less e =
     enough : hundredths a * inside.0 ≤ 100 * outside.0
     enough = leb-true (hundredths a * inside.0) (100 * outside.0) (right (fits && inside_valid && valid outside && ltb 0 inside.0) (leb (hundredths a * inside.0) (100 * outside.0)) e)
 
-pub complete_by_90 : (inside outside : Raw) → precharge_complete_spec inside outside NoneGiven ≡ precharge_complete_spec inside outside (Named 90)
+pub complete_by_90 : (inside outside : Raw) → precharge_complete_spec inside outside None ≡ precharge_complete_spec inside outside (Some 90)
 unfolding precharge_complete_spec
 complete_by_90 inside outside = refl
 
 module _ (seen : Observation) where
-  next_by_90 : (state : State) → next_state_spec state (seen_with NoneGiven seen) ≡ next_state_spec state (seen_with (Named 90) seen)
+  next_by_90 : (state : State) → next_state_spec state (seen_with None seen) ≡ next_state_spec state (seen_with (Some 90) seen)
   unfolding next_state_spec step_else rule3 rule4 picture precharge_complete_spec
   next_by_90 Off = refl
   next_by_90 Rising = refl
@@ -59,6 +58,6 @@ module _ (seen : Observation) where
   next_by_90 Falling = refl
   next_by_90 Fault = refl
 
-  pub none_is_90 : (state : State) → step_of state (seen_with NoneGiven seen) ≡ step_of state (seen_with (Named 90) seen)
+  pub none_is_90 : (state : State) → step_of state (seen_with None seen) ≡ step_of state (seen_with (Some 90) seen)
   unfolding step_of
   none_is_90 state = rw (next_by_90 state) refl

@@ -1,16 +1,15 @@
 -- The power step as it was before P6 of document 02: the share was 95 for every observation, and nobody gave one. It stays for the law that
 -- compares (proofs/AsBefore.antt), and nothing else rests on it; what P6 left alone is cited. Assumes nothing.
-use Rattle.std.specs.Prelude.{◌*◌, Bool, true, cond, ◌&&◌, List, [], ◌∷◌, ◌++◌, leb, ltb}
+use Rattle.std.specs.Prelude.{◌*◌, Bool, true, cond, ◌&&◌, List, [], ◌∷◌, ◌++◌, leb, ltb, Err}
 use Rattle.catalogue.specs.declared.Raw.{Raw}
 use Rattle.power.specs.declared.Observation.{Observation}
 use Rattle.power.specs.declared.State.{State}
 use Rattle.power.specs.declared.State.TheVariants.{Off, Rising, Precharge, Both, On, Falling, Fault}
-use Rattle.power.specs.declared.PowerAnswer.TheVariants.{Taken, NeitherOpenNorClosed, CommandTooHigh, ReadingTooHigh}
-use Rattle.power.specs.declared.Stepped.{Stepped}
+use Rattle.power.specs.declared.PowerRefusal.TheVariants.{NeitherOpenNorClosed, CommandTooHigh, ReadingTooHigh}
 use Rattle.power.specs.Observed.{all_open_spec, commanded, urgent, valid}
 use Rattle.power.specs.Pictures.{picture}
 use Rattle.power.specs.Rules.{PowerStep, from_to, rule4, first_step_spec, from_fault_spec}
-use Rattle.power.specs.Refusals.{relays_fit_spec, commands_fit_spec, readings_fit_spec, state_and_answer}
+use Rattle.power.specs.Refusals.{relays_fit_spec, commands_fit_spec, readings_fit_spec, state_and_answer, step_taken, Stepped}
 
 -- "Precharge complete: both voltages valid, inside above 0, and 100 x outside >= 95 x inside (house figure)"
 unfoldable pub complete_before_p6 : Raw → Raw → Bool
@@ -44,6 +43,6 @@ unfoldable pub step_before_p6 : State → Observation → Stepped
 step_before_p6 state seen =
     cond (relays_fit_spec seen)
     (cond (commands_fit_spec seen)
-    (cond (readings_fit_spec seen) (state_and_answer (next_state_before_p6 state seen) Taken) (state_and_answer state ReadingTooHigh))
-    (state_and_answer state CommandTooHigh))
-    (state_and_answer state NeitherOpenNorClosed)
+    (cond (readings_fit_spec seen) (state_and_answer (next_state_before_p6 state seen) step_taken) (state_and_answer state (Err ReadingTooHigh)))
+    (state_and_answer state (Err CommandTooHigh)))
+    (state_and_answer state (Err NeitherOpenNorClosed))

@@ -1,11 +1,12 @@
 -- What an observation says. Assumes nothing.
-use Rattle.std.specs.Prelude.{ℕ, ◌*◌, Bool, ◌&&◌, ◌||◌, cond, false, eqb, leb, ltb, ℤ, pos, ◌+ℤ◌, neg_ℤ}
+use Rattle.std.specs.Prelude.{ℕ, ◌*◌, Bool, ◌&&◌, ◌||◌, cond, false, eqb, leb, ltb, ℤ, pos, ◌+ℤ◌, neg_ℤ, Result, Ok, Err}
 use Rattle.catalogue.specs.declared.Raw.{Raw}
 use Rattle.power.specs.declared.Observation.{Observation}
-use Rattle.power.specs.declared.Share.{Share}
-use Rattle.power.specs.Shares.{hundredths, share_fits_spec}
+use Rattle.power.specs.Shares.{hundredths, share_fits_spec, Share}
 use Rattle.catalogue.specs.declared.Class.{Class}
-use Rattle.catalogue.specs.declared.Class.TheVariants.{Value, Invalid, TooWide, Absent, Error, Reserved, Outside, NotInCatalogue}
+use Rattle.catalogue.specs.declared.Class.TheVariants.{Value, Invalid, Absent, Error, Reserved, Outside}
+use Rattle.catalogue.specs.declared.NoClass.{NoClass}
+use Rattle.catalogue.specs.declared.NoClass.TheVariants.{TooWide}
 use Rattle.std.specs.Int.Signed.{lt_z}
 
 -- "relay counts .. (1 open, 2 closed)"
@@ -56,16 +57,15 @@ abbrev pub under10_a : Raw → Bool
 under10_a current = leb 19901 current.0 && leb current.0 20099
 
 -- what a count of 201, 202 or 203 stands for, by its offset: a tenth of a volt or ampere for each, 65,535 invalid
-abbrev pub measured_class : ℤ → Raw → Class
-measured_class offset raw = cond (valid raw) (Value (record { 0 = pos (raw.0 * 100) +ℤ offset })) (cond (leb 65536 raw.0) TooWide (Invalid raw))
+abbrev pub measured_class : ℤ → Raw → Result Class NoClass
+measured_class offset raw = cond (valid raw) (Ok (Value (record { 0 = pos (raw.0 * 100) +ℤ offset }))) (cond (leb 65536 raw.0) (Err TooWide) (Ok (Invalid raw)))
 
 -- the class is a value, of more than -10 A and less than 10 A
-abbrev pub value_under10_a : Class → Bool
-value_under10_a (Value t) = lt_z (neg_ℤ (pos 10000)) t.0 && lt_z t.0 (pos 10000)
-value_under10_a (Invalid raw) = false
-value_under10_a (Absent raw) = false
-value_under10_a (Error raw) = false
-value_under10_a (Reserved raw) = false
-value_under10_a (Outside raw) = false
-value_under10_a NotInCatalogue = false
-value_under10_a TooWide = false
+abbrev pub value_under10_a : Result Class NoClass → Bool
+value_under10_a (Ok (Value t)) = lt_z (neg_ℤ (pos 10000)) t.0 && lt_z t.0 (pos 10000)
+value_under10_a (Ok (Invalid raw)) = false
+value_under10_a (Ok (Absent raw)) = false
+value_under10_a (Ok (Error raw)) = false
+value_under10_a (Ok (Reserved raw)) = false
+value_under10_a (Ok (Outside raw)) = false
+value_under10_a (Err e) = false

@@ -1,13 +1,15 @@
 -- The share of the voltage inside that precharge has to reach (document 02, P6). Assumes nothing.
-use Rattle.std.specs.Prelude.{ℕ, Bool, ◌&&◌, leb}
+use Rattle.std.specs.Prelude.{ℕ, Bool, ◌&&◌, leb, Option, Some, None}
 use Rattle.power.specs.declared.Observation.{Observation}
-use Rattle.power.specs.declared.Share.{Share}
-use Rattle.power.specs.declared.Share.TheVariants.{Named, NoneGiven}
+
+-- a share that the caller names, or that none is given
+abbrev pub Share : Type 0
+Share = Option ℕ
 
 -- "a number given to the monitor, .. and 90 where the caller gives none": how many hundredths
 abbrev pub hundredths : Share → ℕ
-hundredths (Named n) = n
-hundredths NoneGiven = 90
+hundredths (Some n) = n
+hundredths None = 90
 
 -- "50 to 100"; 44 is for "a share outside 50 to 100"
 abbrev pub share_fits_spec : Share → Bool

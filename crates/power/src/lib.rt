@@ -9,19 +9,21 @@
 mod observed;
 mod rules;
 mod shares;
+mod tested;
 
-ghost use Rattle.std.specs.Prelude.{◌≡◌};
-ghost use Rattle.power.specs.Shares.{hundredths};
-ghost use Rattle.power.specs.States.{state_number, state_numbered};
+ghost use Rattle.std.specs.Prelude.{◌≡◌, Err};
+ghost use Rattle.power.specs.States.{state_number, state_or_not};
 ghost use Rattle.power.specs.Rules.{starts_as};
-ghost use Rattle.power.specs.Refusals.{open_or_closed, relays_fit_spec, commands_fit_spec, readings_fit_spec, step_of};
+ghost use Rattle.power.specs.Refusals.{power_refusal, open_or_closed, relays_fit_spec, commands_fit_spec, readings_fit_spec, step_of, state_if_taken};
 
 use catalogue::Raw;
 pub use observed::precharge_complete;
 use rules::next_state;
+pub use shares::hundredths;
 use shares::share_fits;
+use tested::Tested;
 
-#[derive(Clone, Copy)]
+#[derive(Clone, Copy, Debug, PartialEq, Eq)]
 pub enum State {
     Off,
     Rising,
@@ -32,20 +34,9 @@ pub enum State {
     Fault,
 }
 
-// What a number stands for: a state, or none.
-#[derive(Clone, Copy)]
-pub enum StateOrNone {
-    State(State),
-    NoState,
-}
-
-// The share of the voltage inside, in hundredths, that the one outside has to reach before precharge is complete: the one
-// that the caller names, or that none is given, which is a case of its own and no number.
-#[derive(Clone, Copy)]
-pub enum Share {
-    Named(u32),
-    NoneGiven,
-}
+// A number that stands for no state.
+#[derive(Clone, Copy, Debug, PartialEq, Eq)]
+pub struct NotAState(pub u32);
 
 // Raw counts, as read from frames, and the share that comes with them.
 #[derive(Clone, Copy)]
@@ -63,12 +54,13 @@ pub struct Observation {
     // 201 and 202: the voltages on either side of the main positive relay.
     pub inside: Raw,
     pub outside: Raw,
-    pub share: Share,
+    // The share of the voltage inside, in hundredths, that the one outside has to reach before precharge is complete: the one that
+    // the caller names, or that none is given, which is a case of its own and no number.
+    pub share: Option<u32>,
 }
 
-#[derive(Clone, Copy)]
-pub enum PowerAnswer {
-    Taken,
+#[derive(Clone, Copy, Debug, PartialEq, Eq)]
+pub enum PowerRefusal {
     // A relay count is neither 1 nor 2.
     NeitherOpenNorClosed,
     // The command or 1604 is over 3.
@@ -77,13 +69,6 @@ pub enum PowerAnswer {
     ReadingTooHigh,
     // The share is under 50 or over 100.
     ShareOutOfRange,
-}
-
-// The state after a step, and what the step answered.
-#[derive(Clone, Copy)]
-pub struct Stepped {
-    pub state: State,
-    pub answer: PowerAnswer,
 }
 
 // A relay count: open, closed.
@@ -97,21 +82,6 @@ const HIGHEST_COMMAND: u32 = 3;
 // The highest current and voltage: all 16 bits set.
 const HIGHEST_READING: u32 = 65535;
 
-// The share where none is given.
-const SHARE_WHERE_NONE: u32 = 90;
-
-impl Share {
-    // How many hundredths are asked for.
-    pub fn hundredths(self) -> u32
-        ensures { result ≡ hundredths self }
-    {
-        match self {
-            Share::Named(named) => named,
-            Share::NoneGiven => SHARE_WHERE_NONE,
-        }
-    }
-}
-
 impl State {
     // The state that a monitor starts in.
     pub fn start() -> State
@@ -119,12 +89,14 @@ impl State {
     {
         State::Off
     }
+}
 
-    // 0 off, 1 rising, 2 precharge, 3 both, 4 on, 5 falling, 6 fault.
-    pub fn number(self) -> u32
-        ensures { result ≡ state_number self }
-    {
-        match self {
+// 0 off, 1 rising, 2 precharge, 3 both, 4 on, 5 falling, 6 fault.
+impl From<State> for u32 {
+    ghost from_gives = { λ state number. number ≡ state_number state };
+
+    fn from(state: State) -> u32 {
+        match state {
             State::Off => 0,
             State::Rising => 1,
             State::Precharge => 2,
@@ -134,20 +106,38 @@ impl State {
             State::Fault => 6,
         }
     }
+}
 
-    // The state of a number, where there is one.
-    pub fn numbered(n: u32) -> StateOrNone
-        ensures { result ≡ state_numbered n }
-    {
+// The state of a number, where there is one.
+impl TryFrom<u32> for State {
+    type Error = NotAState;
+
+    ghost try_from_gives = { λ n state. state ≡ state_or_not n };
+
+    fn try_from(n: u32) -> Result<State, NotAState> {
         match n {
-            0 => StateOrNone::State(State::Off),
-            1 => StateOrNone::State(State::Rising),
-            2 => StateOrNone::State(State::Precharge),
-            3 => StateOrNone::State(State::Both),
-            4 => StateOrNone::State(State::On),
-            5 => StateOrNone::State(State::Falling),
-            6 => StateOrNone::State(State::Fault),
-            _ => StateOrNone::NoState,
+            0 => Ok(State::Off),
+            1 => Ok(State::Rising),
+            2 => Ok(State::Precharge),
+            3 => Ok(State::Both),
+            4 => Ok(State::On),
+            5 => Ok(State::Falling),
+            6 => Ok(State::Fault),
+            _ => Err(NotAState(n)),
+        }
+    }
+}
+
+// The documents' number of each refusal.
+impl From<PowerRefusal> for u32 {
+    ghost from_gives = { λ why number. number ≡ power_refusal (Err why) };
+
+    fn from(why: PowerRefusal) -> u32 {
+        match why {
+            PowerRefusal::NeitherOpenNorClosed => 41,
+            PowerRefusal::CommandTooHigh => 42,
+            PowerRefusal::ReadingTooHigh => 43,
+            PowerRefusal::ShareOutOfRange => 44,
         }
     }
 }
@@ -181,9 +171,9 @@ fn readings_fit(seen: Observation) -> bool
         & (seen.outside.0 <= HIGHEST_READING)
 }
 
-// One step: the state that follows, or a refusal and the state kept.
-pub fn step(state: State, seen: Observation) -> Stepped
-    ensures { result ≡ step_of state seen }
+// One step: the state that follows, or a refusal, and the caller keeps its state.
+pub fn step(state: State, seen: Observation) -> Result<State, PowerRefusal>
+    ensures { result ≡ state_if_taken (step_of state seen) }
 {
     let relays = relays_fit(seen);
     let commands = commands_fit(seen);
@@ -191,32 +181,16 @@ pub fn step(state: State, seen: Observation) -> Stepped
     let share = seen.share;
     let fitting = share_fits(share);
     if !relays {
-        return Stepped {
-            state,
-            answer: PowerAnswer::NeitherOpenNorClosed,
-        };
+        return Err(PowerRefusal::NeitherOpenNorClosed);
     }
     if !commands {
-        return Stepped {
-            state,
-            answer: PowerAnswer::CommandTooHigh,
-        };
+        return Err(PowerRefusal::CommandTooHigh);
     }
     if !readings {
-        return Stepped {
-            state,
-            answer: PowerAnswer::ReadingTooHigh,
-        };
+        return Err(PowerRefusal::ReadingTooHigh);
     }
     if !fitting {
-        return Stepped {
-            state,
-            answer: PowerAnswer::ShareOutOfRange,
-        };
+        return Err(PowerRefusal::ShareOutOfRange);
     }
-    let next = next_state(state, seen);
-    Stepped {
-        state: next,
-        answer: PowerAnswer::Taken,
-    }
+    Ok(next_state(state, Tested { seen }))
 }

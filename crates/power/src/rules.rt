@@ -1,124 +1,107 @@
 // Document 01's rules 1 to 5: the state that follows an observation whose relays are each open or closed.
-ghost use Rattle.std.specs.Prelude.{◌≡◌, true, cond, ◌&&◌};
+ghost use Rattle.std.specs.Prelude.{◌≡◌, cond, ◌&&◌};
 ghost use Rattle.power.specs.Observed.{all_open_spec, urgent};
 ghost use Rattle.power.specs.Pictures.{picture};
-ghost use Rattle.power.specs.Refusals.{relays_fit_spec};
 ghost use Rattle.power.specs.Rules.{steps, first_step_spec, from_fault_spec, next_state_spec};
-ghost use Rattle.power.specs.declared.State.TheVariants.{Off, Rising, Precharge, Both, On, Falling};
+ghost use Rattle.power.specs.declared.State.TheVariants.{Off, Rising, Precharge, On, Fault};
 
+use crate::State;
 use crate::observed::{all_open, is_under_10_amps, is_urgent, precharge_complete, shows_picture};
-use crate::{Observation, State};
+use crate::tested::Tested;
 
 // Rules 3 to 5, from each state but fault.
 
-fn from_off(seen: Observation) -> State
-    requires { relays_fit_spec seen ≡ true }
-    ensures { result ≡ first_step_spec steps Off seen }
+fn from_off(tested: Tested) -> State
+    ensures { result ≡ first_step_spec steps Off tested.seen }
 {
-    if shows_picture(State::Rising, seen) & (seen.command.0 == 1) {
+    if shows_picture(State::Rising, tested) & (tested.seen.command.0 == 1) {
         return State::Rising;
     }
     State::Fault
 }
 
-fn from_rising(seen: Observation) -> State
-    requires { relays_fit_spec seen ≡ true }
-    ensures { result ≡ first_step_spec steps Rising seen }
+fn from_rising(tested: Tested) -> State
+    ensures { result ≡ first_step_spec steps Rising tested.seen }
 {
-    if shows_picture(State::Precharge, seen) & (seen.command.0 == 1) {
+    if shows_picture(State::Precharge, tested) & (tested.seen.command.0 == 1) {
         return State::Precharge;
     }
-    if shows_picture(State::Off, seen) & (seen.command.0 == 2) {
+    if shows_picture(State::Off, tested) & (tested.seen.command.0 == 2) {
         return State::Off;
     }
     State::Fault
 }
 
-fn from_precharge(seen: Observation) -> State
-    requires { relays_fit_spec seen ≡ true }
-    ensures { result ≡ first_step_spec steps Precharge seen }
+fn from_precharge(tested: Tested) -> State
+    ensures { result ≡ first_step_spec steps Precharge tested.seen }
 {
-    let share = seen.share;
-    let complete = precharge_complete(seen.inside, seen.outside, share);
-    if shows_picture(State::Both, seen) & ((seen.command.0 == 1) & complete) {
+    let share = tested.seen.share;
+    let complete = precharge_complete(tested.seen.inside, tested.seen.outside, share);
+    if shows_picture(State::Both, tested) & ((tested.seen.command.0 == 1) & complete) {
         return State::Both;
     }
-    let down = (seen.command.0 == 2) | is_urgent(seen);
-    if shows_picture(State::Falling, seen) & down {
+    let down = (tested.seen.command.0 == 2) | is_urgent(tested.seen);
+    if shows_picture(State::Falling, tested) & down {
         return State::Falling;
     }
     State::Fault
 }
 
-fn from_both(seen: Observation) -> State
-    requires { relays_fit_spec seen ≡ true }
-    ensures { result ≡ first_step_spec steps Both seen }
+fn from_on(tested: Tested) -> State
+    ensures { result ≡ first_step_spec steps On tested.seen }
 {
-    if shows_picture(State::On, seen) {
-        return State::On;
-    }
-    State::Fault
-}
-
-fn from_on(seen: Observation) -> State
-    requires { relays_fit_spec seen ≡ true }
-    ensures { result ≡ first_step_spec steps On seen }
-{
-    let calm = is_under_10_amps(seen.current);
-    let down = is_urgent(seen) | ((seen.command.0 == 2) & calm);
-    if shows_picture(State::Falling, seen) & down {
+    let calm = is_under_10_amps(tested.seen.current);
+    let down = is_urgent(tested.seen) | ((tested.seen.command.0 == 2) & calm);
+    if shows_picture(State::Falling, tested) & down {
         return State::Falling;
     }
     State::Fault
 }
 
-fn from_falling(seen: Observation) -> State
-    requires { relays_fit_spec seen ≡ true }
-    ensures { result ≡ first_step_spec steps Falling seen }
+// From both and from falling: the only step is one without a condition.
+fn only_to(next: State, tested: Tested) -> State
+    ensures { result ≡ cond (picture next tested.seen) next Fault }
 {
-    if shows_picture(State::Off, seen) {
-        return State::Off;
+    if shows_picture(next, tested) {
+        return next;
     }
     State::Fault
 }
 
-fn from_fault(seen: Observation) -> State
-    requires { relays_fit_spec seen ≡ true }
-    ensures { result ≡ from_fault_spec seen }
+fn from_fault(tested: Tested) -> State
+    ensures { result ≡ from_fault_spec tested.seen }
 {
-    let left = (seen.command.0 == 0) | (seen.command.0 == 2);
-    if all_open(seen) & left {
+    let left = (tested.seen.command.0 == 0) | (tested.seen.command.0 == 2);
+    if all_open(tested) & left {
         return State::Off;
     }
     State::Fault
 }
 
 // Rules 1 and 2, and else where rules 3 to 5 lead.
-fn by_rules(state: State, seen: Observation, stepped: State) -> State
-    requires { relays_fit_spec seen ≡ true }
-    ensures { result ≡ cond (picture state seen) state (cond (urgent seen && all_open_spec seen) Off stepped) }
+fn by_rules(state: State, tested: Tested, stepped: State) -> State
+    ensures { result ≡ cond (picture state tested.seen) state (cond (urgent tested.seen && all_open_spec tested.seen) Off stepped) }
 {
-    if shows_picture(state, seen) {
+    if shows_picture(state, tested) {
         return state;
     }
-    let urgent = is_urgent(seen);
-    if urgent & all_open(seen) {
+    let urgent = is_urgent(tested.seen);
+    if urgent & all_open(tested) {
         return State::Off;
     }
     stepped
 }
 
-pub fn next_state(state: State, seen: Observation) -> State
-    requires { relays_fit_spec seen ≡ true }
-    ensures { result ≡ next_state_spec state seen }
+pub fn next_state(state: State, tested: Tested) -> State
+    ensures { result ≡ next_state_spec state tested.seen }
 {
     match state {
-        State::Off => by_rules(State::Off, seen, from_off(seen)),
-        State::Rising => by_rules(State::Rising, seen, from_rising(seen)),
-        State::Precharge => by_rules(State::Precharge, seen, from_precharge(seen)),
-        State::Both => by_rules(State::Both, seen, from_both(seen)),
-        State::On => by_rules(State::On, seen, from_on(seen)),
-        State::Falling => by_rules(State::Falling, seen, from_falling(seen)),
-        State::Fault => from_fault(seen),
+        State::Off => by_rules(State::Off, tested, from_off(tested)),
+        State::Rising => by_rules(State::Rising, tested, from_rising(tested)),
+        State::Precharge => by_rules(State::Precharge, tested, from_precharge(tested)),
+        State::Both => by_rules(State::Both, tested, only_to(State::On, tested)),
+        State::On => by_rules(State::On, tested, from_on(tested)),
+        State::Falling => by_rules(State::Falling, tested, only_to(State::Off, tested)),
+        State::Fault => from_fault(tested),
     }
 }

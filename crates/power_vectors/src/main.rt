@@ -5,38 +5,31 @@
 
 use catalogue::Raw;
 use numerals::identifier_or_0;
-use power::{Observation, PowerAnswer, Share, State, StateOrNone};
+use power::{Observation, State};
 use streams::{print_bytes, print_decimal, read_full};
 
 const MOST_LINES: u32 = 1000000;
 
-fn digit(byte: u8) -> u32 {
-    if byte < b'0' {
-        return 9;
-    }
-    (byte - b'0') as u32
-}
-
-// The state that a line begins with.
-fn state_of(byte: u8) -> StateOrNone {
+// The state that a line begins with: what is no digit is no state's.
+fn state_of(byte: u8) -> Option<State> {
     if byte == b'N' {
-        return StateOrNone::State(State::start());
+        return Some(State::start());
     }
-    State::numbered(digit(byte))
+    State::try_from(u32::from(byte.wrapping_sub(b'0'))).ok()
 }
 
 fn raw_of(digits: &[u8]) -> Raw {
     Raw(identifier_or_0(digits))
 }
 
-fn share_of(line: [u8; 74]) -> Share {
+fn share_of(line: &[u8; 74]) -> Option<u32> {
     if line[65] == b'-' {
-        return Share::NoneGiven;
+        return None;
     }
-    Share::Named(identifier_or_0(&line[65..73]))
+    Some(identifier_or_0(&line[65..73]))
 }
 
-fn observed(line: [u8; 74]) -> Observation {
+fn observed(line: &[u8; 74]) -> Observation {
     Observation {
         main_negative: raw_of(&line[1..9]),
         precharge: raw_of(&line[9..17]),
@@ -50,26 +43,17 @@ fn observed(line: [u8; 74]) -> Observation {
     }
 }
 
+fn print_number(rt: &impl Print, number: u32) {
+    print_decimal(rt, u64::from(number));
+    print_bytes(rt, b"\n");
+}
+
 fn step(rt: &impl Print, state: State, seen: Observation) {
-    let after = power::step(state, seen);
-    let answer = after.answer;
-    match answer {
-        PowerAnswer::Taken => {
-            let next = after.state;
-            print_decimal(rt, next.number() as u64);
-            print_bytes(rt, b"\n");
-        }
-        PowerAnswer::NeitherOpenNorClosed => {
-            print_bytes(rt, b"no\t41\n");
-        }
-        PowerAnswer::CommandTooHigh => {
-            print_bytes(rt, b"no\t42\n");
-        }
-        PowerAnswer::ReadingTooHigh => {
-            print_bytes(rt, b"no\t43\n");
-        }
-        PowerAnswer::ShareOutOfRange => {
-            print_bytes(rt, b"no\t44\n");
+    match power::step(state, seen) {
+        Ok(next) => print_number(rt, u32::from(next)),
+        Err(why) => {
+            print_bytes(rt, b"no\t");
+            print_number(rt, u32::from(why));
         }
     }
 }
@@ -81,9 +65,9 @@ fn main(rt: HostRuntime) {
         if read_full(&mut input, &mut line) < 74 {
             return;
         }
-        match state_of(line[0]) {
-            StateOrNone::State(state) => step(&rt, state, observed(line)),
-            StateOrNone::NoState => return,
-        }
+        let Some(state) = state_of(line[0]) else {
+            return;
+        };
+        step(&rt, state, observed(&line));
     }
 }

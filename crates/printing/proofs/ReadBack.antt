@@ -5,7 +5,7 @@ use mathlib.Core.List.{List, [], ◌∷◌}
 use Prim.Native.Nat.{ℕ, zero, suc, ◌≤◌}
 use native.Mathlib.Omega.{arith}
 use lib.ListN.{length, get_or}
-use Rattle.numerals.specs.declared.Number.TheVariants.{Is}
+use Rattle.std.specs.Prelude.{Some}
 use Rattle.numerals.specs.Numeral.{numeral_from, needless_zero}
 use Rattle.numerals.specs.Written.{digits_of_spec}
 use Rattle.numerals.proofs.Digits.{numeral_read, NumeralText, numeral_written}
@@ -13,7 +13,7 @@ use Rattle.numerals.proofs.Decimals.{written_well, not_less}
 use Rattle.printing.specs.Decimal.{digit_count_spec, natural_text}
 use Rattle.printing.proofs.Counting.{Sized, count_holds, count_some, count_sized, sized_count}
 
-pub natural_read : (n : ℕ) → numeral_from 10 0 (natural_text n) ≡ Is n
+pub natural_read : (n : ℕ) → numeral_from 10 0 (natural_text n) ≡ Some n
 unfolding natural_text
 natural_read n = numeral_read 10 (omega arith) (omega arith) (digit_count_spec n) n (count_holds n)
 
@@ -25,7 +25,7 @@ natural_well n = go (digit_count_spec n) refl
     go zero e = absurd (omega (arith, count_some n))
     go (suc k) e = let s : Sized n k = count_sized n k e in written_well n k s.below s.above
 
-pub natural_only : (l : List ℕ) (n : ℕ) → 1 ≤ length l → needless_zero l ≡ false → numeral_from 10 0 l ≡ Is n → l ≡ natural_text n
+pub natural_only : (l : List ℕ) (n : ℕ) → 1 ≤ length l → needless_zero l ≡ false → numeral_from 10 0 l ≡ Some n → l ≡ natural_text n
 unfolding natural_text digits_of_spec
 natural_only [] n h z e = absurd (omega arith)
 natural_only (b ∷ t) n h z e =

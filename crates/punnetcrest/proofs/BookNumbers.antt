@@ -2,15 +2,17 @@
 use Prim.Native.Nat.{ℕ}
 use mathlib.Core.Path.{◌≡◌, refl, sym, ap, ◌∙◌}
 use mathlib.Core.List.{List}
-use Rattle.answers.specs.declared.Answer.{Answer}
+use Rattle.std.specs.Prelude.{Result}
+use Rattle.answers.specs.declared.Counts.{Counts}
+use Rattle.answers.specs.declared.Refused.{Refused}
 use Rattle.answers.specs.Numbers.{Said, said}
 use Rattle.book.specs.Answered.{Answered}
 use Rattle.book.proofs.Once.{there, answered_once}
 use Rattle.punnetcrest.specs.Booking.{number_in, line_in, BookRead}
 
-pub as_read : {text words : List ℕ} {given told : Answer} → Answered text (said given) words → given ≡ told
+pub as_read : {text words : List ℕ} {given told : Result Counts Refused} → Answered text (said given) words → given ≡ told
     → BookRead text (number_in (said told)) words (line_in (said told))
-as_read {given = given} a t = record { said = said given; answer = a; number = ap (λ (x : Answer). number_in (said x)) (sym t); line = ap (λ (x : Answer). line_in (said x)) (sym t) }
+as_read {given = given} a t = record { said = said given; answer = a; number = ap (λ (x : Result Counts Refused). number_in (said x)) (sym t); line = ap (λ (x : Result Counts Refused). line_in (said x)) (sym t) }
 
 module _ (text : List ℕ) where
   -- the one outcome: the number, the book's words and the line

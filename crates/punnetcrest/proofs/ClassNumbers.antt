@@ -4,46 +4,49 @@ use mathlib.Core.Path.{◌≡◌, refl, ap}
 use native.Mathlib.Omega.{arith}
 use lib.IntN.{ℤ}
 use borrow.Author.Tests.{eq-eqb, ne_eqb}
+use Rattle.std.specs.Prelude.{Result, Ok, Err}
 use Rattle.catalogue.specs.declared.Class.{Class}
-use Rattle.catalogue.specs.declared.Class.TheVariants.{Value, Invalid, Absent, Error, Reserved, Outside, NotInCatalogue, TooWide}
+use Rattle.catalogue.specs.declared.NoClass.{NoClass}
+use Rattle.catalogue.specs.declared.Class.TheVariants.{Value, Invalid, Absent, Error, Reserved, Outside}
+use Rattle.catalogue.specs.declared.NoClass.TheVariants.{NotInCatalogue, TooWide}
 use Rattle.catalogue.specs.Class.{class_of_spec, class_number}
 use Rattle.framing.specs.Reading.{class_code}
 use Rattle.messages.specs.Signals.{numbers_of_class}
 use Rattle.punnetcrest.specs.Classing.{classed}
 
 -- the code of a class tells its refusal's number
-no_signal : (c : Class) → class_code c ≡ 6 → class_number c ≡ 3
-no_signal (Value t) e = absurd (omega (arith, e))
-no_signal (Invalid r) e = absurd (omega (arith, e))
-no_signal (Absent r) e = absurd (omega (arith, e))
-no_signal (Error r) e = absurd (omega (arith, e))
-no_signal (Reserved r) e = absurd (omega (arith, e))
-no_signal (Outside r) e = absurd (omega (arith, e))
-no_signal NotInCatalogue e = refl
-no_signal TooWide e = absurd (omega (arith, e))
+no_signal : (c : Result Class NoClass) → class_code c ≡ 6 → class_number c ≡ 3
+no_signal (Ok (Value t)) e = absurd (omega (arith, e))
+no_signal (Ok (Invalid r)) e = absurd (omega (arith, e))
+no_signal (Ok (Absent r)) e = absurd (omega (arith, e))
+no_signal (Ok (Error r)) e = absurd (omega (arith, e))
+no_signal (Ok (Reserved r)) e = absurd (omega (arith, e))
+no_signal (Ok (Outside r)) e = absurd (omega (arith, e))
+no_signal (Err NotInCatalogue) e = refl
+no_signal (Err TooWide) e = absurd (omega (arith, e))
 
-too_wide : (c : Class) → class_code c ≡ 7 → class_number c ≡ 26
-too_wide (Value t) e = absurd (omega (arith, e))
-too_wide (Invalid r) e = absurd (omega (arith, e))
-too_wide (Absent r) e = absurd (omega (arith, e))
-too_wide (Error r) e = absurd (omega (arith, e))
-too_wide (Reserved r) e = absurd (omega (arith, e))
-too_wide (Outside r) e = absurd (omega (arith, e))
-too_wide NotInCatalogue e = absurd (omega (arith, e))
-too_wide TooWide e = refl
+too_wide : (c : Result Class NoClass) → class_code c ≡ 7 → class_number c ≡ 26
+too_wide (Ok (Value t)) e = absurd (omega (arith, e))
+too_wide (Ok (Invalid r)) e = absurd (omega (arith, e))
+too_wide (Ok (Absent r)) e = absurd (omega (arith, e))
+too_wide (Ok (Error r)) e = absurd (omega (arith, e))
+too_wide (Ok (Reserved r)) e = absurd (omega (arith, e))
+too_wide (Ok (Outside r)) e = absurd (omega (arith, e))
+too_wide (Err NotInCatalogue) e = absurd (omega (arith, e))
+too_wide (Err TooWide) e = refl
 
-one_of_six : (c : Class) → (class_code c ≡ 6 → ⊥) → (class_code c ≡ 7 → ⊥) → class_number c ≡ 0
-one_of_six (Value t) n w = refl
-one_of_six (Invalid r) n w = refl
-one_of_six (Absent r) n w = refl
-one_of_six (Error r) n w = refl
-one_of_six (Reserved r) n w = refl
-one_of_six (Outside r) n w = refl
-one_of_six NotInCatalogue n w = absurd (n refl)
-one_of_six TooWide n w = absurd (w refl)
+one_of_six : (c : Result Class NoClass) → (class_code c ≡ 6 → ⊥) → (class_code c ≡ 7 → ⊥) → class_number c ≡ 0
+one_of_six (Ok (Value t)) n w = refl
+one_of_six (Ok (Invalid r)) n w = refl
+one_of_six (Ok (Absent r)) n w = refl
+one_of_six (Ok (Error r)) n w = refl
+one_of_six (Ok (Reserved r)) n w = refl
+one_of_six (Ok (Outside r)) n w = refl
+one_of_six (Err NotInCatalogue) n w = absurd (n refl)
+one_of_six (Err TooWide) n w = absurd (w refl)
 
 module _ (number raw code : ℕ) (reading : ℤ) {k : ℕ} {t : ℤ} (is : ◌≡◌ {A = ℤ × ℕ} (t, k) (numbers_of_class number (record { 0 = raw }))) where
-  abbrev class : Class
+  abbrev class : Result Class NoClass
   class = class_of_spec number (record { 0 = raw })
 
   same_code : k ≡ class_code class

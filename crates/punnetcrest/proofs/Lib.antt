@@ -7,6 +7,4 @@ pub mod PowerNumbers
 pub mod PowerShares
 pub mod SleepNumbers
 pub mod SpreadNumbers
-pub mod SumNumbers
-pub mod UnpackNumbers
 pub mod WriteNumbers

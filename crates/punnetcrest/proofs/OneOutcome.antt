@@ -16,7 +16,7 @@ use denote.Bor.{Bor}
 use denote.Ref.{MutBor, at_last}
 use Rattle.only.specs.Only.{Only, only_this}
 use Rattle.framing.proofs.CodedSlices.{coded_slices}
-use Rattle.power.specs.declared.Share.TheVariants.{Named, NoneGiven}
+use Rattle.std.specs.Prelude.{Some, None}
 use Rattle.punnetcrest.specs.Booking.{BookRead}
 use Rattle.punnetcrest.specs.BookText.{WriteCall}
 use Rattle.punnetcrest.specs.Classing.{classed}
@@ -94,11 +94,11 @@ module _ {M : Type 1} {𝓤 : Ura M} (𝓛 : Logic 𝓤) (mem : Memory → SProp
 
   pub one_power_step : (κs : Lfts 2) (state : MutBor ℕ) (seen : Bor (List ℕ))
       → Only 𝓤 (λ (x : ℕ × ℕ). (power-step.clauses 𝓛 mem run κs (state, (seen, tt))).ensures tt x.0 (at_last state x.1, (seen, tt)))
-  one_power_step κs state seen = only_this 𝓤 _ (coded× coded_ℕ coded_ℕ) (stepped state.now seen.now NoneGiven) (λ x. refl)
+  one_power_step κs state seen = only_this 𝓤 _ (coded× coded_ℕ coded_ℕ) (stepped state.now seen.now None) (λ x. refl)
 
   pub one_power_step_by : (κs : Lfts 2) (state : MutBor ℕ) (seen : Bor (List ℕ)) (share : ℕ)
       → Only 𝓤 (λ (x : ℕ × ℕ). (power-step-by.clauses 𝓛 mem run κs (state, (seen, (share, tt)))).ensures tt x.0 (at_last state x.1, (seen, (share, tt))))
-  one_power_step_by κs state seen share = only_this 𝓤 _ (coded× coded_ℕ coded_ℕ) (stepped state.now seen.now (Named share)) (λ x. refl)
+  one_power_step_by κs state seen share = only_this 𝓤 _ (coded× coded_ℕ coded_ℕ) (stepped state.now seen.now (Some share)) (λ x. refl)
 
   pub one_sleep_start : (κs : Lfts 2) (last asleep : MutBor ℕ) (time : ℕ)
       → Only 𝓤 (λ (x : ℕ × (ℕ × ℕ)). (sleep-start.clauses 𝓛 mem run κs (last, (asleep, (time, tt)))).ensures tt x.0 (at_last last x.1.0, (at_last asleep x.1.1, (time, tt))))

@@ -2,18 +2,17 @@
 use Prim.Native.Nat.{ℕ}
 use mathlib.Core.List.{List}
 use mathlib.Core.Path.{◌≡◌, refl, ap}
-use Rattle.power.specs.declared.Share.TheVariants.{Named, NoneGiven}
-use Rattle.power.specs.declared.StateOrNone.{StateOrNone}
-use Rattle.power.specs.declared.StateOrNone.TheVariants.{State, NoState}
+use Rattle.std.specs.Prelude.{Option, Some, None}
+use Rattle.power.specs.declared.State.{State}
 use Rattle.power.specs.States.{state_numbered}
 use Rattle.power.proofs.AsBefore.{as_before}
 use Rattle.punnetcrest.specs.Powering.{seen_in, stepped_in_numbers, stepped_from, stepped}
 use Rattle.punnetcrest.specs.PoweringBefore.{stepped_from_before_p6, stepped_before_p6}
 
 module _ (state : ℕ) (seen : List ℕ) where
-  pub named_95 : stepped state seen (Named 95) ≡ stepped_before_p6 state seen
+  pub named_95 : stepped state seen (Some 95) ≡ stepped_before_p6 state seen
   named_95 = go (state_numbered state)
     where
-      go : (from : StateOrNone) → stepped_from from state seen (Named 95) ≡ stepped_from_before_p6 from state seen
-      go (State from) = ap stepped_in_numbers (as_before (seen_in seen NoneGiven) from)
-      go NoState = refl
+      go : (from : Option State) → stepped_from from state seen (Some 95) ≡ stepped_from_before_p6 from state seen
+      go (Some from) = ap stepped_in_numbers (as_before (seen_in seen None) from)
+      go None = refl

@@ -1,10 +1,12 @@
 -- From the library's own answer to what the call returns and leaves; and that nothing else is allowed. Assumes nothing.
 use Prim.Native.Nat.{ℕ}
-use mathlib.Core.Path.{◌≡◌, refl, ap, ◌∙◌, subst}
+use mathlib.Core.Path.{◌≡◌, refl, sym, ap, ◌∙◌, subst}
 use mathlib.Core.List.{List}
-use Rattle.routes.specs.declared.Sent.{Sent}
-use Rattle.routes.specs.Answers.{SpreadAnswer, sent_number, place_count}
-use Rattle.routes.proofs.Decided.{SpreadLeft, answered, answer_once}
+use Rattle.std.specs.Prelude.{Err}
+use Rattle.routes.specs.declared.SpreadRefusal.{SpreadRefusal}
+use Rattle.routes.specs.declared.SpreadRefusal.TheVariants.{NotABook, NoSuchPlace, NoRoom}
+use Rattle.routes.specs.Answers.{SpreadAnswer, spread_refusal_number, sent_number, place_count}
+use Rattle.routes.proofs.Decided.{Sent, SpreadLeft, answered, answer_once}
 use Rattle.punnetcrest.specs.Counted.{count_left}
 use Rattle.punnetcrest.specs.Spreading.{SpreadCall}
 
@@ -12,6 +14,16 @@ module _ (words : List ℕ) (bus identifier : ℕ) (room : List ℕ) (count : �
   pub as_spread : {after : List ℕ} {given told : Sent} → SpreadAnswer words bus identifier room (sent_number given) (place_count given) after → given ≡ told
       → SpreadCall words bus identifier room count (sent_number told) after (count_left (sent_number told) (place_count told) count)
   as_spread {after} {told = told} a t = record { written = place_count told; answer = subst (λ (s : Sent). SpreadAnswer words bus identifier room (sent_number s) (place_count s) after) t a; count_after = refl }
+
+  -- a refusal's number is returned, and the count stays
+  pub refused : {after : List ℕ} {given : Sent} (refusal : SpreadRefusal) {r : ℕ} → SpreadAnswer words bus identifier room (sent_number given) (place_count given) after
+      → given ≡ Err refusal → r ≡ spread_refusal_number refusal → SpreadCall words bus identifier room count r after count
+  refused {after} {given} refusal {r} a t e = subst (λ (k : ℕ). SpreadCall words bus identifier room count k after count) (sym e) (go refusal t)
+    where
+      go : (x : SpreadRefusal) → given ≡ Err x → SpreadCall words bus identifier room count (spread_refusal_number x) after count
+      go NotABook f = as_spread a f
+      go NoSuchPlace f = as_spread a f
+      go NoRoom f = as_spread a f
 
   -- the one outcome: the number, the room and the count
   pub spread_outcome : ℕ × (List ℕ × ℕ)

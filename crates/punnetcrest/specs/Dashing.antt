@@ -1,7 +1,7 @@
 -- What the dash draws, in numbers: what the call returns, with *class_code and *reading as it leaves them. Assumes nothing.
-use Rattle.std.specs.Prelude.{ℕ, Float}
-use Rattle.dash.specs.declared.DashAnswer.{DashAnswer}
-use Rattle.dash.specs.declared.DashAnswer.TheVariants.{Shown, NotInCatalogue, TooWide}
+use Rattle.std.specs.Prelude.{ℕ, Float, Result, Ok, Err}
+use Rattle.catalogue.specs.declared.NoClass.{NoClass}
+use Rattle.dash.specs.declared.Dash.{Dash}
 use Rattle.dash.specs.Answer.{dash_of, dash_number, ClassName, value, invalid, absent, error, reserved, outside, shown_class, shown_reading}
 
 -- the code of a class: that of pc_class
@@ -14,10 +14,9 @@ name_code reserved = 4
 name_code outside = 5
 
 -- a refusal leaves both
-abbrev pub dashed_in_numbers : DashAnswer → ℕ → Float → ℕ × (ℕ × Float)
-dashed_in_numbers (Shown d) code reading = (0, (name_code (shown_class d), shown_reading d))
-dashed_in_numbers NotInCatalogue code reading = (dash_number NotInCatalogue, (code, reading))
-dashed_in_numbers TooWide code reading = (dash_number TooWide, (code, reading))
+abbrev pub dashed_in_numbers : Result Dash NoClass → ℕ → Float → ℕ × (ℕ × Float)
+dashed_in_numbers (Ok d) code reading = (0, (name_code (shown_class d), shown_reading d))
+dashed_in_numbers (Err e) code reading = (dash_number (Err e), (code, reading))
 
 -- pc_dash
 abbrev pub dashed : ℕ → ℕ → ℕ → Float → ℕ × (ℕ × Float)

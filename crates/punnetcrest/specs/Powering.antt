@@ -1,14 +1,12 @@
 -- The power monitor in numbers: what a call returns, with *state as it leaves it. Assumes nothing.
-use Rattle.std.specs.Prelude.{ℕ, List, get_or}
+use Rattle.std.specs.Prelude.{ℕ, List, get_or, Option, Some, None}
 use Rattle.catalogue.specs.declared.Raw.{Raw}
 use Rattle.power.specs.declared.Observation.{Observation}
-use Rattle.power.specs.declared.Share.{Share}
-use Rattle.power.specs.declared.StateOrNone.{StateOrNone}
-use Rattle.power.specs.declared.StateOrNone.TheVariants.{State, NoState}
-use Rattle.power.specs.declared.Stepped.{Stepped}
+use Rattle.power.specs.declared.State.{State}
+use Rattle.power.specs.Shares.{Share}
 use Rattle.power.specs.States.{state_number, state_numbered}
 use Rattle.power.specs.Rules.{starts_as}
-use Rattle.power.specs.Refusals.{power_refusal, step_of}
+use Rattle.power.specs.Refusals.{Stepped, power_refusal, step_of}
 
 -- PC_POWER_START, the first *state: "A monitor starts off"
 abbrev pub power_start : ℕ
@@ -40,9 +38,9 @@ abbrev pub stepped_in_numbers : Stepped → ℕ × ℕ
 stepped_in_numbers s = (power_refusal s.answer, state_number s.state)
 
 -- the step from the state that a number stands for; a number that stands for none is kept
-abbrev pub stepped_from : StateOrNone → ℕ → List ℕ → Share → ℕ × ℕ
-stepped_from (State from) kept seen share = stepped_in_numbers (step_of from (seen_in seen share))
-stepped_from NoState kept seen share = (not_a_power_state, kept)
+abbrev pub stepped_from : Option State → ℕ → List ℕ → Share → ℕ × ℕ
+stepped_from (Some from) kept seen share = stepped_in_numbers (step_of from (seen_in seen share))
+stepped_from None kept seen share = (not_a_power_state, kept)
 
 -- pc_power_step_by with the share that it names, and pc_power_step with none given
 abbrev pub stepped : ℕ → List ℕ → Share → ℕ × ℕ

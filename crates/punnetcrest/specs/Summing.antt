@@ -1,9 +1,7 @@
 -- The fault sum in numbers: what the call returns, with the seven words lent for the sum as it leaves them. Assumes nothing.
-use Rattle.std.specs.Prelude.{ℕ, cond, List, [], ◌∷◌}
+use Rattle.std.specs.Prelude.{ℕ, cond, List, [], ◌∷◌, Ok, Err}
 use Rattle.faults.specs.declared.FaultSum.{FaultSum}
-use Rattle.faults.specs.declared.FaultAnswer.{FaultAnswer}
-use Rattle.faults.specs.declared.FaultAnswer.TheVariants.{Summed, NotTwentySeven, TooWide}
-use Rattle.faults.specs.Sum.{fault_refusal, answer_to}
+use Rattle.faults.specs.Sum.{FaultAnswer, fault_refusal, answer_to}
 
 -- highest, at 1, at 2, at 3, set, emergency, agrees; 1 and 0 for yes and no
 abbrev pub sum_words : FaultSum → List ℕ
@@ -12,9 +10,8 @@ sum_words s =
 
 -- a refusal leaves the words
 abbrev pub words_after : FaultAnswer → List ℕ → List ℕ
-words_after (Summed s) words = sum_words s
-words_after NotTwentySeven words = words
-words_after TooWide words = words
+words_after (Ok s) words = sum_words s
+words_after (Err why) words = words
 
 abbrev pub summed_in_numbers : FaultAnswer → List ℕ → ℕ × List ℕ
 summed_in_numbers a words = (fault_refusal a, words_after a words)

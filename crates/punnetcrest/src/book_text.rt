@@ -8,13 +8,11 @@ use record::BOOK_WORDS;
 pub extern "C" fn pc_book_write(book: &[u32; BOOK_WORDS], text: &mut [u8], count: &mut u32) -> u32
     ensures { WriteCall book.now text.old count.old result text.new count.new }
 {
-    let answer = book_writer::write(book, text);
-    match answer {
-        book_writer::Wrote::Length(n) => {
+    match book_writer::write(book, text) {
+        Ok(n) => {
             *count = n;
             0
         }
-        book_writer::Wrote::NotABook => 12,
-        book_writer::Wrote::NoRoom => 71,
+        Err(why) => u32::from(why),
     }
 }

@@ -1,7 +1,6 @@
 // Reading a book's text.
 ghost use Rattle.punnetcrest.specs.Booking.{BookRead};
 
-use answers::Answer;
 use record::BOOK_WORDS;
 
 // Reads a text into the book, or empties the book and writes the line at fault.
@@ -11,13 +10,13 @@ pub extern "C" fn pc_book_read(text: &[u8], book: &mut [u32; BOOK_WORDS], line: 
 {
     let answer = book::read(text, book);
     match answer {
-        Answer::Taken(_, _, _) => {
+        Ok(_) => {
             *line = 0;
             0
         }
-        Answer::Refused(why, at) => {
-            *line = at;
-            why.number()
+        Err(refused) => {
+            *line = refused.line;
+            u32::from(refused.why)
         }
     }
 }

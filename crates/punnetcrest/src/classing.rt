@@ -2,6 +2,7 @@
 ghost use Rattle.std.specs.Prelude.{◌≡◌};
 ghost use Rattle.punnetcrest.specs.Classing.{classed};
 
+// Kept: the C interface has codes of classes, and `messages::class_numbers` answers these two where there is no class.
 // The codes past those of the six classes.
 const NOT_IN_CATALOGUE: u8 = 6;
 

@@ -4,8 +4,9 @@ ghost use Rattle.dash.specs.Answer.{shown_class, shown_reading};
 ghost use Rattle.punnetcrest.specs.Dashing.{name_code, dashed};
 
 use catalogue::Raw;
-use dash::{Dash, DashAnswer};
+use dash::Dash;
 
+// Kept: the C interface, which has the codes of the classes.
 // The code of the class, as pc_class gives it.
 fn code_of(shown: Dash) -> u32
     ensures { result ≡ name_code (shown_class shown) }
@@ -41,12 +42,11 @@ pub extern "C" fn pc_dash(number: u32, raw: u32, class_code: &mut u32, reading: 
 {
     let answer = dash::show(number, Raw(raw));
     match answer {
-        DashAnswer::Shown(shown) => {
+        Ok(shown) => {
             *class_code = code_of(shown);
             *reading = reading_of(shown);
             0
         }
-        DashAnswer::NotInCatalogue => 3,
-        DashAnswer::TooWide => 26,
+        Err(why) => u32::from(why),
     }
 }

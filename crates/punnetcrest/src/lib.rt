@@ -10,7 +10,6 @@ mod book_text;
 mod booking;
 mod classing;
 mod dashing;
-mod numbers;
 mod packing;
 mod powering;
 mod sleeping;

@@ -1,11 +1,11 @@
 // The power monitor, its state as one number: with the share of the call's own, or with none.
 ghost use Rattle.std.specs.Prelude.{◌≡◌};
-ghost use Rattle.power.specs.declared.Share.TheVariants.{Named, NoneGiven};
-ghost use Rattle.power.specs.Refusals.{power_refusal};
 ghost use Rattle.punnetcrest.specs.Powering.{seen_in, stepped};
 
 use catalogue::Raw;
+use power::{Observation, State};
 
+// Kept: the C interface; only there a state is a number, which may be none.
 const NOT_A_POWER_STATE: u32 = 91;
 
 // An observation as a C caller lends it: raw counts, and where each of them stands.
@@ -27,10 +27,10 @@ const INSIDE: usize = 6;
 
 const OUTSIDE: usize = 7;
 
-fn observation_of(seen: &[u32; SEEN_WORDS], share: power::Share) -> power::Observation
+fn observation_of(seen: &[u32; SEEN_WORDS], share: Option<u32>) -> Observation
     ensures { result ≡ seen_in seen.now share }
 {
-    power::Observation {
+    Observation {
         main_negative: Raw(seen[MAIN_NEGATIVE]),
         precharge: Raw(seen[PRECHARGE]),
         main_positive: Raw(seen[MAIN_POSITIVE]),
@@ -43,42 +43,28 @@ fn observation_of(seen: &[u32; SEEN_WORDS], share: power::Share) -> power::Obser
     }
 }
 
-// The documents' number of the monitor's answer.
-fn number_of(answer: power::PowerAnswer) -> u32
-    ensures { result ≡ power_refusal answer }
-{
-    match answer {
-        power::PowerAnswer::Taken => 0,
-        power::PowerAnswer::NeitherOpenNorClosed => 41,
-        power::PowerAnswer::CommandTooHigh => 42,
-        power::PowerAnswer::ReadingTooHigh => 43,
-        power::PowerAnswer::ShareOutOfRange => 44,
-    }
-}
-
 // One observation, and the share that the caller names.
 #[unsafe(no_mangle)]
 pub extern "C" fn pc_power_step_by(state: &mut u32, seen: &[u32; SEEN_WORDS], share: u32) -> u32
-    ensures { (result, state.new) ≡ stepped state.old seen.now (Named share) }
+    ensures { (result, state.new) ≡ stepped state.old seen.now (Some share) }
 {
-    let held = power::State::numbered(*state);
-    match held {
-        power::StateOrNone::State(from) => {
-            let next = power::step(from, observation_of(seen, power::Share::Named(share)));
-            let after = next.state;
-            let answer = next.answer;
-            *state = after.number();
-            number_of(answer)
+    let Ok(from) = State::try_from(*state) else {
+        return NOT_A_POWER_STATE;
+    };
+    match power::step(from, observation_of(seen, Some(share))) {
+        Ok(next) => {
+            *state = u32::from(next);
+            0
         }
-        power::StateOrNone::NoState => NOT_A_POWER_STATE,
+        Err(why) => u32::from(why),
     }
 }
 
 // One observation, and no share given.
 #[unsafe(no_mangle)]
 pub extern "C" fn pc_power_step(state: &mut u32, seen: &[u32; SEEN_WORDS]) -> u32
-    ensures { (result, state.new) ≡ stepped state.old seen.now NoneGiven }
+    ensures { (result, state.new) ≡ stepped state.old seen.now None }
 {
-    let share = power::Share::NoneGiven;
-    pc_power_step_by(state, seen, share.hundredths())
+    let share = None;
+    pc_power_step_by(state, seen, power::hundredths(share))
 }

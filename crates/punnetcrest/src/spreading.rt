@@ -14,14 +14,11 @@ pub extern "C" fn pc_spread(
 ) -> u32
     ensures { SpreadCall book.now bus identifier places.old count.old result places.new count.new }
 {
-    let answer = routes::spread(book, bus, identifier, places);
-    match answer {
-        routes::Sent::Places(n) => {
+    match routes::spread(book, bus, identifier, places) {
+        Ok(n) => {
             *count = n;
             0
         }
-        routes::Sent::NotABook => 12,
-        routes::Sent::NoSuchPlace => 61,
-        routes::Sent::NoRoom => 62,
+        Err(refusal) => u32::from(refusal),
     }
 }

@@ -2,16 +2,12 @@
 ghost use Rattle.std.specs.Prelude.{◌≡◌};
 ghost use Rattle.punnetcrest.specs.Summing.{sum_words, faults_summed};
 
-use crate::numbers;
+use faults::FaultSum;
 
 const SUM_WORDS: usize = 7;
 
-const NOT_27_FAULTS: u32 = 31;
-
-const FAULT_TOO_WIDE: u32 = 32;
-
 // Highest, at 1, at 2, at 3, set, emergency, agrees.
-fn words_of(found: faults::FaultSum) -> [u32; SUM_WORDS]
+fn words_of(found: FaultSum) -> [u32; SUM_WORDS]
     ensures { result ≡ sum_words found }
 {
     [
@@ -20,8 +16,8 @@ fn words_of(found: faults::FaultSum) -> [u32; SUM_WORDS]
         found.at_2,
         found.at_3,
         found.set,
-        numbers::one_if(found.emergency),
-        numbers::one_if(found.agrees),
+        u32::from(found.emergency),
+        u32::from(found.agrees),
     ]
 }
 
@@ -30,13 +26,11 @@ fn words_of(found: faults::FaultSum) -> [u32; SUM_WORDS]
 pub extern "C" fn pc_fault_sum(counts: &[u32], sum: &mut [u32; SUM_WORDS]) -> u32
     ensures { (result, sum.new) ≡ faults_summed counts.now sum.old }
 {
-    let answer = faults::sum(counts);
-    match answer {
-        faults::FaultAnswer::Summed(found) => {
+    match faults::sum(counts) {
+        Ok(found) => {
             *sum = words_of(found);
             0
         }
-        faults::FaultAnswer::NotTwentySeven => NOT_27_FAULTS,
-        faults::FaultAnswer::TooWide => FAULT_TOO_WIDE,
+        Err(why) => u32::from(why),
     }
 }

@@ -1,8 +1,8 @@
--- The contracts of `fill`, `start_of` and `nth` each allow one outcome and no other. Assumes nothing.
+-- The contracts of `fill` and `nth` each allow one outcome and no other. Assumes nothing.
 use mathlib.Core.Path.{◌≡◌, refl, subst}
 use mathlib.Core.Bool.{Bool, true, false}
 use mathlib.Core.List.{List, [], ◌∷◌}
-use Prim.Native.Nat.{ℕ, ◌*◌, ◌<◌, ◌≤◌}
+use Prim.Native.Nat.{ℕ, ◌<◌, ◌≤◌}
 use native.Mathlib.Omega.{arith}
 use seplogic.Ra.Ura.{Ura}
 use base.Logic.{SProp}
@@ -26,8 +26,8 @@ use Rattle.chains.specs.Tells.{Tells}
 use Rattle.chains.proofs.Bools.{told_same, test_tells}
 use Rattle.chains.proofs.Walks.{walk_last}
 use Rattle.chains.proofs.Reach.{reach, reach_leads, leads_reach}
-use Rattle.reach.specs.Led.{Starts, Numbers, Led, OnwardFilled, turn}
-use Rattle.reach.specs.contracts.start_of as start_of_lem
+use Rattle.reach.specs.declared.NumberedRoutes.{NumberedRoutes}
+use Rattle.reach.specs.Led.{Numbers, Led, OnwardFilled, turn}
 use Rattle.reach.specs.contracts.nth as nth
 use Rattle.reach.specs.contracts.fill as fill
 
@@ -72,24 +72,22 @@ turn_low n t false h = h
 
 -- each where its `requires` holds
 module _ {M : Type 1} {𝓤 : Ura M} (𝓛 : Logic 𝓤) (mem : Memory → SProp 𝓤) (run : Routine → Fun 𝓤) where
-  pub one_start_of : (κs : Lfts 1) (starts : Bor (List ℕ)) (j : ℕ) → Starts starts.now → j < length starts.now
-      → (e : AtExit start_of_lem.ended κs) → Only 𝓤 (λ r. (start_of_lem.clauses 𝓛 mem run κs (starts, (j, tt))).ensures tt r e)
-  one_start_of κs starts j s l e =
-      record { coded = coded_ℕ; outcome = get_or starts.now j 0; Says = λ r. (r ≡ get_or starts.now j 0) × (r < 2 * width); says = λ r. refl; there = (refl, s.low j l); alone = λ r h. h.0 }
-
   pub one_nth : (t n : ℕ) (down : Bool) → t < n → (e : AtExit nth.ended tt) → Only 𝓤 (λ r. (nth.clauses 𝓛 mem run tt (t, (n, (down, tt)))).ensures tt r e)
   one_nth t n down l e = record { coded = coded_ℕ; outcome = turn n down t; Says = λ r. (r ≡ turn n down t) × (r < n); says = λ r. refl; there = (refl, turn_low n t down l); alone = λ r h. h.0 }
 
   -- the masks at exit
-  pub one_fill : (κs : Lfts 3) (starts ends : Bor (List ℕ)) (onward : MutBor (List ℕ)) → Numbers starts.now ends.now → length starts.now ≤ length onward.now
-      → Only 𝓤 (λ (x : List ℕ). (fill.clauses 𝓛 mem run κs (starts, (ends, (onward, tt)))).ensures tt tt (starts, (ends, (at_last onward x, tt))))
-  one_fill κs starts ends onward ns room =
-      let r = filled_there starts.now ends.now onward.now ns room in
+  pub one_fill : (κs : Lfts 3) (table : Bor NumberedRoutes) (onward : MutBor (List ℕ)) → length onward.now ≡ width
+      → Only 𝓤 (λ (x : List ℕ). (fill.clauses 𝓛 mem run κs (table, (onward, tt))).ensures tt tt (table, (at_last onward x, tt)))
+  one_fill κs table onward long =
+      let starts = table.now.starts.now in
+      let ends = table.now.ends.now in
+      let ns = table.now.numbers in
+      let r = filled_there starts ends onward.now ns (omega (arith, ns.from.few, long)) in
       record {
         coded = coded_list coded_ℕ;
         outcome = r.0;
-        Says = OnwardFilled starts.now ends.now onward.now;
+        Says = OnwardFilled starts ends onward.now;
         says = λ x. refl;
         there = r.1;
-        alone = λ x f. filled_once starts.now ends.now onward.now x r.0 f r.1;
+        alone = λ x f. filled_once starts ends onward.now x r.0 f r.1;
       }

@@ -8,9 +8,11 @@ use native.Mathlib.Nat.{eq-or-lt_of_le}
 use mathlib.Core.List.{List}
 use lib.ListN.{length, get_or}
 use Rattle.masks.specs.Bit.{width}
-use Rattle.reach.specs.Led.{turn}
+use Rattle.chains.specs.Chain.{Chain}
+use Rattle.chains.proofs.Walks.{chain_walk, walk_last}
+use Rattle.reach.specs.Led.{Numbers, turn}
 use Rattle.reach.specs.Handing.{total, Real, HandedOn, Handing, Settled}
-use Rattle.reach.proofs.Growing.{total_most}
+use Rattle.reach.proofs.Growing.{total_most, bits_below}
 
 -- the route has had its turn among the first t
 abbrev pub Turned : ℕ → Bool → ℕ → ℕ → Type 0
@@ -53,6 +55,17 @@ module _ (starts ends : List ℕ) where
   pub settling_end : (m : List ℕ) (new : Bool) → Settling starts ends m new → new ≡ false → Settled starts ends m
   settling_end m new inv h = record { real = inv.real; handed = inv.settled h }
 
+  -- chains lead to numbers that a mask can have
+  real_low : Numbers starts ends → (m : List ℕ) → Real starts ends m → (x : ℕ) → get_or m x 0 < 2 ^ width
+  unfolding Real
+  real_low ns m r x = bits_below width (get_or m x 0) (λ y e. low y (r x y e))
+    where
+      low : (y : ℕ) → (c : List ℕ) × Chain starts ends x c y → y < width
+      low y (c, w) =
+          let first = chain_walk starts ends x c y w in
+          let last = walk_last starts ends x first.0 first.1 y first.3 in
+          omega (arith, last.2, ns.to.low last.0 (omega (arith, last.1, ns.same)))
+
   module _ (m now : List ℕ) (old new : Bool) (inv : Settling starts ends m old) (p : Handing starts ends (λ i. i < length starts) m now new) where
     pub settling_more : Settling starts ends now new
     settling_more = record {
@@ -61,8 +74,8 @@ module _ (starts ends : List ℕ) where
       settled = λ h j l. subst (λ (x : List ℕ). HandedOn starts ends x j) (sym (p.settled h).0) ((p.settled h).1 j l);
     }
 
-    pub settling_less : old ≡ true → ((x : ℕ) → get_or now x 0 < 2 ^ width) → left now new < left m old
-    settling_less was low = rw was (go new refl (total_most now (2 ^ width) (λ x. omega (arith, low x))) (p.long ∙ inv.long))
+    pub settling_less : old ≡ true → Numbers starts ends → left now new < left m old
+    settling_less was ns = rw was (go new refl (total_most now (2 ^ width) (λ x. omega (arith, real_low ns now (p.real inv.real) x))) (p.long ∙ inv.long))
       where
         go : (b : Bool) → new ≡ b → total now ≤ length now * 2 ^ width → length now ≡ 2 * width → left now b < left m true
         go true e most l = let h = subst (λ (k : ℕ). total now ≤ k * 2 ^ width) l most in omega (arith, p.grown e, h)

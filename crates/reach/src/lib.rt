@@ -2,37 +2,26 @@
 // chains lead to from it, and routes hand on what they lead to until nothing is new.
 #![tactic(auto)]
 
-ghost use Rattle.std.specs.Prelude.{◌≡◌, ◌*◌, ◌<◌, ◌≤◌, length, get_or};
-ghost use Rattle.masks.specs.Bit.{width};
-ghost use Rattle.reach.specs.Led.{Starts, Ends, Numbers, OnwardFilled, turn};
+ghost use Rattle.std.specs.Prelude.{◌≡◌, ◌<◌, length};
+ghost use Rattle.reach.specs.Led.{Numbers, OnwardFilled, turn};
 ghost use Rattle.reach.specs.Handing.{Real, Handing, Settled};
+
+use masks::WIDTH;
 
 // How many numbers there can be: each route has two places.
 pub const NUMBERS: usize = 128;
 
-fn wide(x: u8) -> usize
-    ensures { result ≡ x }
-{
-    x as usize
-}
-
-// The number where route j starts.
-pub fn start_of(starts: &[u8], j: usize) -> usize
-    requires { Starts starts.now × (j < length starts.now) }
-    ensures { (result ≡ get_or starts.now j 0) × (result < 2 * width) }
-{
-    wide(starts[j])
-}
-
-// The number that route j leads to, which a mask can have.
-fn end_of(ends: &[u8], j: usize) -> usize
-    requires { Ends ends.now × (j < length ends.now) }
-    ensures { (result ≡ get_or ends.now j 0) × (result < width) }
-{
-    wide(ends[j])
+// A table of routes between numbered places: the numbers where they start, and those they lead to.
+#[derive(Clone, Copy)]
+pub struct NumberedRoutes<'a> {
+    pub starts: &'a [u8],
+    pub ends: &'a [u8],
+    pub ghost numbers: { Numbers starts.now ends.now },
 }
 
 // The route at turn t, where all are passed upwards or downwards.
+// Kept: the new form is no plainer: an order that is passed in as an iterator or a closure would need a clause on which routes come,
+// and in what order, which `turn` and `down` say here.
 pub fn nth(t: usize, n: usize, down: bool) -> usize
     requires { t < n }
     ensures { (result ≡ turn n down t) × (result < n) }
@@ -44,12 +33,12 @@ pub fn nth(t: usize, n: usize, down: bool) -> usize
 }
 
 // Route j hands on, to the number where it starts, the number that it leads to and all of that one's. Whether that was new.
-fn hand(starts: &[u8], ends: &[u8], j: usize, masks: &mut [u64]) -> bool
-    requires { Numbers starts.now ends.now × (j < length starts.now) × (length masks.old ≡ 2 * width) }
-    ensures { Handing starts.now ends.now (λ i. i ≡ j) masks.old masks.new result }
+fn hand(table: &NumberedRoutes<'_>, j: usize, masks: &mut [u64; NUMBERS]) -> bool
+    requires { j < length table.now.starts.now }
+    ensures { Handing table.now.starts.now table.now.ends.now (λ i. i ≡ j) masks.old masks.new result }
 {
-    let end = end_of(ends, j);
-    let start = start_of(starts, j);
+    let end = usize::from(table.ends[j]);
+    let start = usize::from(table.starts[j]);
     let had = masks[start];
     let has = masks::either(had, masks::with(masks[end], end as u32));
     masks[start] = has;
@@ -57,44 +46,39 @@ fn hand(starts: &[u8], ends: &[u8], j: usize, masks: &mut [u64]) -> bool
 }
 
 // All routes hand on, the last first where `down`. Whether anything was new.
-fn pass(starts: &[u8], ends: &[u8], down: bool, masks: &mut [u64]) -> bool
-    requires { Numbers starts.now ends.now × (length masks.old ≡ 2 * width) }
-    ensures { Handing starts.now ends.now (λ i. i < length starts.now) masks.old masks.new result }
+fn pass(table: &NumberedRoutes<'_>, down: bool, masks: &mut [u64; NUMBERS]) -> bool
+    ensures { Handing table.now.starts.now table.now.ends.now (λ i. i < length table.now.starts.now) masks.old masks.new result }
 {
-    let n = starts.len();
+    let n = table.starts.len();
     let mut new = false;
-    let mut t: usize = 0;
-    while t < n {
-        new = new | hand(starts, ends, nth(t, n, down), masks);
-        t += 1;
+    for t in 0..n {
+        new |= hand(table, nth(t, n, down), &mut *masks);
     }
     new
 }
 
-// Passes down and up in turn until nothing is new. A table in book order takes two.
-fn settle(starts: &[u8], ends: &[u8], masks: &mut [u64])
-    requires { Numbers starts.now ends.now × (length masks.old ≡ 2 * width) × Real starts.now ends.now masks.old }
-    ensures { Settled starts.now ends.now masks.new }
+// Passes down and up in turn until nothing is new. A table in book order takes two. The masks are lent, since an array that is
+// returned stands on the stack twice.
+fn settle(table: &NumberedRoutes<'_>, masks: &mut [u64; NUMBERS])
+    requires { Real table.now.starts.now table.now.ends.now masks.old }
+    ensures { Settled table.now.starts.now table.now.ends.now masks.new }
 {
     let mut down = true;
     let mut new = true;
     while new {
-        new = pass(starts, ends, down, masks);
+        new = pass(table, down, &mut *masks);
         down = !down;
     }
 }
 
 // For each route, the numbers it leads on to. What was lent past them stays as it was.
-pub fn fill(starts: &[u8], ends: &[u8], onward: &mut [u64])
-    requires { Numbers starts.now ends.now × (length starts.now ≤ length onward.old) }
-    ensures { OnwardFilled starts.now ends.now onward.old onward.new }
+pub fn fill(table: &NumberedRoutes<'_>, onward: &mut [u64; WIDTH])
+    ensures { OnwardFilled table.now.starts.now table.now.ends.now onward.old onward.new }
 {
     let mut masks = [0u64; NUMBERS];
-    settle(starts, ends, &mut masks);
-    let mut i: usize = 0;
-    while i < starts.len() {
-        let end = end_of(ends, i);
+    settle(table, &mut masks);
+    for (i, e) in table.ends.iter().enumerate() {
+        let end = usize::from(*e);
         onward[i] = masks::with(masks[end], end as u32);
-        i += 1;
     }
 }

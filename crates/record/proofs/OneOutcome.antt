@@ -11,7 +11,6 @@ use Rattle.only.specs.Outcomes.{OneResult, OneContent, OneOutcome, result_is, co
 use Rattle.record.specs.Limits.{message_limit, signal_limit, route_limit}
 use Rattle.record.specs.Place.{place_key}
 use Rattle.record.specs.Columns.{book_words, ids_at, ends_at, numbers_at, starts_at, froms_at, tos_at, message_count_of, signal_count_of, route_count_of, ids_of, ends_of, numbers_of, starts_of, froms_of, tos_of, empty_book}
-use Rattle.record.specs.contracts.wide as wide
 use Rattle.record.specs.contracts.message_count as message-count
 use Rattle.record.specs.contracts.signal_count as signal-count
 use Rattle.record.specs.contracts.route_count as route-count
@@ -33,9 +32,6 @@ column_long : (w : List ℕ) (at n : ℕ) → at + n ≤ book_words → Whole w 
 column_long w at n h e = length-take-le n (drop at w) (omega (arith, length-drop at w))
 
 module _ (M : Type 1) where
-  pub one_wide : OneResult M wide.ended (λ _. wide.clauses)
-  one_wide = result_is (λ c. c.arguments.0) refl
-
   pub one_message_count : OneResult M message-count.ended (λ _. message-count.clauses)
   one_message_count = result_is (λ c. message_count_of c.arguments.0.now) refl
 

@@ -65,13 +65,6 @@ pub const TOS: usize = 707;
 
 pub const TOS_END: usize = 771;
 
-// A count or an end as the size that it is.
-pub fn wide(word: u32) -> usize
-    ensures { result ≡ word }
-{
-    word as usize
-}
-
 // How many messages the words say there are, whatever it is; as the next two.
 pub fn message_count(book: &[u32; BOOK_WORDS]) -> u32
     ensures { result ≡ message_count_of book.now }
@@ -91,6 +84,8 @@ pub fn route_count(book: &[u32; BOOK_WORDS]) -> u32
     book[ROUTE_COUNT]
 }
 
+// Kept, the six that follow: one function with the ends of a column as const parameters is no plainer, since each result is a definition of
+// its own, and a call would name two constants for a word.
 // The messages' identifiers.
 pub fn ids(book: &[u32; BOOK_WORDS]) -> &[u32]
     ensures { (result.now ≡ ids_of book.now) × (length result.now ≡ message_limit) }

@@ -1,5 +1,5 @@
-// What the programs `spread_vectors` and `writer_vectors` share, which ask a lent book record, sound or damaged: an entry of the record set by
-// a line of standard input; and a number of two hex digits, for `routes_vectors` too.
+// What the programs on vectors share: an entry of a lent book record, sound or damaged, set by a line of standard input (`spread_vectors`,
+// `writer_vectors`); and a number of two hex digits, for the programs on routes, frames and faults too.
 #![tactic(auto)]
 
 ghost use Rattle.std.specs.Prelude.{◌≡◌, [], ◌∷◌, ◌≤◌};
@@ -14,10 +14,10 @@ use std::io::Read;
 use streams::read_full;
 
 // The number that two digits 0-9 A-F write; 0 where they write none.
-pub fn short_hex(high: u8, low: u8) -> usize
+pub fn short_hex(high: u8, low: u8) -> u32
     ensures { result ≡ or_zero (numeral_from 16 0 (high ∷ low ∷ [])) }
 {
-    identifier_or_0(&[b'0', b'0', b'0', b'0', b'0', b'0', high, low]) as usize
+    identifier_or_0(&[b'0', b'0', b'0', b'0', b'0', b'0', high, low])
 }
 
 // Where the column of a letter begins.
@@ -41,7 +41,7 @@ fn column(letter: u8) -> usize
 pub fn set_entry<R: Read>(input: &mut R, book: &mut [u32; BOOK_WORDS]) {
     let mut line = [0u8; 12];
     read_full(input, &mut line);
-    let index = short_hex(line[1], line[2]);
+    let index = short_hex(line[1], line[2]) as usize;
     let value = identifier_or_0(&line[3..11]);
     let start = column(line[0]);
     if index < BOOK_WORDS - start {

@@ -3,7 +3,6 @@
 #![tactic(auto)]
 
 use record::{BOOK_WORDS, ROUTES};
-use routes::Sent;
 use streams::{print_bytes, print_decimal};
 
 fn print_place(rt: &impl Print, place: u32) {
@@ -30,15 +29,11 @@ fn print_answer(
     room: &mut [u32],
 ) {
     match routes::spread(book, bus, identifier, &mut *room) {
-        Sent::Places(n) => print_places(rt, word, &*room, n as usize),
-        Sent::NotABook => {
-            print_bytes(rt, b"no\t12\n");
-        }
-        Sent::NoSuchPlace => {
-            print_bytes(rt, b"no\t61\n");
-        }
-        Sent::NoRoom => {
-            print_bytes(rt, b"no\t62\n");
+        Ok(n) => print_places(rt, word, &*room, n as usize),
+        Err(refusal) => {
+            print_bytes(rt, b"no\t");
+            print_decimal(rt, u64::from(u32::from(refusal)));
+            print_bytes(rt, b"\n");
         }
     }
 }

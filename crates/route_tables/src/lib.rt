@@ -2,26 +2,17 @@
 // (refusal 12). proofs/ shows that it is exact: it passes just where some text is taken with those tables.
 #![tactic(auto)]
 
-ghost use Rattle.std.specs.Prelude.{◌≡◌};
-ghost use Rattle.record.specs.Columns.{route_count_of};
 ghost use Rattle.chains.specs.Tells.{Tells};
 ghost use Rattle.route_tables.specs.Tables.{RoutesTaken};
 
-use record::{BOOK_WORDS, ROUTES, first, wide};
+use record::{BOOK_WORDS, ROUTES, first};
 use zeros::zero_past;
-
-// How many routes the book says it has.
-fn count(book: &[u32; BOOK_WORDS]) -> usize
-    ensures { result ≡ route_count_of book.now }
-{
-    wide(record::route_count(book))
-}
 
 // Whether the route tables are those of a taken book.
 pub fn routes_taken(book: &[u32; BOOK_WORDS]) -> bool
     ensures { Tells (RoutesTaken book.now) result }
 {
-    let n = count(book);
+    let n = record::route_count(book) as usize;
     if n > ROUTES {
         return false;
     }

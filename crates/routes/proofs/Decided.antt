@@ -1,18 +1,19 @@
 -- Each call for a spread has one answer and no other, whatever the words, the place and the room. Assumes nothing.
-use mathlib.Core.Path.{◌≡◌, refl, ap}
+use mathlib.Core.Path.{◌≡◌, refl, sym, ap}
 use Prim.Native.Nat.{ℕ, ◌≤◌}
 use native.Mathlib.Omega.{arith}
 use native.Mathlib.Decide.{dec_le}
 use mathlib.Core.List.{List, ◌++◌}
 use lib.ListN.{length, drop}
+use Rattle.std.specs.Prelude.{Result, Ok, Err}
 use Rattle.record.specs.Limits.{bus_limit, identifier_limit}
 use Rattle.books.specs.Book.{Route}
 use Rattle.books.specs.Words.{routes_of}
 use Rattle.route_tables.specs.Tables.{RoutesTaken}
 use Rattle.route_tables.proofs.Decided.{taken_or_not}
-use Rattle.routes.specs.Answers.{sent_number, place_count, IsPlace, spread_along, SpreadBy, no_place, no_room, spreads, SpreadAnswer, not_a_book, by_routes}
-use Rattle.routes.specs.declared.Sent.{Sent}
-use Rattle.routes.specs.declared.Sent.TheVariants as sent
+use Rattle.routes.specs.Answers.{spread_refusal_number, sent_number, place_count, IsPlace, spread_along, SpreadBy, no_place, no_room, spreads, SpreadAnswer, not_a_book, by_routes}
+use Rattle.routes.specs.declared.SpreadRefusal.{SpreadRefusal}
+use Rattle.routes.specs.declared.SpreadRefusal.TheVariants.{NotABook, NoSuchPlace, NoRoom}
 
 place_or_not : (bus identifier : ℕ) → Dec (IsPlace bus identifier)
 place_or_not bus identifier = go (dec_le bus_limit bus) (dec_le identifier_limit identifier)
@@ -22,24 +23,32 @@ place_or_not bus identifier = go (dec_le bus_limit bus) (dec_le identifier_limit
     go (no a) (yes b) = no (λ p. omega (arith, p.identified))
     go (no a) (no b) = yes (record { on_bus = omega arith; identified = omega arith })
 
+-- what a call returns
+abbrev pub Sent : Type 0
+Sent = Result ℕ SpreadRefusal
+
+refusal_once : (a b : SpreadRefusal) → spread_refusal_number a ≡ spread_refusal_number b → a ≡ b
+refusal_once NotABook NotABook e = refl
+refusal_once NotABook NoSuchPlace e = absurd (omega arith)
+refusal_once NotABook NoRoom e = absurd (omega arith)
+refusal_once NoSuchPlace NotABook e = absurd (omega arith)
+refusal_once NoSuchPlace NoSuchPlace e = refl
+refusal_once NoSuchPlace NoRoom e = absurd (omega arith)
+refusal_once NoRoom NotABook e = absurd (omega arith)
+refusal_once NoRoom NoSuchPlace e = absurd (omega arith)
+refusal_once NoRoom NoRoom e = refl
+
+refused : (a : SpreadRefusal) → spread_refusal_number a ≡ 0 → ⊥
+refused NotABook e = omega arith
+refused NoSuchPlace e = omega arith
+refused NoRoom e = omega arith
+
 -- an answer is told by its number and its count
 sent_once : (a b : Sent) → sent_number a ≡ sent_number b → place_count a ≡ place_count b → a ≡ b
-sent_once (sent.Places n) (sent.Places m) e f = ap sent.Places f
-sent_once (sent.Places n) sent.NotABook e f = absurd (omega arith)
-sent_once (sent.Places n) sent.NoSuchPlace e f = absurd (omega arith)
-sent_once (sent.Places n) sent.NoRoom e f = absurd (omega arith)
-sent_once sent.NotABook (sent.Places m) e f = absurd (omega arith)
-sent_once sent.NotABook sent.NotABook e f = refl
-sent_once sent.NotABook sent.NoSuchPlace e f = absurd (omega arith)
-sent_once sent.NotABook sent.NoRoom e f = absurd (omega arith)
-sent_once sent.NoSuchPlace (sent.Places m) e f = absurd (omega arith)
-sent_once sent.NoSuchPlace sent.NotABook e f = absurd (omega arith)
-sent_once sent.NoSuchPlace sent.NoSuchPlace e f = refl
-sent_once sent.NoSuchPlace sent.NoRoom e f = absurd (omega arith)
-sent_once sent.NoRoom (sent.Places m) e f = absurd (omega arith)
-sent_once sent.NoRoom sent.NotABook e f = absurd (omega arith)
-sent_once sent.NoRoom sent.NoSuchPlace e f = absurd (omega arith)
-sent_once sent.NoRoom sent.NoRoom e f = refl
+sent_once (Ok n) (Ok m) e f = ap Ok f
+sent_once (Ok n) (Err b) e f = absurd (refused b (sym e))
+sent_once (Err a) (Ok m) e f = absurd (refused a e)
+sent_once (Err a) (Err b) e f = ap Err (refusal_once a b e)
 
 -- the answer, its count and the room after it
 abbrev pub SpreadLeft : Type 0
@@ -54,9 +63,9 @@ module _ (rs : List Route) (bus identifier : ℕ) (room : List ℕ) where
   by_table = go (place_or_not bus identifier) (dec_le (length s) (length room))
     where
       go : Dec (IsPlace bus identifier) → Dec (length s ≤ length room) → (x : Sent × List ℕ) × SpreadBy rs bus identifier room (sent_number x.0) (place_count x.0) x.1
-      go (no n) r = ((sent.NoSuchPlace, room), no_place n)
-      go (yes p) (no n) = ((sent.NoRoom, room), no_room p (omega arith))
-      go (yes p) (yes l) = ((sent.Places (length s), s ++ drop (length s) room), spreads p l)
+      go (no n) r = ((Err NoSuchPlace, room), no_place n)
+      go (yes p) (no n) = ((Err NoRoom, room), no_room p (omega arith))
+      go (yes p) (yes l) = ((Ok (length s), s ++ drop (length s) room), spreads p l)
 
   -- and no other
   by_table_once : {y n : ℕ} {a : List ℕ} {z m : ℕ} {b : List ℕ} → SpreadBy rs bus identifier room y n a → SpreadBy rs bus identifier room z m b → ◌≡◌ {A = SpreadLeft} (y, (n, a)) (z, (m, b))
@@ -75,7 +84,7 @@ module _ (w : List ℕ) (bus identifier : ℕ) (room : List ℕ) where
   answered = go (taken_or_not w)
     where
       go : Dec (RoutesTaken w) → (x : Sent × List ℕ) × SpreadAnswer w bus identifier room (sent_number x.0) (place_count x.0) x.1
-      go (no n) = ((sent.NotABook, room), not_a_book n)
+      go (no n) = ((Err NotABook, room), not_a_book n)
       go (yes t) = let b = by_table (routes_of w) bus identifier room in (b.0, by_routes t b.1)
 
   pub answer_once : {y n : ℕ} {a : List ℕ} {z m : ℕ} {b : List ℕ} → SpreadAnswer w bus identifier room y n a → SpreadAnswer w bus identifier room z m b → ◌≡◌ {A = SpreadLeft} (y, (n, a)) (z, (m, b))

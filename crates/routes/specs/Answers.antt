@@ -1,28 +1,30 @@
 -- Refusals 12, 61 and 62, and what a call for a spread leaves behind. An answer is its refusal's number, 0 where there is none, and how
 -- many places it counts. Assumes nothing: these are definitions.
-use Rattle.std.specs.Prelude.{ℕ, ◌<◌, ◌≤◌, List, ◌++◌, length, drop}
+use Rattle.std.specs.Prelude.{ℕ, ◌<◌, ◌≤◌, List, ◌++◌, length, drop, Result, Ok, Err}
 use Rattle.record.specs.Limits.{bus_limit, identifier_limit}
 use Rattle.record.specs.Place.{place_key}
 use Rattle.chains.specs.Spread.{spread_of}
 use Rattle.books.specs.Book.{Route}
 use Rattle.books.specs.Words.{froms, tos, routes_of}
 use Rattle.route_tables.specs.Tables.{RoutesTaken}
-use Rattle.routes.specs.declared.Sent.{Sent}
-use Rattle.routes.specs.declared.Sent.TheVariants as sent
+use Rattle.routes.specs.declared.SpreadRefusal.{SpreadRefusal}
+use Rattle.routes.specs.declared.SpreadRefusal.TheVariants.{NotABook, NoSuchPlace, NoRoom}
 
--- document 01's number of each answer; 0 is no refusal
-abbrev pub sent_number : Sent → ℕ
-sent_number (sent.Places n) = 0
-sent_number sent.NotABook = 12
-sent_number sent.NoSuchPlace = 61
-sent_number sent.NoRoom = 62
+-- document 01's number of each refusal
+abbrev pub spread_refusal_number : SpreadRefusal → ℕ
+spread_refusal_number NotABook = 12
+spread_refusal_number NoSuchPlace = 61
+spread_refusal_number NoRoom = 62
+
+-- of each answer; 0 is no refusal
+abbrev pub sent_number : Result ℕ SpreadRefusal → ℕ
+sent_number (Ok n) = 0
+sent_number (Err refusal) = spread_refusal_number refusal
 
 -- and how many places it counts
-abbrev pub place_count : Sent → ℕ
-place_count (sent.Places n) = n
-place_count sent.NotABook = 0
-place_count sent.NoSuchPlace = 0
-place_count sent.NoRoom = 0
+abbrev pub place_count : Result ℕ SpreadRefusal → ℕ
+place_count (Ok n) = n
+place_count (Err refusal) = 0
 
 -- a bus and an identifier within their limits make a place
 pub record IsPlace (bus identifier : ℕ) : Type 0 where

@@ -3,20 +3,17 @@
 // (specs/Answers.antt), which specs/Listed.antt says over chains.
 #![tactic(auto)]
 
-ghost use Rattle.std.specs.Prelude.{◌++◌, ◌≡◌, ◌≤◌, length, take, drop};
-ghost use Rattle.record.specs.Limits.{route_limit};
+ghost use Rattle.std.specs.Prelude.{◌≡◌};
 ghost use Rattle.books.specs.Words.{routes_of};
 ghost use Rattle.route_tables.specs.Tables.{RoutesTaken};
-ghost use Rattle.routes.specs.Answers.{sent_number, place_count, SpreadAnswer, SpreadBy};
+ghost use Rattle.routes.specs.Answers.{spread_refusal_number, sent_number, place_count, SpreadAnswer, SpreadBy};
 
-use record::{BOOK_WORDS, BUSES, IDENTIFIER_LIMIT, ROUTES, wide};
+use record::{BOOK_WORDS, BUSES, IDENTIFIER_LIMIT, ROUTES};
 use route_tables::routes_taken;
 
-// What came of a call for a spread.
-#[derive(Clone, Copy)]
-pub enum Sent {
-    // this many places stand at the front of the room
-    Places(u32),
+// Why a call for a spread refuses.
+#[derive(Clone, Copy, Debug, PartialEq, Eq)]
+pub enum SpreadRefusal {
     // the routes are those of no taken book
     NotABook,
     // the bus or the identifier is over its limit
@@ -25,46 +22,56 @@ pub enum Sent {
     NoRoom,
 }
 
-// Copies the first n entries.
-fn copy(from: &[u32; ROUTES], n: usize, room: &mut [u32])
-    requires { (n ≤ route_limit) × (n ≤ length room.old) }
-    ensures { room.new ≡ take n from.now ++ drop n room.old }
-{
-    let entries: &[u32] = from;
-    let mut i: usize = 0;
-    while i < n {
-        room[i] = entries[i];
-        i += 1;
+// Document 01's number of the refusal.
+impl From<SpreadRefusal> for u32 {
+    ghost from_gives = { λ refusal n. n ≡ spread_refusal_number refusal };
+
+    fn from(refusal: SpreadRefusal) -> u32 {
+        match refusal {
+            SpreadRefusal::NotABook => 12,
+            SpreadRefusal::NoSuchPlace => 61,
+            SpreadRefusal::NoRoom => 62,
+        }
     }
 }
 
 // Writes the spread of the place that is `identifier` on `bus`, by a book whose routes have been tested, to the front of the room.
-fn spread_tested(book: &[u32; BOOK_WORDS], bus: u32, identifier: u32, room: &mut [u32]) -> Sent
+fn spread_tested(
+    book: &[u32; BOOK_WORDS],
+    bus: u32,
+    identifier: u32,
+    room: &mut [u32],
+) -> Result<u32, SpreadRefusal>
     requires { RoutesTaken book.now }
     ensures { SpreadBy (routes_of book.now) bus identifier room.old (sent_number result) (place_count result) room.new }
 {
     if bus >= BUSES {
-        return Sent::NoSuchPlace;
+        return Err(SpreadRefusal::NoSuchPlace);
     }
     if identifier >= IDENTIFIER_LIMIT {
-        return Sent::NoSuchPlace;
+        return Err(SpreadRefusal::NoSuchPlace);
     }
     let mut places = [0u32; ROUTES];
     let written = sending::send(book, record::place(bus, identifier), &mut places, 0);
-    let count = wide(written);
+    let count = written as usize;
     if count > room.len() {
-        return Sent::NoRoom;
+        return Err(SpreadRefusal::NoRoom);
     }
-    copy(&places, count, room);
-    Sent::Places(written)
+    room[..count].copy_from_slice(&places[..count]);
+    Ok(written)
 }
 
-// Writes the spread of the place that is `identifier` on `bus` to the front of the room.
-pub fn spread(book: &[u32; BOOK_WORDS], bus: u32, identifier: u32, room: &mut [u32]) -> Sent
+// Writes the spread of the place that is `identifier` on `bus` to the front of the room, and says how many places that are.
+pub fn spread(
+    book: &[u32; BOOK_WORDS],
+    bus: u32,
+    identifier: u32,
+    room: &mut [u32],
+) -> Result<u32, SpreadRefusal>
     ensures { SpreadAnswer book.now bus identifier room.old (sent_number result) (place_count result) room.new }
 {
     if !routes_taken(book) {
-        return Sent::NotABook;
+        return Err(SpreadRefusal::NotABook);
     }
     spread_tested(book, bus, identifier, room)
 }

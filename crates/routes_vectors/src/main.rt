@@ -81,7 +81,7 @@ fn main(rt: HostRuntime) {
         if read_full(&mut input, &mut head) < 2 {
             return;
         }
-        let n = short_hex(head[0], head[1]);
+        let n = short_hex(head[0], head[1]) as usize;
         if n > ROUTES {
             return;
         }

@@ -1,19 +1,22 @@
 -- The rule, from a test that is computed over a whole table, and a lemma that turns it into the rule at each row.
 -- Assumes nothing.
 use mathlib.Core.Logic.{◌⊎◌, inl, inr}
-use mathlib.Core.Bool.{Bool, true, false, ◌&&◌, ◌||◌}
+use mathlib.Core.Path.{◌≡◌, refl}
+use mathlib.Core.Bool.{Bool, true, false, ◌&&◌, ◌||◌, not}
 use mathlib.Core.List.{List, [], ◌∷◌}
 use Prim.Native.Nat.{ℕ, zero, suc, ◌+◌, ◌*◌, ◌^◌, ◌<◌}
 use native.Mathlib.Nat.{le_of_suc-le-suc, not-suc-le-zero, lt_trans}
 use native.Mathlib.Omega.{arith}
-use lib.Dec.{T, eqb, leb, ltb, eqb→eq, leb→le, ltb→lt}
+use lib.Dec.{T, leb, ltb, leb→le, ltb→lt}
 use lib.Ieee.Fits.{and_l, and_r}
 use lib.IntN.{nat_abs}
 use lib.ListN.{length, get_or}
 use Rattle.rows.specs.declared.Mark.{Mark}
+use Rattle.rows.specs.declared.MarkKind.{MarkKind}
+use Rattle.rows.specs.declared.MarkKind.TheVariants.{Unmarked, Invalid, Absent, Error, Reserved}
 use Rattle.rows.specs.declared.Row.{Row}
-use Rattle.rows.specs.Rows.{blank, unmarked_kind, mark_kinds}
-use Rattle.rows.specs.Rule.{Rule, Apart, Among, Kinded, a_mark, no_mark, Kept, most_bits, exact_doubles}
+use Rattle.rows.specs.Rows.{blank, unmarked_kind}
+use Rattle.rows.specs.Rule.{Rule, Apart, IsKind, Kinded, a_mark, no_mark, Kept, most_bits, exact_doubles}
 
 -- ---- tests of one row
 
@@ -40,31 +43,44 @@ apart→ m m' t n p q p' q' = go (or (ltb m.last m.first) _ t)
     go (inl x) = let y = ltb→lt m.last m.first x in omega arith
     go (inr x) = go2 (or (ltb m'.last m'.first) (ltb m.last m'.first || ltb m'.last m.first) x)
 
--- one of a list
-abbrev among : List ℕ → ℕ → Bool
-among [] k = false
-among (x ∷ xs) k = eqb k x || among xs k
+-- a kind of marks, or that of no mark
+abbrev some_kind : MarkKind → Bool
+some_kind Unmarked = false
+some_kind Invalid = true
+some_kind Absent = true
+some_kind Error = true
+some_kind Reserved = true
 
-among→ : (xs : List ℕ) (k : ℕ) → T (among xs k) → Among xs k
-among→ [] k t = t
-among→ (x ∷ xs) k t = elim (or (eqb k x) (among xs k) t) [ inl e ↦ inl (eqb→eq k x e) | inr l ↦ inr (among→ xs k l) ]
+some_kind→ : (k : MarkKind) → T (some_kind k) → IsKind k
+some_kind→ Unmarked t = absurd t
+some_kind→ Invalid t = inl refl
+some_kind→ Absent t = inr (inl refl)
+some_kind→ Error t = inr (inr (inl refl))
+some_kind→ Reserved t = inr (inr (inr (inl refl)))
+
+no_kind→ : (k : MarkKind) → T (not (some_kind k)) → k ≡ unmarked_kind
+no_kind→ Unmarked t = refl
+no_kind→ Invalid t = absurd t
+no_kind→ Absent t = absurd t
+no_kind→ Error t = absurd t
+no_kind→ Reserved t = absurd t
 
 -- a mark, or none
 abbrev pub kinded : Mark → Bool
-kinded m = (among mark_kinds m.kind && leb m.first m.last) || (eqb m.kind unmarked_kind && ltb m.last m.first)
+kinded m = (some_kind m.kind && leb m.first m.last) || (not (some_kind m.kind) && ltb m.last m.first)
 
 pub kinded→ : (m : Mark) → T (kinded m) → Kinded m
-kinded→ m t = go (or (among mark_kinds m.kind && leb m.first m.last) (eqb m.kind unmarked_kind && ltb m.last m.first) t)
+kinded→ m t = go (or (some_kind m.kind && leb m.first m.last) (not (some_kind m.kind) && ltb m.last m.first) t)
   where
-    go : T (among mark_kinds m.kind && leb m.first m.last) ⊎ T (eqb m.kind unmarked_kind && ltb m.last m.first) → Kinded m
+    go : T (some_kind m.kind && leb m.first m.last) ⊎ T (not (some_kind m.kind) && ltb m.last m.first) → Kinded m
     go (inl x) =
-        let a = and_l (among mark_kinds m.kind) (leb m.first m.last) x in
-        let b = and_r (among mark_kinds m.kind) (leb m.first m.last) x in
-        a_mark (among→ mark_kinds m.kind a) (leb→le m.first m.last b)
+        let a = and_l (some_kind m.kind) (leb m.first m.last) x in
+        let b = and_r (some_kind m.kind) (leb m.first m.last) x in
+        a_mark (some_kind→ m.kind a) (leb→le m.first m.last b)
     go (inr x) =
-        let a = and_l (eqb m.kind unmarked_kind) (ltb m.last m.first) x in
-        let b = and_r (eqb m.kind unmarked_kind) (ltb m.last m.first) x in
-        no_mark (eqb→eq m.kind unmarked_kind a) (ltb→lt m.last m.first b)
+        let a = and_l (not (some_kind m.kind)) (ltb m.last m.first) x in
+        let b = and_r (not (some_kind m.kind)) (ltb m.last m.first) x in
+        no_mark (no_kind→ m.kind a) (ltb→lt m.last m.first b)
 
 -- a test for each field of the rule, in its order
 abbrev right : Row → Bool

@@ -1,4 +1,5 @@
 pub mod Rows
+pub mod Kinds
 pub mod Rule
 pub mod Widths
 pub mod PrintedLimits

@@ -5,6 +5,8 @@
 -- the printed 1 is a misprint, and there is none (document 02, P2). Assumes nothing.
 use Rattle.std.specs.Prelude.{List, [], ◌∷◌, ℕ, ℤ, pos, neg_ℤ}
 use Rattle.rows.specs.declared.Mark.{Mark}
+use Rattle.rows.specs.declared.MarkKind.{MarkKind}
+use Rattle.rows.specs.declared.MarkKind.TheVariants.{Unmarked, Invalid, Absent, Error, Reserved}
 use Rattle.rows.specs.declared.Row.{Row}
 
 -- ---- the words of a line
@@ -15,27 +17,27 @@ plus n = pos n
 abbrev pub minus : ℕ → ℤ
 minus n = neg_ℤ (pos n)
 
--- the kinds of marks, by their codes in the table
-abbrev pub unmarked_kind : ℕ
-unmarked_kind = 0
+-- the kinds of marks
+abbrev pub unmarked_kind : MarkKind
+unmarked_kind = Unmarked
 
-abbrev pub invalid_kind : ℕ
-invalid_kind = 1
+abbrev pub invalid_kind : MarkKind
+invalid_kind = Invalid
 
-abbrev pub absent_kind : ℕ
-absent_kind = 2
+abbrev pub absent_kind : MarkKind
+absent_kind = Absent
 
-abbrev pub error_kind : ℕ
-error_kind = 3
+abbrev pub error_kind : MarkKind
+error_kind = Error
 
-abbrev pub reserved_kind : ℕ
-reserved_kind = 4
+abbrev pub reserved_kind : MarkKind
+reserved_kind = Reserved
 
 -- every kind that a mark may be of
-abbrev pub mark_kinds : List ℕ
+abbrev pub mark_kinds : List MarkKind
 mark_kinds = invalid_kind ∷ absent_kind ∷ error_kind ∷ reserved_kind ∷ []
 
-abbrev pub mark : ℕ → ℕ → ℕ → Mark
+abbrev pub mark : MarkKind → ℕ → ℕ → Mark
 mark kind first last = record { kind = kind; first = first; last = last }
 
 abbrev pub invalid : ℕ → ℕ → Mark

@@ -3,6 +3,7 @@
 -- every reading is so small that a double holds it exactly. Assumes nothing.
 use Rattle.std.specs.Prelude.{◌≡◌, ◌⊎◌, List, [], ◌∷◌, ℕ, ◌+◌, ◌*◌, ◌^◌, ◌≤◌, ◌<◌, get_or, length, nat_abs}
 use Rattle.rows.specs.declared.Mark.{Mark}
+use Rattle.rows.specs.declared.MarkKind.{MarkKind}
 use Rattle.rows.specs.declared.Row.{Row}
 use Rattle.rows.specs.Rows.{blank, unmarked_kind, mark_kinds}
 
@@ -17,13 +18,13 @@ exact_doubles = 2 ^ 53
 abbrev pub Apart : Mark → Mark → Type 0
 Apart m m' = (n : ℕ) → m.first ≤ n → n ≤ m.last → m'.first ≤ n → n ≤ m'.last → ⊥
 
--- a number is one of a list
-abbrev pub Among : List ℕ → ℕ → Type 0
+-- a kind is one of a list
+abbrev pub Among : List MarkKind → MarkKind → Type 0
 Among [] k = ⊥
 Among (x ∷ xs) k = (k ≡ x) ⊎ Among xs k
 
 -- invalid, absent, error or reserved
-abbrev pub IsKind : ℕ → Type 0
+abbrev pub IsKind : MarkKind → Type 0
 IsKind k = Among mark_kinds k
 
 -- a mark is of one of the four kinds and has a code; where there is no mark, there is no code

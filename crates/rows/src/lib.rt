@@ -7,21 +7,20 @@ mod table;
 
 pub use table::{last_starts, row_at, widths};
 
-// The kinds of marks.
-pub const UNMARKED: u8 = 0;
-
-pub const INVALID: u8 = 1;
-
-pub const ABSENT: u8 = 2;
-
-pub const ERROR: u8 = 3;
-
-pub const RESERVED: u8 = 4;
+// The kinds of marks. What is unmarked has no code.
+#[derive(Clone, Copy, Debug, PartialEq, Eq)]
+pub enum MarkKind {
+    Unmarked,
+    Invalid,
+    Absent,
+    Error,
+    Reserved,
+}
 
 // Codes of a signal that are no values, from the first to the last; none where the last is below the first.
 #[derive(Clone, Copy)]
 pub struct Mark {
-    pub kind: u8,
+    pub kind: MarkKind,
     pub first: u32,
     pub last: u32,
 }

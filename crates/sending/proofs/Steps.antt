@@ -76,5 +76,5 @@ pub handed_after : (w : List ℕ) (i : ℕ) {x : ℕ} {l put after : List ℕ} {
 handed_after w i {x} {l} {put} {after} {at} {next} e p h = rw (← e) (written_after x (spread_in w x) l at after next (rw p at h))
 
 -- the entry of a column at a route that is counted
-pub column_entry : {w l column : List ℕ} {i k : ℕ} → l ≡ column → k ≡ i → RouteOf w i → get_or l k 0 ≡ get_or (take (route_count_of w) column) i 0
-column_entry {w} {l} {column} {i} {k} e same r = rw (e, same) (sym (get_or-take (route_count_of w) column i 0 r.counted))
+pub column_entry : {w l column : List ℕ} {i : ℕ} → l ≡ column → RouteOf w i → get_or l i 0 ≡ get_or (take (route_count_of w) column) i 0
+column_entry {w} {l} {column} {i} e r = rw e (sym (get_or-take (route_count_of w) column i 0 r.counted))

@@ -6,8 +6,10 @@ use native.Mathlib.Omega.{arith}
 use lib.ListN.{length, length-append}
 use mir.Syntax.{w64}
 use mir.Val.{SFits}
+use Rattle.std.specs.Prelude.{Result, Ok, Err}
 use Rattle.catalogue.specs.declared.Class.{Class}
-use Rattle.catalogue.specs.declared.Class.TheVariants.{Value, Invalid, Absent, Error, Reserved, Outside, NotInCatalogue, TooWide}
+use Rattle.catalogue.specs.declared.Class.TheVariants.{Value, Invalid, Absent, Error, Reserved, Outside}
+use Rattle.catalogue.specs.declared.NoClass.{NoClass}
 use Rattle.catalogue.specs.Class.{carried_by}
 use Rattle.numerals.specs.Written.{identifier_text}
 use Rattle.numerals.proofs.Digits.{length_digits}
@@ -33,18 +35,17 @@ unfolding identifier_text
 identifier_long i = length_digits 16 8 i
 
 -- no class word is longer than `reserved`
-word_short : (class : Class) → length (class_word class) ≤ 8
-word_short (Value t) = omega arith
-word_short (Invalid raw) = omega arith
-word_short (Absent raw) = omega arith
-word_short (Error raw) = omega arith
-word_short (Reserved raw) = omega arith
-word_short (Outside raw) = omega arith
-word_short NotInCatalogue = omega arith
-word_short TooWide = omega arith
+word_short : (class : Result Class NoClass) → length (class_word class) ≤ 8
+word_short (Ok (Value t)) = omega arith
+word_short (Ok (Invalid raw)) = omega arith
+word_short (Ok (Absent raw)) = omega arith
+word_short (Ok (Error raw)) = omega arith
+word_short (Ok (Reserved raw)) = omega arith
+word_short (Ok (Outside raw)) = omega arith
+word_short (Err e) = omega arith
 
 module _ (identifier number : ℕ) (h : number < 2 ^ 64) where
-  pub reading_short : (figures : Figures) (class : Class) → SFits w64 (carried_by class) → length (reading_line figures identifier number class) ≤ listed_line_room
+  pub reading_short : (figures : Figures) (class : Result Class NoClass) → SFits w64 (carried_by class) → length (reading_line figures identifier number class) ≤ listed_line_room
   reading_short figures class f =
       omega (
         arith,

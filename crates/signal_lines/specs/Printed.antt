@@ -1,6 +1,7 @@
 -- The lines that the lister prints: fields parted by tabs, ended by a newline. Assumes nothing.
-use Rattle.std.specs.Prelude.{List, [], ◌∷◌, ◌++◌, ℕ}
+use Rattle.std.specs.Prelude.{List, [], ◌∷◌, ◌++◌, ℕ, Result}
 use Rattle.catalogue.specs.declared.Class.{Class}
+use Rattle.catalogue.specs.declared.NoClass.{NoClass}
 use Rattle.frame_lines.specs.declared.FrameLine.TheVariants.{IllFormed}
 use Rattle.frame_lines.specs.Meaning.{frame_line_number}
 use Rattle.numerals.specs.Written.{identifier_text}
@@ -15,12 +16,12 @@ printed_line fields = join tab fields ++ (newline ∷ [])
 
 -- "Each signal gives identifier, number, class word, and the thousandths of a value or the raw count of any other class."
 -- The dash's lister has the bits of the double "in place of the thousandths".
-abbrev pub reading_line : Figures → ℕ → ℕ → Class → List ℕ
+abbrev pub reading_line : Figures → ℕ → ℕ → Result Class NoClass → List ℕ
 reading_line figures identifier number class =
     printed_line (identifier_text identifier ∷ natural_text number ∷ class_word class ∷ figure_of figures class ∷ [])
 
 -- the end of that line: the class word and its number
-abbrev pub class_end : Figures → Class → List ℕ
+abbrev pub class_end : Figures → Result Class NoClass → List ℕ
 class_end figures class = printed_line (class_word class ∷ figure_of figures class ∷ [])
 
 -- "A refused frame gives identifier, `no`, number"

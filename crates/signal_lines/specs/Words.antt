@@ -1,10 +1,11 @@
 -- "The words are `value`, `invalid`, `absent`, `error`, `reserved`, `outside`": one for each class, as its bytes;
 -- and the figures beside it. Assumes nothing.
-use Rattle.std.specs.Prelude.{List, [], ◌∷◌, ℕ, Float}
+use Rattle.std.specs.Prelude.{List, [], ◌∷◌, ℕ, Float, Result, Ok, Err}
 use Rattle.std.specs.Float.{binary64}
 use Rattle.std.specs.Float.Ieee.{to_bits}
 use Rattle.catalogue.specs.declared.Class.{Class}
-use Rattle.catalogue.specs.declared.Class.TheVariants.{Value, Invalid, Absent, Error, Reserved, Outside, NotInCatalogue, TooWide}
+use Rattle.catalogue.specs.declared.Class.TheVariants.{Value, Invalid, Absent, Error, Reserved, Outside}
+use Rattle.catalogue.specs.declared.NoClass.{NoClass}
 use Rattle.catalogue.specs.declared.Thousandths.{Thousandths}
 use Rattle.doubles.specs.Doubles.{in_units_spec}
 use Rattle.numerals.specs.Written.{digits_of_spec}
@@ -34,16 +35,15 @@ outside_word = 111 ∷ 117 ∷ 116 ∷ 115 ∷ 105 ∷ 100 ∷ 101 ∷ []  -- ou
 abbrev pub no_word : List ℕ
 no_word = 110 ∷ 111 ∷ []  -- no
 
--- the word of a class; a signal that a book places is in the catalogue and its count is no wider, so the last two have none
-abbrev pub class_word : Class → List ℕ
-class_word (Value t) = value_word
-class_word (Invalid r) = invalid_word
-class_word (Absent r) = absent_word
-class_word (Error r) = error_word
-class_word (Reserved r) = reserved_word
-class_word (Outside r) = outside_word
-class_word NotInCatalogue = []
-class_word TooWide = []
+-- the word of a class; a signal that a book places is in the catalogue and its count is no wider, so a refusal has none
+abbrev pub class_word : Result Class NoClass → List ℕ
+class_word (Ok (Value t)) = value_word
+class_word (Ok (Invalid r)) = invalid_word
+class_word (Ok (Absent r)) = absent_word
+class_word (Ok (Error r)) = error_word
+class_word (Ok (Reserved r)) = reserved_word
+class_word (Ok (Outside r)) = outside_word
+class_word (Err e) = []
 
 -- ---- the figures beside the word
 
@@ -60,12 +60,11 @@ value_figures InThousandths t = signed_text t.0
 value_figures AsDoubles t = double_text (in_units_spec t)
 
 -- "the thousandths of a value or the raw count of any other class"
-abbrev pub figure_of : Figures → Class → List ℕ
-figure_of figures (Value t) = value_figures figures t
-figure_of figures (Invalid r) = natural_text r.0
-figure_of figures (Absent r) = natural_text r.0
-figure_of figures (Error r) = natural_text r.0
-figure_of figures (Reserved r) = natural_text r.0
-figure_of figures (Outside r) = natural_text r.0
-figure_of figures NotInCatalogue = natural_text 0
-figure_of figures TooWide = natural_text 0
+abbrev pub figure_of : Figures → Result Class NoClass → List ℕ
+figure_of figures (Ok (Value t)) = value_figures figures t
+figure_of figures (Ok (Invalid r)) = natural_text r.0
+figure_of figures (Ok (Absent r)) = natural_text r.0
+figure_of figures (Ok (Error r)) = natural_text r.0
+figure_of figures (Ok (Reserved r)) = natural_text r.0
+figure_of figures (Ok (Outside r)) = natural_text r.0
+figure_of figures (Err e) = natural_text 0

@@ -10,6 +10,8 @@ use doubles::bits_in_units;
 use printing::put_signed;
 use writing::put_hexadecimals;
 
+// Kept: a trait is no plainer: `listing: Listing listing` and its laws take the figures as a value, and each function between would carry
+// a type parameter with the figures as its ghost member.
 #[derive(Clone, Copy)]
 pub enum Figures {
     InThousandths,

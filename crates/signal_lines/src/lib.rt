@@ -5,13 +5,13 @@
 
 mod figures;
 
-ghost use Rattle.std.specs.Prelude.{[], ◌∷◌, ◌+◌, ◌≤◌, length};
+ghost use Rattle.std.specs.Prelude.{[], ◌∷◌, ◌+◌, ◌≤◌, length, Ok};
 ghost use Rattle.doubles.specs.Doubles.{Small, SmallIfValue};
 ghost use Rattle.printing.specs.Put.{PutWithin};
 ghost use Rattle.printing.specs.Decimal.{natural_text};
 ghost use Rattle.signal_lines.specs.Printed.{printed_line, reading_line, class_end, refused_frame_line, listed_line_room, end_room, word_room};
 
-use catalogue::{Class, Thousandths};
+use catalogue::{Class, NoClass, Thousandths};
 pub use figures::Figures;
 use figures::put_figures;
 use parts::{NEWLINE, TAB};
@@ -38,7 +38,7 @@ fn put_count(out: &mut [u8], at: usize, word: &[u8], count: u32) -> usize
 // The word and the figures of a value.
 fn put_value(out: &mut [u8], at: usize, reading: Thousandths, figures: Figures) -> usize
     requires { (at + end_room ≤ length out.old) × Small reading }
-    ensures { PutWithin out.old at end_room (class_end figures (Class.Value reading)) out.new result }
+    ensures { PutWithin out.old at end_room (class_end figures (Ok (Class.Value reading))) out.new result }
 {
     let after_word = put_bytes(&mut *out, at, b"value");
     let number = put_byte(&mut *out, after_word, TAB);
@@ -48,8 +48,8 @@ fn put_value(out: &mut [u8], at: usize, reading: Thousandths, figures: Figures) 
 
 // The word of a class, and its figures or count.
 fn put_class(out: &mut [u8], at: usize, class: Class, figures: Figures) -> usize
-    requires { (at + end_room ≤ length out.old) × SmallIfValue class }
-    ensures { PutWithin out.old at end_room (class_end figures class) out.new result }
+    requires { (at + end_room ≤ length out.old) × SmallIfValue (Ok class) }
+    ensures { PutWithin out.old at end_room (class_end figures (Ok class)) out.new result }
 {
     match class {
         Class::Value(reading) => put_value(out, at, reading, figures),
@@ -58,18 +58,16 @@ fn put_class(out: &mut [u8], at: usize, class: Class, figures: Figures) -> usize
         Class::Error(raw) => put_count(out, at, b"error", raw.0),
         Class::Reserved(raw) => put_count(out, at, b"reserved", raw.0),
         Class::Outside(raw) => put_count(out, at, b"outside", raw.0),
-        Class::NotInCatalogue => put_count(out, at, b"", 0),
-        Class::TooWide => put_count(out, at, b"", 0),
     }
 }
 
-// One signal's reading.
+// One signal's reading. A signal that a book places has a class; where there is none, the word is empty and the figure 0.
 pub fn put_reading(
     out: &mut [u8],
     at: usize,
     identifier: u32,
     number: u32,
-    class: Class,
+    class: Result<Class, NoClass>,
     figures: Figures,
 ) -> usize
     requires { (at + listed_line_room ≤ length out.old) × SmallIfValue class }
@@ -79,7 +77,10 @@ pub fn put_reading(
     let second = put_byte(&mut *out, after_identifier, TAB);
     let after_number = put_natural(&mut *out, second, number as u64);
     let third = put_byte(&mut *out, after_number, TAB);
-    put_class(&mut *out, third, class, figures)
+    match class {
+        Ok(class) => put_class(&mut *out, third, class, figures),
+        Err(_) => put_count(&mut *out, third, b"", 0),
+    }
 }
 
 // A refused frame.

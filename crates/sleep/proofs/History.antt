@@ -2,8 +2,7 @@
 use Rattle.std.proofs.Common.{◌≡◌, ℕ, ◌+◌, ◌-◌, ◌<◌, ◌≤◌, Bool, true, false, cond, leb, List, [], ◌∷◌, refl, arith, le-leb, leb-false, leb-true}
 use native.Mathlib.Nat.{sub_self}
 use borrow.Author.Tests.{lt-leb}
-use Rattle.sleep.specs.declared.SleepAnswer.TheVariants.{Taken}
-use Rattle.sleep.specs.Watching.{watch_of, awake_at, watch_and_answer, circle, half_the_circle, age, sleeps_after, after_call}
+use Rattle.sleep.specs.Watching.{taken, watch_of, awake_at, watch_and_answer, circle, half_the_circle, age, sleeps_after, after_call}
 use Rattle.sleep.specs.History.{Call, clock_shows, woken_after, time_after, last_wake_spec, watch_after, NoneRefused, sleep_is_due, OftenAwake, NoWake}
 
 -- the age of less than a whole turn is the time passed
@@ -22,7 +21,7 @@ module _ (woken time : ℕ) (c : Call) (after : woken ≤ time) (often : sleep_i
   abbrev Step : Bool → Bool → Type 0
   Step asleep wake =
       after_call (watch_of (clock_shows woken) asleep) (clock_shows now) wake
-      ≡ watch_and_answer (watch_of (clock_shows (cond wake now woken)) (sleep_is_due (cond wake now woken) now)) Taken
+      ≡ watch_and_answer (watch_of (clock_shows (cond wake now woken)) (sleep_is_due (cond wake now woken) now)) taken
 
   true_age : sleep_is_due woken time ≡ false → age (clock_shows now) (clock_shows woken) ≡ now - woken
   true_age awake = age_passed woken now (omega arith) (omega (arith, leb-false sleeps_after (time - woken) awake, often awake))

@@ -1,32 +1,25 @@
 -- Each public function's contract allows one outcome and no other. Assumes nothing.
-use Rattle.std.proofs.Common.{ℕ, Bool, refl, MutBor}
-use seplogic.Ra.Ura.{Ura}
-use base.Logic.{SProp}
-use prog.Memory.{Memory}
-use prog.Routine.{Routine}
-use types.Logic.{Logic}
-use contract.Lifetimes.{Lfts}
-use contract.Monad.{Fun}
-use denote.Ref.{at_last}
-use denote.Triple.Clauses.{AtExit}
-use Rattle.only.specs.Only.{Only, only_this}
-use Rattle.sleep.specs.declared.Watch.{Watch}
-use Rattle.sleep.specs.declared.Updated.{Updated}
-use Rattle.sleep.specs.Watching.{awake_at, after_call}
-use Rattle.sleep.specs.contracts.Watch as T
-use Rattle.sleep.specs.contracts.Updated as D
+use Rattle.std.specs.Prelude.{refl, Err}
+use Rattle.only.specs.Outcomes.{OneResult, OneOutcome, result_is, outcome_is}
+use Rattle.sleep.specs.Watching.{watch_and_answer, awake_at, sleep_refusal, after_call}
+use Rattle.sleep.specs.contracts.Updated as Updated
 use Rattle.sleep.specs.contracts.Watch.new as new
 use Rattle.sleep.specs.contracts.Watch.updated as updated
+use Rattle.sleep.specs.contracts.U32FromClockWentBack.from as from
 use Rattle.sleep.specs.contracts.update as update
 
-module _ {M : Type 1} {𝓤 : Ura M} (𝓛 : Logic 𝓤) (mem : Memory → SProp 𝓤) (run : Routine → Fun 𝓤) where
-  pub one_new : (time : ℕ) (e : AtExit new.ended tt) → Only 𝓤 (λ r. (new.clauses 𝓛 mem run tt (time, tt)).ensures tt r e)
-  one_new time e = only_this 𝓤 _ (T.the_row).coded (awake_at time) (λ r. refl)
+module _ (M : Type 1) where
+  pub one_new : OneResult M new.ended (λ _. new.clauses)
+  one_new = result_is (λ c. awake_at c.arguments.0) refl
 
-  pub one_updated : (w : Watch) (time : ℕ) (wake : Bool) (e : AtExit updated.ended tt) → Only 𝓤 (λ r. (updated.clauses 𝓛 mem run tt (w, (time, (wake, tt)))).ensures tt r e)
-  one_updated w time wake e = only_this 𝓤 _ (D.the_row).coded (after_call w time wake) (λ r. refl)
+  pub one_updated : OneResult M updated.ended (λ _. updated.clauses)
+  one_updated = result_is (λ c. after_call c.arguments.0 c.arguments.1.0 c.arguments.1.1.0) refl
+
+  pub one_sleep_refusal : OneResult M from.ended (λ _. from.clauses)
+  one_sleep_refusal = result_is (λ c. sleep_refusal (Err c.arguments.0)) refl
 
   -- the watch that stands there at exit, and the answer, together
-  pub one_update : (κs : Lfts 1) (w : MutBor Watch) (time : ℕ) (wake : Bool)
-      → Only 𝓤 (λ (x : Updated). (update.clauses 𝓛 mem run κs (w, (time, (wake, tt)))).ensures tt x.answer (at_last w x.watch, (time, (wake, tt))))
-  one_update κs w time wake = only_this 𝓤 _ (D.the_row).coded (after_call w.now time wake) (λ x. refl)
+  pub one_update : OneOutcome M update.ended (λ _. update.clauses)
+  one_update =
+      outcome_is (Updated.the_row).coded (λ c o. watch_and_answer o.1.0 o.0) (λ c x. (x.answer, (x.watch, (tt, (tt, tt))))) (λ c o. refl) (λ c x. refl)
+      (λ c. after_call c.arguments.0.now c.arguments.1.0 c.arguments.1.1.0) refl

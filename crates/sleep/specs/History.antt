@@ -1,8 +1,7 @@
 -- Calls of the watch by a clock that never goes back. Time runs on without end; the clock shows its last 32 bits. Assumes nothing.
 use Rattle.std.specs.Prelude.{◌≡◌, ℕ, ◌+◌, ◌-◌, ◌%◌, ◌≤◌, Bool, false, cond, List, [], ◌∷◌, nat_le}
 use Rattle.sleep.specs.declared.Watch.{Watch}
-use Rattle.sleep.specs.declared.SleepAnswer.TheVariants.{Taken}
-use Rattle.sleep.specs.Watching.{circle, half_the_circle, sleeps_after, after_call}
+use Rattle.sleep.specs.Watching.{taken, circle, half_the_circle, sleeps_after, after_call}
 
 -- a call comes some milliseconds after the call before it
 pub record Call : Type 0 where
@@ -35,7 +34,7 @@ watch_after w time (c ∷ more) = watch_after (after_call w (clock_shows (time +
 unfoldable pub NoneRefused : Watch → ℕ → List Call → Type 0
 NoneRefused w time [] = Unit
 NoneRefused w time (c ∷ more) =
-    ((after_call w (clock_shows (time + c.later)) c.wake).answer ≡ Taken) × NoneRefused (after_call w (clock_shows (time + c.later)) c.wake).watch (time + c.later) more
+    ((after_call w (clock_shows (time + c.later)) c.wake).answer ≡ taken) × NoneRefused (after_call w (clock_shows (time + c.later)) c.wake).watch (time + c.later) more
 
 -- the truck is to sleep at this time: 10,000 ms have passed since the last wake
 abbrev pub sleep_is_due : ℕ → ℕ → Bool

@@ -1,14 +1,23 @@
 -- The sleep watch, in document 01's words. Assumes nothing.
-use Rattle.std.specs.Prelude.{ℕ, ◌+◌, ◌-◌, ◌%◌, ◌^◌, Bool, false, cond, nat_le}
+use Rattle.std.specs.Prelude.{ℕ, ◌+◌, ◌-◌, ◌%◌, ◌^◌, Bool, false, cond, nat_le, Result, Ok, Err}
 use Rattle.sleep.specs.declared.Watch.{Watch}
-use Rattle.sleep.specs.declared.SleepAnswer.{SleepAnswer}
-use Rattle.sleep.specs.declared.SleepAnswer.TheVariants.{Taken, ClockWentBack}
+use Rattle.sleep.specs.declared.ClockWentBack.{ClockWentBack}
 use Rattle.sleep.specs.declared.Updated.{Updated}
+
+-- the answer to a call: taken, or refused because the clock went back
+abbrev pub SleepAnswer : Type 0
+SleepAnswer = Result Unit ClockWentBack
+
+abbrev pub taken : SleepAnswer
+taken = Ok tt
+
+abbrev pub clock_went_back : SleepAnswer
+clock_went_back = Err (record {})
 
 -- document 01's number of each answer; 0 is no refusal
 abbrev pub sleep_refusal : SleepAnswer → ℕ
-sleep_refusal Taken = 0
-sleep_refusal ClockWentBack = 51
+sleep_refusal (Ok _) = 0
+sleep_refusal (Err _) = 51
 
 -- a watch from its parts, and what a call leaves: the watch and the answer
 abbrev pub watch_of : ℕ → Bool → Watch
@@ -39,7 +48,7 @@ sleeps_after = 10000
 
 -- "it stays asleep until wake is on. While asleep no call is refused, and a wake-off call changes nothing"
 abbrev pub while_asleep : Watch → ℕ → Bool → Updated
-while_asleep w time wake = watch_and_answer (cond wake (awake_at time) w) Taken
+while_asleep w time wake = watch_and_answer (cond wake (awake_at time) w) taken
 
 -- "Wake on: awake, last wake = now. Wake off: asleep from age 10,000 on"
 abbrev pub while_awake : Watch → ℕ → Bool → Watch
@@ -49,4 +58,4 @@ while_awake w time wake = cond wake (awake_at time) (watch_of w.last_wake (nat_l
 unfoldable pub after_call : Watch → ℕ → Bool → Updated
 after_call w time wake =
     cond w.asleep (while_asleep w time wake)
-    (cond (nat_le half_the_circle (age time w.last_wake)) (watch_and_answer w ClockWentBack) (watch_and_answer (while_awake w time wake) Taken))
+    (cond (nat_le half_the_circle (age time w.last_wake)) (watch_and_answer w clock_went_back) (watch_and_answer (while_awake w time wake) taken))

@@ -2,10 +2,8 @@
 -- Assumes nothing: these are definitions.
 use Rattle.std.specs.Prelude.{ℕ, Bool, true, false, List, [], ◌∷◌}
 use Rattle.sleep.specs.declared.Watch.{Watch}
-use Rattle.sleep.specs.declared.SleepAnswer.{SleepAnswer}
-use Rattle.sleep.specs.declared.SleepAnswer.TheVariants.{Taken, ClockWentBack}
 use Rattle.sleep.specs.declared.Updated.{Updated}
-use Rattle.sleep.specs.Watching.{awake_at, watch_of, watch_and_answer}
+use Rattle.sleep.specs.Watching.{SleepAnswer, taken, clock_went_back, awake_at, watch_of, watch_and_answer}
 
 -- a watch, a call on it, and the watch with the answer after it
 pub record WorkedCall : Type 0 where
@@ -22,15 +20,15 @@ asleep_since time = watch_of time true
 
 unfoldable pub worked_calls : List WorkedCall
 worked_calls =
-    worked_call (awake_at 5) 10004 false (awake_at 5) Taken
-    ∷ worked_call (awake_at 5) 10005 false (asleep_since 5) Taken
-    ∷ worked_call (awake_at 4294967295) 9998 false (awake_at 4294967295) Taken
-    ∷ worked_call (awake_at 4294967295) 9999 false (asleep_since 4294967295) Taken
-    ∷ worked_call (awake_at 1000) 999 true (awake_at 1000) ClockWentBack
-    ∷ worked_call (awake_at 0) 2147483648 true (awake_at 0) ClockWentBack
-    ∷ worked_call (awake_at 0) 2147483648 false (awake_at 0) ClockWentBack
-    ∷ worked_call (awake_at 0) 2147483647 true (awake_at 2147483647) Taken
-    ∷ worked_call (awake_at 0) 2147483647 false (asleep_since 0) Taken
-    ∷ worked_call (asleep_since 1000) 999 false (asleep_since 1000) Taken
-    ∷ worked_call (asleep_since 1000) 999 true (awake_at 999) Taken
+    worked_call (awake_at 5) 10004 false (awake_at 5) taken
+    ∷ worked_call (awake_at 5) 10005 false (asleep_since 5) taken
+    ∷ worked_call (awake_at 4294967295) 9998 false (awake_at 4294967295) taken
+    ∷ worked_call (awake_at 4294967295) 9999 false (asleep_since 4294967295) taken
+    ∷ worked_call (awake_at 1000) 999 true (awake_at 1000) clock_went_back
+    ∷ worked_call (awake_at 0) 2147483648 true (awake_at 0) clock_went_back
+    ∷ worked_call (awake_at 0) 2147483648 false (awake_at 0) clock_went_back
+    ∷ worked_call (awake_at 0) 2147483647 true (awake_at 2147483647) taken
+    ∷ worked_call (awake_at 0) 2147483647 false (asleep_since 0) taken
+    ∷ worked_call (asleep_since 1000) 999 false (asleep_since 1000) taken
+    ∷ worked_call (asleep_since 1000) 999 true (awake_at 999) taken
     ∷ []

@@ -3,10 +3,8 @@
 // watch after it, or `no` and the refusal.
 #![tactic(auto)]
 
-ghost use Rattle.std.specs.Prelude.{◌≡◌, ◌-◌, ◌≤◌};
-
 use numerals::identifier_or_0;
-use sleep::{SleepAnswer, Watch};
+use sleep::Watch;
 use std::io::Read;
 use streams::{print_bytes, print_decimal, read_full};
 
@@ -15,57 +13,25 @@ const MOST_TURNS: u32 = 1000000;
 
 // What the main loop does next.
 #[derive(Clone, Copy)]
-struct Turn {
-    // How many turns may still come, this one among them: 0 where the input has ended.
-    left: u32,
-    // A new watch, and not a call.
-    starts: bool,
-    time: u32,
-    wake: bool,
+enum Turn {
+    // A new watch, awake at the time.
+    Start(u32),
+    Call { time: u32, wake: bool },
 }
 
-fn no_turn() -> Turn
-    ensures { result.left ≡ 0 }
-{
-    Turn {
-        left: 0,
-        starts: false,
-        time: 0,
-        wake: false,
-    }
-}
-
-// The turn of the next line, after one with so many left.
-fn next_turn<R: Read>(input: &mut R, left: u32) -> Turn
-    ensures { result.left ≤ left - 1 }
-{
+// The turn of the next line; none where the input has ended.
+fn next_turn<R: Read>(input: &mut R) -> Option<Turn> {
     let mut line = [0u8; 10];
-    if left < 2 {
-        return no_turn();
-    }
     if read_full(input, &mut line) < 10 {
-        return no_turn();
+        return None;
     }
     let time = identifier_or_0(&line[1..9]);
-    let letter = line[0];
-    Turn {
-        left: left - 1,
-        starts: letter == b'N',
-        time,
-        wake: letter == b'W',
-    }
-}
-
-fn first_turn<R: Read>(input: &mut R) -> Turn {
-    next_turn(input, MOST_TURNS)
-}
-
-fn print(rt: &impl Print, watch: Watch, answer: SleepAnswer) {
-    match answer {
-        SleepAnswer::Taken => print_watch(rt, watch),
-        SleepAnswer::ClockWentBack => {
-            print_bytes(rt, b"no\t51\n");
-        }
+    match line[0] {
+        b'N' => Some(Turn::Start(time)),
+        letter => Some(Turn::Call {
+            time,
+            wake: letter == b'W',
+        }),
     }
 }
 
@@ -75,7 +41,13 @@ fn print_watch(rt: &impl Print, watch: Watch) {
     } else {
         print_bytes(rt, b"awake\t");
     }
-    print_decimal(rt, watch.last_wake as u64);
+    print_decimal(rt, u64::from(watch.last_wake));
+    print_bytes(rt, b"\n");
+}
+
+fn print_refusal(rt: &impl Print, number: u32) {
+    print_bytes(rt, b"no\t");
+    print_decimal(rt, u64::from(number));
     print_bytes(rt, b"\n");
 }
 
@@ -83,14 +55,16 @@ fn print_watch(rt: &impl Print, watch: Watch) {
 fn main(rt: HostRuntime) {
     let mut input = rt.stdin();
     let mut watch = Watch::new(0);
-    let mut turn = first_turn(&mut input);
-    while 0 < turn.left {
-        if turn.starts {
-            watch = Watch::new(turn.time);
-        } else {
-            let answer = sleep::update(&mut watch, turn.time, turn.wake);
-            print(&rt, watch, answer);
+    for _ in 1..MOST_TURNS {
+        let Some(turn) = next_turn(&mut input) else {
+            return;
+        };
+        match turn {
+            Turn::Start(time) => watch = Watch::new(time),
+            Turn::Call { time, wake } => match sleep::update(&mut watch, time, wake) {
+                Ok(()) => print_watch(&rt, watch),
+                Err(why) => print_refusal(&rt, u32::from(why)),
+            },
         }
-        turn = next_turn(&mut input, turn.left);
     }
 }

@@ -17,7 +17,7 @@ fn ask<R: Read>(rt: &impl Print, input: &mut R, book: &[u32; BOOK_WORDS]) {
     read_full(input, &mut line);
     let bus = identifier_or_0(&line[0..8]);
     let identifier = identifier_or_0(&line[8..16]);
-    let size = short_hex(line[16], line[17]);
+    let size = short_hex(line[16], line[17]) as usize;
     route_cases::print_spread(rt, b"spread\t", book, bus, identifier, size);
 }
 

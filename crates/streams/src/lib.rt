@@ -5,7 +5,6 @@
 ghost use Rattle.std.specs.Prelude.{◌≤◌, length, take};
 ghost use Rattle.std.specs.Io.KnownBytes.{Consumes};
 
-use parts::part_before;
 use std::io;
 use std::io::{ErrorKind, Read};
 
@@ -27,17 +26,17 @@ pub fn read_full<R: Read>(input: &mut R, buffer: &mut [u8]) -> usize
 
 // Fills the first `size` bytes, as far as the input goes.
 pub fn read_first<R: Read>(input: &mut R, buffer: &mut [u8], size: usize) {
-    if size <= buffer.len() {
-        read_full(input, &mut buffer[..size]);
+    if let Some(front) = buffer.get_mut(..size) {
+        read_full(input, front);
     }
 }
 
 // Writes the first `size` bytes. An answer without an error says that all of them were taken.
 pub fn write_first(rt: &impl Print, buffer: &[u8], size: usize) -> io::Result<()> {
-    if size > buffer.len() {
+    let Some(front) = buffer.get(..size) else {
         return Err(io::Error::from(ErrorKind::InvalidInput));
-    }
-    rt.write_all(part_before(buffer, size))
+    };
+    rt.write_all(front)
 }
 
 pub fn print_bytes(rt: &impl Print, bytes: &[u8]) {
@@ -46,5 +45,10 @@ pub fn print_bytes(rt: &impl Print, bytes: &[u8]) {
 
 // The number in decimal digits.
 pub fn print_decimal(rt: &impl Print, number: u64) {
+    let _ = rt.print(number);
+}
+
+// The number in decimal digits, a minus before one below zero.
+pub fn print_signed(rt: &impl Print, number: i64) {
     let _ = rt.print(number);
 }

@@ -11,8 +11,10 @@ use Rattle.placing.specs.declared.Filled.{Filled}
 use Rattle.placing.specs.Filling.{Fills, FilledMore}
 use Rattle.placing.proofs.Placing.{has_bits}
 use Rattle.placing.proofs.Filling.{fills_none, fills_more}
-use Rattle.tables.specs.declared.AddedSignal.{AddedSignal}
-use Rattle.tables.specs.Adding.{HoldsFilled, SignalJudged, added_number, unless}
+use Rattle.std.specs.Prelude.{Ok, Err}
+use Rattle.answers.specs.declared.Refusal.{Refusal}
+use Rattle.answers.specs.Numbers.{number}
+use Rattle.tables.specs.Adding.{Holds, SignalJudged}
 use Rattle.tables.proofs.Refused.{stays, takes}
 use Rattle.tables.proofs.Room.{signal_room}
 
@@ -28,11 +30,9 @@ fills_signal ms p e f h b eb g m =
     subst (λ (ps : List Placement). Fills ps g) (sym (last_longer ms p r.some))
     (fills_more (last_placements ms) p f h (has_bits p r.alone) b eb g m)
 
-module _ (b : Book) (p : Placement) (r : AddedSignal) (w : List ℕ) (e : added_number r.added ≡ signal_refusal b.messages p) where
-  pub signal_stays : (n : ℕ) → signal_refusal b.messages p ≡ suc n → HoldsFilled w r.filled b → SignalJudged b p r w
-  unfolding unless
-  signal_stays n f k = record { judged = stays _ w b (with_signal b p) r.added e n f k.holds; fills = rw f k.fills }
+module _ (b : Book) (p : Placement) (w : List ℕ) where
+  pub signal_stays : (why : Refusal) (n : ℕ) → number why ≡ signal_refusal b.messages p → signal_refusal b.messages p ≡ suc n → Holds w b → SignalJudged b p (Err why) w
+  signal_stays why n e f h = record { judged = stays _ w b (with_signal b p) (Err why) e n f h; fills = tt }
 
-  pub signal_takes : signal_refusal b.messages p ≡ 0 → w ≡ words_of (with_signal b p) → Fills (last_placements (in_last b.messages p)) r.filled → SignalJudged b p r w
-  unfolding unless
-  signal_takes f g h = record { judged = takes _ w b (with_signal b p) r.added e f g; fills = rw f h }
+  pub signal_takes : (g : Filled) → signal_refusal b.messages p ≡ 0 → w ≡ words_of (with_signal b p) → Fills (last_placements (in_last b.messages p)) g → SignalJudged b p (Ok g) w
+  signal_takes g f k h = record { judged = takes _ w b (with_signal b p) (Ok g) (sym f) f k; fills = h }

@@ -2,7 +2,7 @@
 use mathlib.Core.Path.{◌≡◌, refl, sym, ap, ◌∙◌}
 use mathlib.Core.Bool.{Bool, true, false, cond, ◌||◌}
 use mathlib.Core.List.{List}
-use Prim.Native.Nat.{ℕ, zero, suc}
+use Prim.Native.Nat.{ℕ}
 use native.Mathlib.Omega.{arith}
 use lib.Dec.{eqb, leb}
 use lib.ListN.{length}
@@ -18,40 +18,37 @@ use Rattle.placing.specs.declared.Filled.{Filled}
 use Rattle.placing.specs.Filling.{Fills}
 use Rattle.placing.proofs.Placing.{alone_room}
 use Rattle.placing.proofs.Filling.{more_there, fills_once}
-use Rattle.tables.specs.declared.Added.{Added}
-use Rattle.tables.specs.declared.Added.TheVariants as added
-use Rattle.tables.specs.declared.AddedSignal.{AddedSignal}
+use Rattle.std.specs.Prelude.{Result, Ok, Err}
 use Rattle.tables.specs.Adding.{added_number, unless, LineJudged, SignalJudged}
 use Rattle.tables.proofs.Room.{signal_room}
 use Rattle.tables.proofs.Kept.{fills_signal}
 
--- ---- no two answers have the same number
-answers_apart : (r r' : Added) → added_number r ≡ added_number r' → r ≡ r'
-answers_apart added.Taken added.Taken e = refl
-answers_apart added.Taken (added.Refused why) e = absurd (omega (arith, (above_0 why).1))
-answers_apart (added.Refused why) added.Taken e = absurd (omega (arith, (above_0 why).1))
-answers_apart (added.Refused why) (added.Refused why') e = ap added.Refused (number_once why why' e)
+-- ---- no two answers have the same number, where those of lines that are taken have the same
+answers_apart : {A : Type 0} (r r' : Result A Refusal) → ((x y : A) → r ≡ Ok x → r' ≡ Ok y → x ≡ y) → added_number r ≡ added_number r' → r ≡ r'
+answers_apart (Ok x) (Ok y) s e = ap Ok (s x y refl refl)
+answers_apart (Ok x) (Err why) s e = absurd (omega (arith, (above_0 why).1))
+answers_apart (Err why) (Ok y) s e = absurd (omega (arith, (above_0 why).1))
+answers_apart (Err why) (Err why') s e = ap Err (number_once why why' e)
 
-pub judged_once : (refusal : ℕ) (old new : Book) (r r' : Added) (w w' : List ℕ) → LineJudged refusal old new r w → LineJudged refusal old new r' w' → (r ≡ r') × (w ≡ w')
-judged_once refusal old new r r' w w' j j' = (answers_apart r r' (j.answer ∙ sym j'.answer), j.words ∙ sym j'.words)
+pub judged_once : (refusal : ℕ) (old new : Book) (r r' : Result Unit Refusal) (w w' : List ℕ) → LineJudged refusal old new r w → LineJudged refusal old new r' w' → (r ≡ r') × (w ≡ w')
+judged_once refusal old new r r' w w' j j' = (answers_apart r r' (λ x y d e. refl) (j.answer ∙ sym j'.answer), j.words ∙ sym j'.words)
 
-pub signal_judged_once : (b : Book) (p : Placement) (r r' : AddedSignal) (w w' : List ℕ) → SignalJudged b p r w → SignalJudged b p r' w' → (r ≡ r') × (w ≡ w')
+pub signal_judged_once : (b : Book) (p : Placement) (r r' : Result Filled Refusal) (w w' : List ℕ) → SignalJudged b p r w → SignalJudged b p r' w' → (r ≡ r') × (w ≡ w')
 signal_judged_once b p r r' w w' j j' =
-    let e = judged_once _ b (with_signal b p) r.added r'.added w w' j.judged j'.judged in
-    let f = fills_once _ r.filled r'.filled j.fills j'.fills in
-    (λ i. record { added = e.0 i; filled = f i }, e.1)
+    let one = λ (x y : Filled) (d : r ≡ Ok x) (e : r' ≡ Ok y). fills_once _ x y (rw d at j.fills) (rw e at j'.fills) in
+    (answers_apart r r' one (j.judged.answer ∙ sym j'.judged.answer), j.judged.words ∙ sym j'.judged.words)
 
 -- ---- and each refusal has an answer
 pub record Answers (n : ℕ) : Type 0 where
-  pub answer : Added
+  pub answer : Result Unit Refusal
   pub is : added_number answer ≡ n
 
 or : (t : Bool) (why : Refusal) (n : ℕ) → Answers n → Answers (cond t (number why) n)
-or true why n a = record { answer = added.Refused why; is = refl }
+or true why n a = record { answer = Err why; is = refl }
 or false why n a = a
 
 taken : Answers 0
-taken = record { answer = added.Taken; is = refl }
+taken = record { answer = Ok tt; is = refl }
 
 pub message_answer : (ms : List Message) (i : ℕ) → Answers (message_refusal ms i)
 unfolding message_refusal
@@ -78,24 +75,17 @@ route_answer rs x i y j =
 pub judged_there : (refusal : ℕ) (old new : Book) (a : Answers refusal) → LineJudged refusal old new a.answer (words_of (unless refusal old new))
 judged_there refusal old new a = record { answer = a.is; words = refl }
 
--- what the last message's signals fill then
-filled_there : (b : Book) (p : Placement) (f : Filled) → Fills (last_placements b.messages) f
-    → (g : Filled) × Fills (last_placements (unless (signal_refusal b.messages p) b (with_signal b p)).messages) g
-unfolding unless
-filled_there b p f h = go (signal_refusal b.messages p) refl
-  where
-    go : (n : ℕ) → signal_refusal b.messages p ≡ n → (g : Filled) × Fills (last_placements (unless n b (with_signal b p)).messages) g
-    go zero e =
-        let bits = bits_of_spec p.number in
-        let m = more_there f p.number p.start bits (alone_room p.number p.start bits refl (signal_room b.messages p e).alone) in
-        (m.0, fills_signal b.messages p e f h bits refl m.0 m.1)
-    go (suc n) e = (f, h)
-
+-- an `S` line that is taken: what the last message's signals fill then
 pub signal_judged_there : (b : Book) (p : Placement) (f : Filled) → Fills (last_placements b.messages) f
-    → (x : AddedSignal × List ℕ) × SignalJudged b p x.0 x.1
-signal_judged_there b p f h =
-    let a = signal_answer b.messages p in
-    let g = filled_there b p f h in (
-      (record { added = a.answer; filled = g.0 }, words_of (unless (signal_refusal b.messages p) b (with_signal b p))),
-      record { judged = judged_there (signal_refusal b.messages p) b (with_signal b p) a; fills = g.1 },
-    )
+    → (x : Result Filled Refusal × List ℕ) × SignalJudged b p x.0 x.1
+signal_judged_there b p f h = go (signal_answer b.messages p)
+  where
+    go : Answers (signal_refusal b.messages p) → (x : Result Filled Refusal × List ℕ) × SignalJudged b p x.0 x.1
+    go a = by a.answer a.is
+      where
+        by : (r : Result Unit Refusal) → added_number r ≡ signal_refusal b.messages p → (x : Result Filled Refusal × List ℕ) × SignalJudged b p x.0 x.1
+        by (Ok done) e =
+            let bits = bits_of_spec p.number in
+            let m = more_there f p.number p.start bits (alone_room p.number p.start bits refl (signal_room b.messages p (sym e)).alone) in
+            ((Ok m.0, words_of (unless (signal_refusal b.messages p) b (with_signal b p))), record { judged = record { answer = e; words = refl }; fills = fills_signal b.messages p (sym e) f h bits refl m.0 m.1 })
+        by (Err why) e = ((Err why, words_of (unless (signal_refusal b.messages p) b (with_signal b p))), record { judged = record { answer = e; words = refl }; fills = tt })

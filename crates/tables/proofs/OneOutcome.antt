@@ -6,7 +6,8 @@ use mathlib.Core.List.{List}
 use Prim.Native.Nat.{ℕ}
 use seplogic.Ra.Ura.{Ura}
 use base.Logic.{SProp}
-use base.Stored.{coded_ℕ, coded_bool, coded×, coded_list}
+use base.Stored.{coded_ℕ, coded_bool, coded_unit, coded×, coded_list}
+use Rattle.std.specs.Coded.{coded_result}
 use prog.Memory.{Memory}
 use prog.Routine.{Routine}
 use types.Logic.{Logic}
@@ -19,28 +20,28 @@ use Rattle.books.specs.Book.{Book, placement, route, with_message, with_route}
 use Rattle.books.specs.Lines.{message_refusal, route_refusal}
 use Rattle.books.specs.Words.{words_of, messages_taken_spec}
 use Rattle.placing.specs.declared.Filled.{Filled}
-use Rattle.tables.specs.declared.Added.{Added}
-use Rattle.tables.specs.declared.AddedSignal.{AddedSignal}
+use Rattle.std.specs.Prelude.{Result}
+use Rattle.answers.specs.declared.Refusal.{Refusal}
 use Rattle.tables.specs.Adding.{Holds, OfBook, HoldsFilled, OfBookFilled, unless, LineJudged, SignalJudged}
 use Rattle.tables.proofs.OneBook.{one_book}
 use Rattle.tables.proofs.Once.{Answers, message_answer, route_answer, judged_there, judged_once, signal_judged_there, signal_judged_once}
-use Rattle.tables.specs.contracts.Added as the-added
-use Rattle.tables.specs.contracts.AddedSignal as the-added-signal
+use Rattle.answers.specs.contracts.Refusal as the-refusal
+use Rattle.placing.specs.contracts.Filled as the-filled
 use Rattle.tables.specs.contracts.adding.add_message as add-message
 use Rattle.tables.specs.contracts.adding.add_signal as add-signal
 use Rattle.tables.specs.contracts.adding.add_route as add-route
 use Rattle.tables.specs.contracts.testing.messages_taken as messages-taken
 
 -- a clause that states how a line is judged after the book of the words
-one_judged : {M : Type 1} (𝓤 : Ura M) (clause : Added × List ℕ → SProp 𝓤) (w : List ℕ) → OfBook w
+one_judged : {M : Type 1} (𝓤 : Ura M) (clause : Result Unit Refusal × List ℕ → SProp 𝓤) (w : List ℕ) → OfBook w
     → (refusal : Book → ℕ) (new : Book → Book) → ((b : Book) → Answers (refusal b))
-    → ((x : Added × List ℕ) → clause x ≡ fact 𝓤 ((c : Book) → Holds w c → LineJudged (refusal c) c (new c) x.0 x.1)) → Only 𝓤 clause
+    → ((x : Result Unit Refusal × List ℕ) → clause x ≡ fact 𝓤 ((c : Book) → Holds w c → LineJudged (refusal c) c (new c) x.0 x.1)) → Only 𝓤 clause
 one_judged 𝓤 clause w (b, h) refusal new answers says =
     let r = (answers b).answer in
     let after = words_of (unless (refusal b) b (new b)) in
     let here = judged_there (refusal b) b (new b) (answers b) in
     record {
-      coded = coded× (the-added.the_row).coded (coded_list coded_ℕ);
+      coded = coded× (coded_result coded_unit (the-refusal.the_row).coded) (coded_list coded_ℕ);
       outcome = (r, after);
       Says = λ x. (c : Book) → Holds w c → LineJudged (refusal c) c (new c) x.0 x.1;
       says = says;
@@ -54,21 +55,21 @@ module _ {M : Type 1} {𝓤 : Ura M} (𝓛 : Logic 𝓤) (mem : Memory → SProp
 
 module _ {M : Type 1} {𝓤 : Ura M} (𝓛 : Logic 𝓤) (mem : Memory → SProp 𝓤) (run : Routine → Fun 𝓤) (κs : Lfts 1) (book : MutBor (List ℕ)) where
   pub one_add_message : (identifier : ℕ) → OfBook book.now
-      → Only 𝓤 (λ (x : Added × List ℕ). (add-message.clauses 𝓛 mem run κs (book, (identifier, tt))).ensures tt x.0 (at_last book x.1, (identifier, tt)))
+      → Only 𝓤 (λ (x : Result Unit Refusal × List ℕ). (add-message.clauses 𝓛 mem run κs (book, (identifier, tt))).ensures tt x.0 (at_last book x.1, (identifier, tt)))
   one_add_message identifier h = one_judged 𝓤 _ book.now h (λ b. message_refusal b.messages identifier) (λ b. with_message b identifier) (λ b. message_answer b.messages identifier) (λ x. refl)
 
   pub one_add_route : (a i c j : ℕ) → OfBook book.now
-      → Only 𝓤 (λ (x : Added × List ℕ). (add-route.clauses 𝓛 mem run κs (book, (a, (i, (c, (j, tt)))))).ensures tt x.0 (at_last book x.1, (a, (i, (c, (j, tt))))))
+      → Only 𝓤 (λ (x : Result Unit Refusal × List ℕ). (add-route.clauses 𝓛 mem run κs (book, (a, (i, (c, (j, tt)))))).ensures tt x.0 (at_last book x.1, (a, (i, (c, (j, tt))))))
   one_add_route a i c j h = one_judged 𝓤 _ book.now h (λ b. route_refusal b.routes a i c j) (λ b. with_route b (route a i c j)) (λ b. route_answer b.routes a i c j) (λ x. refl)
 
-module _ {M : Type 1} {𝓤 : Ura M} (𝓛 : Logic 𝓤) (mem : Memory → SProp 𝓤) (run : Routine → Fun 𝓤) (κs : Lfts 4) (book : MutBor (List ℕ)) (above bounds widths : Bor (List ℕ)) where
+module _ {M : Type 1} {𝓤 : Ura M} (𝓛 : Logic 𝓤) (mem : Memory → SProp 𝓤) (run : Routine → Fun 𝓤) (κs : Lfts 2) (book : MutBor (List ℕ)) (widths : Bor Unit) where
   pub one_add_signal : (filled : Filled) (number start : ℕ) → OfBookFilled book.now filled
-      → Only 𝓤 (λ (x : AddedSignal × List ℕ). (add-signal.clauses 𝓛 mem run κs (book, (filled, (number, (start, (above, (bounds, (widths, tt)))))))).ensures tt x.0 (at_last book x.1, (filled, (number, (start, (above, (bounds, (widths, tt))))))))
+      → Only 𝓤 (λ (x : Result Filled Refusal × List ℕ). (add-signal.clauses 𝓛 mem run κs (book, (filled, (number, (start, (widths, tt)))))).ensures tt x.0 (at_last book x.1, (filled, (number, (start, (widths, tt))))))
   one_add_signal filled number start (b, h) =
       let p = placement number start in
       let here = signal_judged_there b p filled h.fills in
       record {
-        coded = coded× (the-added-signal.the_row).coded (coded_list coded_ℕ);
+        coded = coded× (coded_result (the-filled.the_row).coded (the-refusal.the_row).coded) (coded_list coded_ℕ);
         outcome = here.0;
         Says = λ x. (c : Book) → HoldsFilled book.now filled c → SignalJudged c p x.0 x.1;
         says = λ x. refl;

@@ -11,12 +11,13 @@ use Rattle.books.specs.Lines.{is_in, unknown_or_over, message_refusal, after_ref
 use Rattle.books.specs.Words.{words_of}
 use Rattle.books.proofs.Tests.{both_false}
 use Rattle.record.specs.Columns.{message_count_of, route_count_of, ids_of}
-use Rattle.tables.specs.declared.Added.{Added}
+use Rattle.std.specs.Prelude.{Result}
+use Rattle.answers.specs.declared.Refusal.{Refusal}
 use Rattle.tables.specs.Adding.{Holds, LineJudged, added_number, unless}
 use Rattle.tables.proofs.Held.{messages_held, routes_held, ids_held}
 
 -- ---- a line that is refused leaves the words, and one that is taken makes those of the new book
-module _ (refusal : ℕ) (w : List ℕ) (old new : Book) (r : Added) (e : added_number r ≡ refusal) where
+module _ {A : Type 0} (refusal : ℕ) (w : List ℕ) (old new : Book) (r : Result A Refusal) (e : added_number r ≡ refusal) where
   pub stays : (n : ℕ) → refusal ≡ suc n → Holds w old → LineJudged refusal old new r w
   unfolding unless
   stays n f h = record { answer = e; words = rw f h.words }

@@ -7,10 +7,9 @@ ghost use Rattle.books.specs.Lines.{is_in, after_refusal, signal_refusal, messag
 ghost use Rattle.record.specs.Columns.{ids_of, ends_of};
 ghost use Rattle.tables.specs.Adding.{OfBookFilled, HoldsFilled, Earlier, added_number};
 
-use crate::Added;
 use answers::Refusal;
-use placing::{Filled, is_misplaced, is_repeated, run};
-use record::{BOOK_WORDS, BUSES, IDENTIFIER_LIMIT, SIGNALS, START_LIMIT, wide};
+use placing::{Filled, is_misplaced, run};
+use record::{BOOK_WORDS, BUSES, IDENTIFIER_LIMIT, SIGNALS, START_LIMIT};
 
 // Whether a place has a bus or an identifier over the limit.
 pub fn over_limit(bus: u32, identifier: u32) -> bool
@@ -25,8 +24,7 @@ pub fn has_message(book: &[u32; BOOK_WORDS], count: u32, identifier: u32) -> boo
     ensures { result ≡ is_in identifier (take count (ids_of book.now)) }
 {
     let ids = record::ids(book);
-    let n = wide(count);
-    columns::holds(&ids[..n], identifier)
+    columns::holds(&ids[..count as usize], identifier)
 }
 
 // Where the signals of the last of the messages begin.
@@ -34,7 +32,7 @@ fn last_begin(book: &[u32; BOOK_WORDS], messages: u32) -> usize
     requires { (0 < messages) × (messages ≤ message_limit) }
     ensures { result ≡ get_or (0 ∷ ends_of book.now) (messages - 1) 0 }
 {
-    columns::begin(record::ends(book), wide(messages) - 1)
+    columns::begin(record::ends(book), messages as usize - 1)
 }
 
 // A signal of the catalogue, after those before it in its message, which have filled so much, where the book has `count` signals.
@@ -45,23 +43,23 @@ fn judge_after(
     number: u32,
     start: u32,
     bits: u32,
-) -> Added
+) -> Result<(), Refusal>
     requires { ((ps : List Placement) × Earlier before.now filled ps) × (start < start_limit) × (0 < bits) × (bits ≤ most_bits) × (bits ≡ bits_of_spec number) }
     ensures { (ps : List Placement) → Earlier before.now filled ps → added_number result ≡ after_refusal ps count (placement number start) }
 {
-    if is_repeated(before, filled, number) {
-        return Added::Refused(Refusal::SignalRepeated);
+    if filled.is_repeated(before, number) {
+        return Err(Refusal::SignalRepeated);
     }
     if is_misplaced(number, start, bits) {
-        return Added::Refused(Refusal::Misplaced);
+        return Err(Refusal::Misplaced);
     }
     if masks::meet(filled.bits, run(start, bits)) {
-        return Added::Refused(Refusal::BitsMeet);
+        return Err(Refusal::BitsMeet);
     }
     if count >= SIGNALS {
-        return Added::Refused(Refusal::Full);
+        return Err(Refusal::Full);
     }
-    Added::Taken
+    Ok(())
 }
 
 // An `S` line.
@@ -71,21 +69,21 @@ pub fn judge_signal(
     number: u32,
     start: u32,
     bits: u32,
-) -> Added
+) -> Result<(), Refusal>
     requires { OfBookFilled book.now filled × (bits ≡ bits_of_spec number) }
     ensures { (b : Book) → HoldsFilled book.now filled b → added_number result ≡ signal_refusal b.messages (placement number start) }
 {
     if bits == 0 {
-        return Added::Refused(Refusal::OverLimit);
+        return Err(Refusal::OverLimit);
     }
     if start >= START_LIMIT {
-        return Added::Refused(Refusal::OverLimit);
+        return Err(Refusal::OverLimit);
     }
     let messages = record::message_count(book);
     if messages == 0 {
-        return Added::Refused(Refusal::BeforeAnyMessage);
+        return Err(Refusal::BeforeAnyMessage);
     }
-    let end = wide(record::signal_count(book));
+    let end = record::signal_count(book) as usize;
     let first = last_begin(book, messages);
     let before = columns::part(record::numbers(book), first, end);
     judge_after(before, filled, end, number, start, bits)

@@ -8,20 +8,4 @@ mod storing;
 mod testing;
 
 pub use adding::{add_message, add_route, add_signal};
-use answers::Refusal;
-use placing::Filled;
 pub use testing::messages_taken;
-
-// What becomes of a line.
-#[derive(Clone, Copy)]
-pub enum Added {
-    Taken,
-    Refused(Refusal),
-}
-
-// What becomes of an `S` line, and what the signals of the last message fill then.
-#[derive(Clone, Copy)]
-pub struct AddedSignal {
-    pub added: Added,
-    pub filled: Filled,
-}

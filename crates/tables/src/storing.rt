@@ -5,15 +5,16 @@ ghost use Rattle.tables.specs.Storing.{message_stored, signal_stored, route_stor
 
 use record::{
     BOOK_WORDS, ENDS, FROMS, IDS, MESSAGE_COUNT, NUMBERS, ROUTE_COUNT, SIGNAL_COUNT, STARTS, TOS,
-    wide,
 };
 
+// Kept: one function for this and `put_route` is no plainer: the second word is an end here and a place there, and each result is a
+// definition of its own.
 // A message after `count` others. It has no signals yet, so it ends where they end.
 pub fn put_message(book: &mut [u32; BOOK_WORDS], count: u32, identifier: u32, end: u32)
     requires { count < message_limit }
     ensures { book.new ≡ message_stored book.old count identifier end }
 {
-    let at = wide(count);
+    let at = count as usize;
     book[IDS + at] = identifier;
     book[ENDS + at] = end;
     book[MESSAGE_COUNT] = count + 1;
@@ -30,8 +31,8 @@ pub fn put_signal(
     requires { (0 < messages) × (messages ≤ message_limit) × (signals < signal_limit) }
     ensures { book.new ≡ signal_stored book.old messages signals number start }
 {
-    let at = wide(signals);
-    let last = wide(messages) - 1;
+    let at = signals as usize;
+    let last = messages as usize - 1;
     book[NUMBERS + at] = number;
     book[STARTS + at] = start;
     book[ENDS + last] = signals + 1;
@@ -43,7 +44,7 @@ pub fn put_route(book: &mut [u32; BOOK_WORDS], count: u32, from: u32, to: u32)
     requires { count < route_limit }
     ensures { book.new ≡ route_stored book.old count from to }
 {
-    let at = wide(count);
+    let at = count as usize;
     book[FROMS + at] = from;
     book[TOS + at] = to;
     book[ROUTE_COUNT] = count + 1;

@@ -1,13 +1,13 @@
 // The test behind refusal 12 for the message and signal tables: whether they are those of a taken book, whatever the words are.
 ghost use Rattle.std.specs.Prelude.{◌≡◌, ◌&&◌, ◌+◌, ◌≤◌, ◌<◌, length, drop};
 ghost use Rattle.books.specs.Words.{side_by_side, messages_taken_spec};
-ghost use Rattle.books.specs.Lines.{message_limit, signal_limit};
-ghost use Rattle.catalogue.specs.Places.{StartColumns};
+ghost use Rattle.books.specs.Lines.{message_limit};
 ghost use Rattle.placing.specs.Stamps.{Below};
 ghost use Rattle.zeros.specs.Zeros.{zeros};
 ghost use Rattle.tables.specs.Testing.{parted};
 
-use record::{BOOK_WORDS, MESSAGES, SIGNALS, wide};
+use catalogue::{CHECKSUM_PLACE, COUNTER_PLACE, PLACES, SignalStarts};
+use record::{BOOK_WORDS, MESSAGES, SIGNALS};
 
 // Whether the entries past a count are 0 in two columns in step: each rest goes as two halves, which meet where its length is odd.
 fn rests_zero(one: &[u32], other: &[u32], count: usize) -> bool
@@ -25,32 +25,21 @@ fn rests_zero(one: &[u32], other: &[u32], count: usize) -> bool
     )
 }
 
-// The stamp of the message at a place: one more than the place.
-fn stamp_of(at: usize) -> u8
-    requires { at < message_limit }
-    ensures { result ≡ at + 1 }
-{
-    (at + 1) as u8
-}
-
-// Whether the ends part the signals among the messages, and each message's signals stand where they may.
+// Whether the ends part the signals among the messages, and each message's signals stand where they may. The stamp of the message at a
+// place is one more than the place.
 fn well_parted(
     ends: &[u32],
     numbers: &[u32],
     starts: &[u32],
-    above: &[u32],
-    bounds: &[u8],
-    lasts: &[u8],
-    stamps: &mut [u8],
+    columns: &SignalStarts,
+    stamps: &mut [u8; PLACES],
 ) -> bool
-    requires { (length starts.now ≡ length numbers.now) × (length numbers.now ≤ signal_limit) × (length ends.now ≤ message_limit) × StartColumns above.now bounds.now lasts.now × Below stamps.old 1 }
+    requires { (length starts.now ≡ length numbers.now) × (length ends.now ≤ message_limit) × Below stamps.old 1 }
     ensures { result ≡ parted 0 ends.now (side_by_side numbers.now starts.now) }
 {
     let mut begin: usize = 0;
-    let mut left = columns::length_of(ends);
-    let mut at: usize = 0;
-    while left > 0 {
-        let end = wide(ends[at]);
+    for (at, &last) in ends.iter().enumerate() {
+        let end = last as usize;
         if end < begin {
             return false;
         }
@@ -60,17 +49,13 @@ fn well_parted(
         if !placing::well_placed(
             columns::part(numbers, begin, end),
             columns::part(starts, begin, end),
-            above,
-            bounds,
-            lasts,
+            columns,
             stamps,
-            stamp_of(at),
+            (at + 1) as u8,
         ) {
             return false;
         }
         begin = end;
-        at += 1;
-        left -= 1;
     }
     begin == numbers.len()
 }
@@ -79,11 +64,11 @@ fn well_parted(
 pub fn messages_taken(book: &[u32; BOOK_WORDS]) -> bool
     ensures { result ≡ messages_taken_spec book.now }
 {
-    let messages = wide(record::message_count(book));
+    let messages = record::message_count(book) as usize;
     if messages > MESSAGES {
         return false;
     }
-    let signals = wide(record::signal_count(book));
+    let signals = record::signal_count(book) as usize;
     if signals > SIGNALS {
         return false;
     }
@@ -100,19 +85,15 @@ pub fn messages_taken(book: &[u32; BOOK_WORDS]) -> bool
     if !columns::distinct(record::first(ids, messages)) {
         return false;
     }
-    let above = catalogue::surpluses();
-    let bounds = catalogue::bounds();
-    let lasts = rows::last_starts();
-    let mut stamps = [0u8; catalogue::PLACES];
-    stamps[catalogue::CHECKSUM_PLACE] = placing::FIXED_STAMP;
-    stamps[catalogue::COUNTER_PLACE] = placing::FIXED_STAMP;
+    let columns = SignalStarts::new();
+    let mut stamps = [0u8; PLACES];
+    stamps[CHECKSUM_PLACE] = placing::FIXED_STAMP;
+    stamps[COUNTER_PLACE] = placing::FIXED_STAMP;
     well_parted(
         record::first(ends, messages),
         record::first(numbers, signals),
         record::first(starts, signals),
-        &above,
-        &bounds,
-        &lasts,
+        &columns,
         &mut stamps,
     )
 }

@@ -22,8 +22,7 @@ use Rattle.placing.specs.declared.Filled.{Filled}
 use Rattle.placing.proofs.Filling.{fills_none}
 use Rattle.tables.specs.Adding.{HoldsFilled, unless}
 use Rattle.tables.proofs.Room.{within_none}
-use Rattle.taking.specs.declared.Step.{Step}
-use Rattle.taking.specs.declared.Step.TheVariants as step
+use Rattle.std.specs.Prelude.{Result, Ok, Err}
 use Rattle.taking.specs.Taking.{step_number, FillsThen, Took, Empty, PassedTo}
 use Rattle.taking.proofs.Steps.{stops, within_line}
 
@@ -72,7 +71,7 @@ module _ {text : List ℕ} {at n : ℕ} {filled : Filled} {w : List ℕ} (g : Go
   unfolding read_from
   all_taken h = record { book = g.book; numbers = g.numbers; read = sym (rw (no_more text at h) at g.answer); holds = g.kept.holds }
 
-  module _ (h : at < length text) (r : ReadLine) (e : r ≡ line_at text at) (s : Step) {w' : List ℕ} (t : Took g.book r.line s w') where
+  module _ (h : at < length text) (r : ReadLine) (e : r ≡ line_at text at) (s : Result Filled Refusal) {w' : List ℕ} (t : Took g.book r.line s w') where
     onto : Outcome
     onto = read_from (suc n) (with_line g.book r.line) (numbered_with g.numbers n r.line) (meanings (drop r.next text))
 
@@ -80,12 +79,12 @@ module _ {text : List ℕ} {at n : ℕ} {filled : Filled} {w : List ℕ} (g : Go
     unfolding read_from onto
     one_more = rw (says text at h r e) at g.answer
 
-    pub refused_here : (why : Refusal) → s ≡ step.Refused why → lines_read text ≡ refused (number why) n
+    pub refused_here : (why : Refusal) → s ≡ Err why → lines_read text ≡ refused (number why) n
     refused_here why q =
         let z : refusal_of g.book r.line ≡ number why = sym t.answer ∙ ap step_number q in
         sym one_more ∙ ap (λ (x : ℕ). onward x n onto) z ∙ stops why n onto
 
-    pub goes_on : (more : Filled) → s ≡ step.Taken more → Going text r.next (n + 1) more w'
+    pub goes_on : (more : Filled) → s ≡ Ok more → Going text r.next (n + 1) more w'
     unfolding onward unless onto
     goes_on more q =
         let taken : refusal_of g.book r.line ≡ 0 = sym t.answer ∙ ap step_number q in

@@ -12,8 +12,8 @@ use Rattle.reading.specs.Reading.{Outcome, passed, refused, lines_read}
 use Rattle.reading.proofs.Passing.{same_book, text_kept}
 use Rattle.tables.specs.Adding.{Within}
 use Rattle.tables.proofs.Room.{within_none}
-use Rattle.taking.specs.declared.LinesAnswer.{LinesAnswer}
-use Rattle.taking.specs.declared.LinesAnswer.TheVariants as came
+use Rattle.std.specs.Prelude.{Result, Ok, Err}
+use Rattle.answers.specs.declared.Refused.{Refused}
 use Rattle.taking.specs.Taking.{PassedTo, Came}
 use Rattle.taking.proofs.Steps.{within_line}
 use Rattle.taking.proofs.Named.{text_named}
@@ -23,27 +23,27 @@ text_within : (text : List ℕ) {c : Book} {to : List ℕ} → lines_read text �
 text_within text e = text_kept (λ b ls. Within b) (λ b l ls r h. within_line b l h r) text e within_none
 
 -- something came of them
-pub came_there : (text : List ℕ) → (x : LinesAnswer × List ℕ) × Came text x.0 x.1
+pub came_there : (text : List ℕ) → (x : Result Unit Refused × List ℕ) × Came text x.0 x.1
 came_there text = by (lines_read text) refl
   where
-    by : (o : Outcome) → lines_read text ≡ o → (x : LinesAnswer × List ℕ) × Came text x.0 x.1
-    by (passed b at) e = ((came.Passed, words_of b), record { book = b; numbers = at; read = e; holds = record { words = refl; within = text_within text e } })
+    by : (o : Outcome) → lines_read text ≡ o → (x : Result Unit Refused × List ℕ) × Came text x.0 x.1
+    by (passed b at) e = ((Ok tt, words_of b), record { book = b; numbers = at; read = e; holds = record { words = refl; within = text_within text e } })
     by (refused why n) e =
         let r = text_named text why n e in
-        ((came.Refused r.refusal n, empty_book), (e ∙ ap (λ (k : ℕ). refused k n) (sym r.is), refl))
+        ((Err (record { why = r.refusal; line = n }), empty_book), (e ∙ ap (λ (k : ℕ). refused k n) (sym r.is), refl))
 
 -- and nothing else did
 not_both : {A : Type 0} {text w : List ℕ} {why n : ℕ} → PassedTo text w → lines_read text ≡ refused why n → A
 not_both p e = absurd (let f = p.read in let z : ◌≡◌ {A = ℕ} 0 1 = cc in omega arith)
 
-pub came_once : (text : List ℕ) (r r' : LinesAnswer) (w w' : List ℕ) → Came text r w → Came text r' w' → (r ≡ r') × (w ≡ w')
-came_once text came.Passed came.Passed w w' c d =
+pub came_once : (text : List ℕ) (r r' : Result Unit Refused) (w w' : List ℕ) → Came text r w → Came text r' w' → (r ≡ r') × (w ≡ w')
+came_once text (Ok done) (Ok done') w w' c d =
     (refl, c.holds.words ∙ ap words_of (same_book (sym c.read ∙ d.read)) ∙ sym d.holds.words)
-came_once text came.Passed (came.Refused why n) w w' c d = not_both c d.0
-came_once text (came.Refused why n) came.Passed w w' c d = not_both d c.0
-came_once text (came.Refused why n) (came.Refused why' n') w w' c d =
-    let e : refused (number why) n ≡ refused (number why') n' = sym c.0 ∙ d.0 in
-    let k : number why ≡ number why' = cc in
-    let x : why ≡ why' = number_once why why' k in
-    let y : n ≡ n' = cc in
-    (λ i. came.Refused (x i) (y i), c.1 ∙ sym d.1)
+came_once text (Ok done) (Err r) w w' c d = not_both c d.0
+came_once text (Err r) (Ok done) w w' c d = not_both d c.0
+came_once text (Err r) (Err s) w w' c d =
+    let e : refused (number r.why) r.line ≡ refused (number s.why) s.line = sym c.0 ∙ d.0 in
+    let k : number r.why ≡ number s.why = cc in
+    let x : r.why ≡ s.why = number_once r.why s.why k in
+    let y : r.line ≡ s.line = cc in
+    (λ i. Err (record { why = x i; line = y i }), c.1 ∙ sym d.1)

@@ -5,7 +5,7 @@ use mathlib.Core.List.{List}
 use Prim.Native.Nat.{ℕ}
 use seplogic.Ra.Ura.{Ura}
 use base.Logic.{SProp}
-use base.Stored.{coded_ℕ, coded×, coded_list}
+use base.Stored.{coded_ℕ, coded_unit, coded×, coded_list}
 use prog.Memory.{Memory}
 use prog.Routine.{Routine}
 use types.Logic.{Logic}
@@ -18,19 +18,21 @@ use lib.ListN.{get_or}
 use Rattle.only.specs.Only.{Only, only_this}
 use Rattle.reading.specs.Reading.{meanings}
 use Rattle.reading.specs.Taken.{r_lines_from}
-use Rattle.taking.specs.declared.LinesAnswer.{LinesAnswer}
+use Rattle.std.specs.Prelude.{Result}
+use Rattle.std.specs.Coded.{coded_result}
+use Rattle.answers.specs.declared.Refused.{Refused}
 use Rattle.taking.specs.Taking.{Came}
 use Rattle.taking.proofs.Once.{came_there, came_once}
-use Rattle.taking.specs.contracts.LinesAnswer as the-lines
+use Rattle.answers.specs.contracts.Refused as the-refused
 use Rattle.taking.specs.contracts.take_lines as take-lines
 use Rattle.taking.specs.contracts.route_line as route-line
 
 module _ {M : Type 1} {𝓤 : Ura M} (𝓛 : Logic 𝓤) (mem : Memory → SProp 𝓤) (run : Routine → Fun 𝓤) (κs : Lfts 2) (text : Bor (List ℕ)) (book : MutBor (List ℕ)) where
-  pub one_take_lines : Only 𝓤 (λ (x : LinesAnswer × List ℕ). (take-lines.clauses 𝓛 mem run κs (text, (book, tt))).ensures tt x.0 (text, (at_last book x.1, tt)))
+  pub one_take_lines : Only 𝓤 (λ (x : Result Unit Refused × List ℕ). (take-lines.clauses 𝓛 mem run κs (text, (book, tt))).ensures tt x.0 (text, (at_last book x.1, tt)))
   one_take_lines =
       let here = came_there text.now in
       record {
-        coded = coded× (the-lines.the_row).coded (coded_list coded_ℕ);
+        coded = coded× (coded_result coded_unit (the-refused.the_row).coded) (coded_list coded_ℕ);
         outcome = here.0;
         Says = λ x. Came text.now x.0 x.1;
         says = λ x. refl;

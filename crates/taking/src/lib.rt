@@ -5,109 +5,71 @@
 ghost use Rattle.std.specs.Prelude.{◌≡◌, ◌≤◌, length, get_or};
 ghost use Rattle.record.specs.Limits.{text_limit};
 ghost use Rattle.books.specs.Book.{Book};
-ghost use Rattle.catalogue.specs.Places.{TableColumns};
 ghost use Rattle.reading.specs.Reading.{meanings};
 ghost use Rattle.reading.specs.Taken.{r_lines_from};
-ghost use Rattle.tables.specs.Adding.{added_number, OfBookFilled, HoldsFilled};
-ghost use Rattle.taking.specs.Taking.{step_number, Carries, is_route_spec, Took, Empty, Came};
+ghost use Rattle.tables.specs.Adding.{OfBookFilled, HoldsFilled};
+ghost use Rattle.taking.specs.Taking.{is_route_spec, Took, Empty, Came};
 
-use answers::Refusal;
+use answers::{Refusal, Refused};
+use catalogue::Widths;
 use line::Line;
 use line_reader::read_at;
-use placing::{Filled, nothing};
+use placing::Filled;
 use record::BOOK_WORDS;
-use tables::Added;
 
-// What came of one line: it was taken, with what the signals of the last message fill then, or refused.
-#[derive(Clone, Copy)]
-pub enum Step {
-    Taken(Filled),
-    Refused(Refusal),
-}
-
-// What came of the lines: all passed, or one was refused, with its number.
-#[derive(Clone, Copy)]
-pub enum LinesAnswer {
-    Passed,
-    Refused(Refusal, u32),
-}
-
-fn step_of(added: Added, filled: Filled) -> Step
-    ensures { (step_number result ≡ added_number added) × Carries filled result }
-{
-    match added {
-        Added::Taken => Step::Taken(filled),
-        Added::Refused(why) => Step::Refused(why),
-    }
-}
-
-// One line more: the words are then those of the book with the line, or stay where the line is refused. The caller holds the columns
-// of the signals' places and bits.
+// One line more: the words are then those of the book with the line, or stay where the line is refused. The answer has what the signals
+// of the last message fill then. The caller holds the columns of the signals' places and bits.
 fn take_line(
     book: &mut [u32; BOOK_WORDS],
     filled: Filled,
     line: Line,
-    above: &[u32],
-    bounds: &[u8],
-    widths: &[u8],
-) -> Step
-    requires { OfBookFilled book.old filled × TableColumns above.now bounds.now widths.now }
+    widths: &Widths,
+) -> Result<Filled, Refusal>
+    requires { OfBookFilled book.old filled }
     ensures { (b : Book) → HoldsFilled book.old filled b → Took b line result book.new }
 {
     match line {
-        Line::Message(id) => step_of(tables::add_message(book, id), nothing()),
-        Line::Signal(number, start) => {
-            let placed = tables::add_signal(book, filled, number, start, above, bounds, widths);
-            let added = placed.added;
-            step_of(added, placed.filled)
+        Line::Message(id) => {
+            tables::add_message(book, id)?;
+            Ok(Filled::new())
         }
+        Line::Signal(number, start) => tables::add_signal(book, filled, number, start, widths),
         Line::Route(from_bus, from_id, to_bus, to_id) => {
-            step_of(
-                tables::add_route(book, from_bus, from_id, to_bus, to_id),
-                filled,
-            )
+            tables::add_route(book, from_bus, from_id, to_bus, to_id)?;
+            Ok(filled)
         }
-        Line::IllFormed => Step::Refused(Refusal::IllFormed),
+        Line::IllFormed => Err(Refusal::IllFormed),
     }
 }
 
 // The lines of a text into an empty book; it is empty again where a line is refused.
-pub fn take_lines(text: &[u8], book: &mut [u32; BOOK_WORDS]) -> LinesAnswer
+pub fn take_lines(text: &[u8], book: &mut [u32; BOOK_WORDS]) -> Result<(), Refused>
     requires { (length text.now ≤ text_limit) × Empty book.old }
     ensures { Came text.now result book.new }
 {
-    let above = catalogue::surpluses();
-    let bounds = catalogue::bounds();
-    let widths = rows::widths();
+    let widths = Widths::new();
     let mut at: usize = 0;
     let mut n: u32 = 1;
-    let mut filled = nothing();
+    let mut filled = Filled::new();
     while at < text.len() {
         let read = read_at(text, at);
-        let next = read.next;
-        let line = read.line;
-        match take_line(&mut *book, filled, line, &above, &bounds, &widths) {
-            Step::Taken(more) => filled = more,
-            Step::Refused(why) => {
+        match take_line(&mut *book, filled, read.line, &widths) {
+            Ok(more) => filled = more,
+            Err(why) => {
                 record::clear(&mut *book);
-                return LinesAnswer::Refused(why, n);
+                return Err(Refused { why, line: n });
             }
         }
-        at = next;
+        at = read.next;
         n += 1;
     }
-    LinesAnswer::Passed
+    Ok(())
 }
 
 fn is_route(line: Line) -> bool
     ensures { result ≡ is_route_spec line }
 {
-    match line {
-        Line::Message(_) => false,
-        Line::Signal(_, _) => false,
-        Line::Route(_, _, _, _) => true,
-        Line::IllFormed => false,
-    }
+    matches!(line, Line::Route(..))
 }
 
 // The number of the line that a route of the text stands on, routes counted from 0; 0 where there are not so many.
@@ -120,15 +82,13 @@ pub fn route_line(text: &[u8], route: usize) -> u32
     let mut left: usize = route;
     while at < text.len() {
         let read = read_at(text, at);
-        let next = read.next;
-        let line = read.line;
-        if is_route(line) {
+        if is_route(read.line) {
             if left == 0 {
                 return n;
             }
             left -= 1;
         }
-        at = next;
+        at = read.next;
         n += 1;
     }
     0

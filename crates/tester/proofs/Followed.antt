@@ -9,8 +9,7 @@ use borrow.Author.Tests.{leb-true, leb-false, le-leb, lt-leb}
 use lib.Dec.{leb}
 use Rattle.charging.specs.declared.ChargeState.{ChargeState}
 use Rattle.charging.specs.declared.ChargeState.TheVariants.{ReadyToCharge}
-use Rattle.charging.specs.declared.ChargeStateOrNone.{ChargeStateOrNone}
-use Rattle.charging.specs.declared.ChargeStateOrNone.TheVariants.{Is, NoChargeState}
+use Rattle.std.specs.Prelude.{Option, Some, None}
 use Rattle.charging.specs.States.{step_with_spec, charge_number, charge_numbered}
 use Rattle.charging.specs.Rules.{next_charge_spec}
 use Rattle.charging.specs.Refusals.{charge_refusal, counts_fit, charge_step_of}
@@ -25,18 +24,18 @@ module _ (state : ℕ) (seen : List ℕ) where
   pub ready_in_numbers : (charge_followed state seen).0 ≡ 0 → (charge_followed state seen).1 ≡ charge_number ReadyToCharge → EveryCondition (charge_seen_in seen)
   ready_in_numbers = go (charge_numbered state)
     where
-      go : (from : ChargeStateOrNone) → (charge_from from state seen).0 ≡ 0 → (charge_from from state seen).1 ≡ charge_number ReadyToCharge → EveryCondition (charge_seen_in seen)
-      go (Is from) done ready = ready_only (charge_seen_in seen) from done (number_tells _ ReadyToCharge ready)
-      go NoChargeState done ready = absurd (omega (arith, done))
+      go : (from : Option ChargeState) → (charge_from from state seen).0 ≡ 0 → (charge_from from state seen).1 ≡ charge_number ReadyToCharge → EveryCondition (charge_seen_in seen)
+      go (Some from) done ready = ready_only (charge_seen_in seen) from done (number_tells _ ReadyToCharge ready)
+      go None done ready = absurd (omega (arith, done))
 
   -- PCT_NOT_A_CHARGE_STATE: of a number over fault's, and of no other
   pub no_state : 7 < state → charge_followed state seen ≡ (not_a_charge_state, state)
   unfolding charge_numbered
-  no_state h = ap (λ (b : Bool). charge_from (cond b (Is (step_with_spec state)) NoChargeState) state seen) (lt-leb state 7 h)
+  no_state h = ap (λ (b : Bool). charge_from (cond b (Some (step_with_spec state)) None) state seen) (lt-leb state 7 h)
 
   pub of_a_state : state ≤ 7 → charge_followed state seen ≡ charge_in_numbers (charge_step_of (step_with_spec state) (charge_seen_in seen))
   unfolding charge_numbered
-  of_a_state h = ap (λ (b : Bool). charge_from (cond b (Is (step_with_spec state)) NoChargeState) state seen) (le-leb state 7 h)
+  of_a_state h = ap (λ (b : Bool). charge_from (cond b (Some (step_with_spec state)) None) state seen) (le-leb state 7 h)
 
   pub only_no_state : (charge_followed state seen).0 ≡ not_a_charge_state → 7 < state
   only_no_state e = go (leb state 7) refl
@@ -62,6 +61,6 @@ module _ (state : ℕ) (seen : List ℕ) where
   unfolding charge_numbered
   kept_in_numbers = go (leb state 7) refl
     where
-      go : (in-range : Bool) → leb state 7 ≡ in-range → ((charge_from (cond in-range (Is (step_with_spec state)) NoChargeState) state seen).0 ≡ 0 → ⊥) → (charge_from (cond in-range (Is (step_with_spec state)) NoChargeState) state seen).1 ≡ state
+      go : (in-range : Bool) → leb state 7 ≡ in-range → ((charge_from (cond in-range (Some (step_with_spec state)) None) state seen).0 ≡ 0 → ⊥) → (charge_from (cond in-range (Some (step_with_spec state)) None) state seen).1 ≡ state
       go true e h = ap charge_number (stays (step_with_spec state) h) ∙ step_number_law state (leb-true state 7 e)
       go false e h = refl

@@ -1,3 +1,3 @@
-pub mod ChargeNumbers
 pub mod Followed
+pub mod ChargeNumbers
 pub mod OneOutcome

@@ -1,12 +1,10 @@
 -- The charging monitor in numbers: what a call returns, with *state as it leaves it. Assumes nothing.
-use Rattle.std.specs.Prelude.{ℕ, List, get_or}
+use Rattle.std.specs.Prelude.{ℕ, List, get_or, Option, Some, None}
 use Rattle.catalogue.specs.declared.Raw.{Raw}
 use Rattle.charging.specs.declared.ChargeObservation.{ChargeObservation}
-use Rattle.charging.specs.declared.ChargeStateOrNone.{ChargeStateOrNone}
-use Rattle.charging.specs.declared.ChargeStateOrNone.TheVariants.{Is, NoChargeState}
-use Rattle.charging.specs.declared.ChargeStepped.{ChargeStepped}
+use Rattle.charging.specs.declared.ChargeState.{ChargeState}
 use Rattle.charging.specs.States.{charge_start, charge_number, charge_numbered}
-use Rattle.charging.specs.Refusals.{charge_refusal, charge_step_of}
+use Rattle.charging.specs.Refusals.{ChargeStepped, charge_refusal, charge_step_of}
 
 -- PCT_CHARGE_START, the first *state
 abbrev pub first_charge : ℕ
@@ -40,9 +38,9 @@ abbrev pub charge_in_numbers : ChargeStepped → ℕ × ℕ
 charge_in_numbers s = (charge_refusal s.answer, charge_number s.state)
 
 -- the step from the state that a number stands for; a number that stands for none is kept
-abbrev pub charge_from : ChargeStateOrNone → ℕ → List ℕ → ℕ × ℕ
-charge_from (Is from) kept seen = charge_in_numbers (charge_step_of from (charge_seen_in seen))
-charge_from NoChargeState kept seen = (not_a_charge_state, kept)
+abbrev pub charge_from : Option ChargeState → ℕ → List ℕ → ℕ × ℕ
+charge_from (Some from) kept seen = charge_in_numbers (charge_step_of from (charge_seen_in seen))
+charge_from None kept seen = (not_a_charge_state, kept)
 
 -- pct_charge_step
 abbrev pub charge_followed : ℕ → List ℕ → ℕ × ℕ

@@ -1,10 +1,11 @@
 // The charging monitor, its state as one number.
 ghost use Rattle.std.specs.Prelude.{◌≡◌};
-ghost use Rattle.charging.specs.Refusals.{charge_refusal};
 ghost use Rattle.tester.specs.Following.{charge_seen_in, charge_followed};
 
 use catalogue::Raw;
+use charging::{ChargeObservation, ChargeState};
 
+// Kept: the C interface; only there a state is a number, which may be none.
 const NOT_A_CHARGE_STATE: u32 = 93;
 
 // An observation as a C caller lends it: raw counts, and where each of them stands.
@@ -32,10 +33,10 @@ const CHARGE_POSITIVE: usize = 9;
 
 const CHARGE_NEGATIVE: usize = 10;
 
-fn observation_of(seen: &[u32; CHARGE_WORDS]) -> charging::ChargeObservation
+fn observation_of(seen: &[u32; CHARGE_WORDS]) -> ChargeObservation
     ensures { result ≡ charge_seen_in seen.now }
 {
-    charging::ChargeObservation {
+    ChargeObservation {
         plug: Raw(seen[PLUG]),
         self_check: Raw(seen[SELF_CHECK]),
         main_positive_welded: Raw(seen[MAIN_POSITIVE_WELDED]),
@@ -50,30 +51,19 @@ fn observation_of(seen: &[u32; CHARGE_WORDS]) -> charging::ChargeObservation
     }
 }
 
-// Document 02's number of the monitor's answer.
-fn number_of(answer: charging::ChargeAnswer) -> u32
-    ensures { result ≡ charge_refusal answer }
-{
-    match answer {
-        charging::ChargeAnswer::Taken => 0,
-        charging::ChargeAnswer::TooWide => 81,
-    }
-}
-
 // One observation.
 #[unsafe(no_mangle)]
 pub extern "C" fn pct_charge_step(state: &mut u32, seen: &[u32; CHARGE_WORDS]) -> u32
     ensures { (result, state.new) ≡ charge_followed state.old seen.now }
 {
-    let held = charging::ChargeState::numbered(*state);
-    match held {
-        charging::ChargeStateOrNone::Is(from) => {
-            let next = charging::step(from, observation_of(seen));
-            let after = next.state;
-            let answer = next.answer;
-            *state = after.number();
-            number_of(answer)
+    let Ok(from) = ChargeState::try_from(*state) else {
+        return NOT_A_CHARGE_STATE;
+    };
+    match charging::step(from, observation_of(seen)) {
+        Ok(next) => {
+            *state = u32::from(next);
+            0
         }
-        charging::ChargeStateOrNone::NoChargeState => NOT_A_CHARGE_STATE,
+        Err(why) => u32::from(why),
     }
 }

@@ -4,7 +4,9 @@
 #![tactic(auto)]
 
 // Routes are named by their index in the table.
-#[derive(Clone, Copy)]
+// Kept: the new form is no plainer: document 01's two refusals and `Sound` are three verdicts that stand side by side, and no step
+// goes on with one and hands the others up.
+#[derive(Clone, Copy, Debug, PartialEq, Eq)]
 pub enum Verdict {
     // the lowest route on a closed chain
     Loop(usize),

@@ -1,10 +1,10 @@
 -- The worked examples of document 01 ("Proved table"): what is asked of the definitions, and what they have to answer. Assumes nothing.
-use Rattle.std.specs.Prelude.{Bool, true, false, List, [], ◌∷◌, ℕ, ℤ, pos, neg_ℤ}
+use Rattle.std.specs.Prelude.{Bool, true, false, Some, List, [], ◌∷◌, ℕ, ℤ, pos, neg_ℤ, Result, Ok, Err}
 use Rattle.catalogue.specs.declared.Class.{Class}
 use Rattle.catalogue.specs.declared.Class.TheVariants as class
+use Rattle.catalogue.specs.declared.NoClass.{NoClass}
 use Rattle.catalogue.specs.Class.{class_of_spec}
 use Rattle.bits.specs.Checksum.{checksum_of}
-use Rattle.power.specs.declared.Share.TheVariants.{Named}
 use Rattle.power.specs.Observed.{precharge_complete_spec}
 
 pub data Question : Type 0 where
@@ -26,15 +26,14 @@ pub data WorkedAnswer : Type 0 where
   check : ℕ → WorkedAnswer
   complete : Bool → WorkedAnswer
 
-abbrev pub named : Class → WorkedAnswer
-named (class.Value t) = value t.0
-named (class.Invalid r) = invalid
-named (class.Absent r) = absent
-named (class.Error r) = error
-named (class.Reserved r) = reserved
-named (class.Outside r) = outside
-named class.NotInCatalogue = refused
-named class.TooWide = refused
+abbrev pub named : Result Class NoClass → WorkedAnswer
+named (Ok (class.Value t)) = value t.0
+named (Ok (class.Invalid r)) = invalid
+named (Ok (class.Absent r)) = absent
+named (Ok (class.Error r)) = error
+named (Ok (class.Reserved r)) = reserved
+named (Ok (class.Outside r)) = outside
+named (Err e) = refused
 
 abbrev pub frame : ℕ → ℕ → List ℕ
 frame byte last = byte ∷ byte ∷ byte ∷ byte ∷ byte ∷ byte ∷ byte ∷ last ∷ []
@@ -42,7 +41,7 @@ frame byte last = byte ∷ byte ∷ byte ∷ byte ∷ byte ∷ byte ∷ byte ∷
 abbrev pub answer : Question → WorkedAnswer
 answer (count number raw) = named (class_of_spec number (record { 0 = raw }))
 answer (checksum identifier byte last) = check (checksum_of identifier (frame byte last))
-answer (precharge share volts beyond) = complete (precharge_complete_spec (record { 0 = volts }) (record { 0 = beyond }) (Named share))
+answer (precharge share volts beyond) = complete (precharge_complete_spec (record { 0 = volts }) (record { 0 = beyond }) (Some share))
 
 pub record Worked : Type 0 where
   pub asked : Question

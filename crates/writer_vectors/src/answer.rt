@@ -1,29 +1,11 @@
 // What a call for the text gives, printed.
-ghost use Rattle.std.specs.Prelude.{◌≤◌};
-
 use crate::FILLING;
-use book_writer::Wrote;
 use record::BOOK_WORDS;
 use streams::{print_bytes, print_decimal, write_first};
 
-fn one_if_filling(byte: u8) -> usize
-    ensures { result ≤ 1 }
-{
-    if byte == FILLING {
-        return 1;
-    }
-    0
-}
-
-// How many bytes from the place on are as they were.
-fn stayed(room: &[u8], place: usize) -> usize {
-    let mut count: usize = 0;
-    let mut i = place;
-    while i < room.len() {
-        count += one_if_filling(room[i]);
-        i += 1;
-    }
-    count
+// How many of these bytes are as they were.
+fn stayed(room: &[u8]) -> usize {
+    room.iter().filter(|byte| **byte == FILLING).count()
 }
 
 fn print_line(rt: &impl Print, word: &[u8], number: usize, bytes: usize) {
@@ -35,21 +17,19 @@ fn print_line(rt: &impl Print, word: &[u8], number: usize, bytes: usize) {
 }
 
 fn print_text(rt: &impl Print, room: &[u8], size: usize) {
-    let rest = stayed(room, size);
-    print_line(rt, b"text\t", size, rest);
+    let behind = room.get(size..).map_or(0, stayed);
+    print_line(rt, b"text\t", size, behind);
     let _ = write_first(rt, room, size);
 }
 
-fn print_refusal(rt: &impl Print, room: &[u8], number: usize) {
-    let whole = stayed(room, 0);
-    print_line(rt, b"no\t", number, whole);
+fn print_refusal(rt: &impl Print, room: &[u8], number: u32) {
+    print_line(rt, b"no\t", number as usize, stayed(room));
 }
 
 // The room is as it is lent.
 pub fn print_answer(rt: &impl Print, book: &[u32; BOOK_WORDS], room: &mut [u8]) {
     match book_writer::write(book, &mut *room) {
-        Wrote::Length(n) => print_text(rt, &*room, n as usize),
-        Wrote::NotABook => print_refusal(rt, &*room, 12),
-        Wrote::NoRoom => print_refusal(rt, &*room, 71),
+        Ok(n) => print_text(rt, &*room, n as usize),
+        Err(why) => print_refusal(rt, &*room, u32::from(why)),
     }
 }

@@ -9,7 +9,6 @@ mod answer;
 
 use answer::print_answer;
 use numerals::identifier_or_0;
-use parts::part_before;
 use record::BOOK_WORDS;
 use record_cases::set_entry;
 use std::io::Read;
@@ -30,19 +29,12 @@ fn read_size<R: Read>(input: &mut R) -> usize {
     identifier_or_0(&line[0..8]) as usize
 }
 
-// The book that is the front of the text.
-fn take_first(text: &[u8], size: usize, book: &mut [u32; BOOK_WORDS]) {
-    if size <= text.len() {
-        book::read(part_before(text, size), book);
-    }
-}
-
 fn read_book<R: Read>(input: &mut R, book: &mut [u32; BOOK_WORDS]) {
     let mut text = [0u8; ROOM];
     let size = read_size(input);
     if size < ROOM {
         read_first(input, &mut text, size + 1);
-        take_first(&text, size, book);
+        let _ = book::read(&text[..size], book);
     }
 }
 

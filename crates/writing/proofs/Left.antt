@@ -4,7 +4,7 @@ use mathlib.Core.List.{List, [], ◌∷◌, ◌++◌}
 use Prim.Native.Nat.{ℕ, zero, suc, ◌+◌, ◌-◌, ◌/◌, ◌%◌, ◌^◌, ◌≤◌, ◌<◌}
 use native.Mathlib.Nat.{pow-suc, div-lt_iff_lt-mul}
 use native.Mathlib.Omega.{arith}
-use lib.ListN.{length, set, length-set}
+use lib.ListN.{length, set}
 use lib.Seq.{sets}
 use Rattle.numerals.specs.Written.{digit_byte_spec, digits_of_spec}
 use Rattle.numerals.proofs.Digits.{length_digits}
@@ -15,11 +15,9 @@ use Rattle.writing.proofs.Lowest.{digits_lowest, sets_last}
 pub record Left (old : List ℕ) (at k n base : ℕ) (out : List ℕ) (j m : ℕ) : Type 0 where
   pub rest : sets out at (digits_of_spec base j m) ≡ sets old at (digits_of_spec base k n)
   pub holds : m < base ^ j
-  pub fewer : j ≤ k
-  pub size : length out ≡ length old
 
 pub all_left : (old : List ℕ) (at k n base : ℕ) → DigitRoom old at k n base → Left old at k n base old k n
-all_left old at k n base r = record { rest = refl; holds = r.holds; fewer = omega arith; size = refl }
+all_left old at k n base r = record { rest = refl; holds = r.holds }
 
 module _ {old : List ℕ} {at k n base : ℕ} {out : List ℕ} where
   pub none_left : (j m : ℕ) → Left old at k n base out j m → j ≤ 0 → out ≡ sets old at (digits_of_spec base k n)
@@ -42,6 +40,4 @@ module _ {old : List ℕ} {at k n base : ℕ} {out : List ℕ} where
       (record {
         rest = put ∙ l.rest;
         holds = (div-lt_iff_lt-mul p).1 (rw pow-suc at l.holds);
-        fewer = omega (arith, l.fewer);
-        size = length-set out (at + i) b ∙ l.size;
       })

@@ -11,14 +11,16 @@ ghost use Rattle.writing.specs.DigitRoom.{DigitRoom};
 
 use numerals::IDENTIFIER_DIGITS;
 
+#[tactic(auto, unfolding(numerals::specs::Written::digit_byte_spec))]
 fn digit_byte(d: u64) -> u8
     requires { d < 16 }
     ensures { result ≡ digit_byte_spec d }
 {
     if d < 10 {
-        return 48 + (d as u8);
+        b'0' + d as u8
+    } else {
+        b'A' - 10 + d as u8
     }
-    55 + (d as u8)
 }
 
 // k digits of n in a base, at a place of out; the lowest is written first.
@@ -26,25 +28,22 @@ pub fn put_digits(out: &mut [u8], at: usize, k: usize, n: u64, base: u64)
     requires { DigitRoom out.old at k n base }
     ensures { out.new ≡ sets out.old at (digits_of_spec base k n) }
 {
-    let mut j: usize = k;
-    let mut m: u64 = n;
-    while 0 < j {
-        j -= 1;
+    let mut m = n;
+    for j in (0..k).rev() {
         out[at + j] = digit_byte(m % base);
         m /= base;
     }
 }
 
 // k digits 0-9 A-F of n, by a look-up: it costs less than put_digits where there are many digits, and more where there are few.
+// Kept: one function for both is no plainer: a digit's byte would be a closure that each call hands on.
 pub fn put_hexadecimals(out: &mut [u8], at: usize, k: usize, n: u64)
     requires { DigitRoom out.old at k n 16 }
     ensures { out.new ≡ sets out.old at (digits_of_spec 16 k n) }
 {
     let bytes = *b"0123456789ABCDEF";
-    let mut j: usize = k;
-    let mut m: u64 = n;
-    while 0 < j {
-        j -= 1;
+    let mut m = n;
+    for j in (0..k).rev() {
         out[at + j] = bytes[(m % 16) as usize];
         m /= 16;
     }
@@ -54,27 +53,22 @@ pub fn put_identifier(out: &mut [u8], at: usize, n: u32) -> usize
     requires { at + identifier_digits ≤ length out.old }
     ensures { (result ≡ at + identifier_digits) × (out.new ≡ sets out.old at (identifier_text n)) }
 {
-    put_digits(&mut *out, at, IDENTIFIER_DIGITS, n as u64, 16);
+    put_digits(out, at, IDENTIFIER_DIGITS, n as u64, 16);
     at + IDENTIFIER_DIGITS
 }
 
 // How many decimal digits a number has that a book can write; 5 for every larger one.
+#[tactic(auto, unfolding(numerals::specs::Written::decimal_width_spec))]
 pub fn decimal_width(n: u32) -> usize
     ensures { result ≡ decimal_width_spec n }
 {
-    if n < 10 {
-        return 1;
+    match n {
+        0..=9 => 1,
+        10..=99 => 2,
+        100..=999 => 3,
+        1000..=9999 => 4,
+        _ => 5,
     }
-    if n < 100 {
-        return 2;
-    }
-    if n < 1000 {
-        return 3;
-    }
-    if n < 10000 {
-        return 4;
-    }
-    5
 }
 
 pub fn put_decimal(out: &mut [u8], at: usize, n: u32) -> usize
@@ -82,6 +76,6 @@ pub fn put_decimal(out: &mut [u8], at: usize, n: u32) -> usize
     ensures { (result ≡ at + decimal_width_spec n) × (out.new ≡ sets out.old at (decimal_text n)) }
 {
     let width = decimal_width(n);
-    put_digits(&mut *out, at, width, n as u64, 10);
+    put_digits(out, at, width, n as u64, 10);
     at + width
 }

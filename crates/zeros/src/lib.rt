@@ -9,10 +9,8 @@ fn all_zero(entries: &[u32]) -> bool
     ensures { result ≡ zeros entries.now }
 {
     let mut all: u32 = 0;
-    let mut i: usize = 0;
-    while i < entries.len() {
-        all = all | entries[i];
-        i += 1;
+    for x in entries {
+        all |= *x;
     }
     all == 0
 }
@@ -31,10 +29,8 @@ pub fn four_zero(one: &[u32], two: &[u32], three: &[u32], four: &[u32]) -> bool
     ensures { result ≡ (zeros one.now && zeros two.now) && (zeros three.now && zeros four.now) }
 {
     let mut all: u32 = 0;
-    let mut at: usize = 0;
-    while at < one.len() {
-        all = all | one[at] | two[at] | three[at] | four[at];
-        at += 1;
+    for (at, x) in one.iter().enumerate() {
+        all = all | *x | two[at] | three[at] | four[at];
     }
     all == 0
 }

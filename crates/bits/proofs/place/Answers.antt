@@ -19,17 +19,17 @@ module _ (w : ℕ) {s b : ℕ} (f : Fits s b) where
       ap (λ (k : ℕ). w - field_of w s b * 2 ^ s + k) (ap (λ (k : ℕ). k * 2 ^ s % 2 ^ 64) same ∙ shl_exact b s 64 h (omega (arith, f.inside)))
 
 pub overflow_sub-result : goal.overflow_sub-result
-overflow_sub-result c = let a = c.args in subst⁻¹ (λ (m : ℕ). m ≤ a.word) (old-shifted a.word c.requires.0 (c.wide_count-old.ensures ∙ c.take.ensures)) (field_le a.word a.start a.bits)
+overflow_sub-result c = let a = c.args in subst⁻¹ (λ (m : ℕ). m ≤ a.word) (old-shifted a.word c.requires.0 (c.from-old.ensures ∙ c.take.ensures)) (field_le a.word a.start a.bits)
 
 pub overflow_add-result : goal.overflow_add-result
 overflow_add-result c =
     let a = c.args in
     let p = c.requires in
     let h : placed a.word a.start a.bits a.count < 2 ^ 64 = placed_lt a.word a.start a.bits a.count p.1 64 (omega arith) (omega arith) in
-    record { fits = subst⁻¹ (λ (m : ℕ). m < 2 ^ 64) (put a.word p.0 p.1 (c.wide_count-old.ensures ∙ c.take.ensures) c.wide_count.ensures) h }
+    record { fits = subst⁻¹ (λ (m : ℕ). m < 2 ^ 64) (put a.word p.0 p.1 (c.from-old.ensures ∙ c.take.ensures) c.from.ensures) h }
 
 pub returns : goal.returns
 returns c =
     let a = c.args in
     let p = c.requires in
-    put a.word p.0 p.1 (c.wide_count-old.ensures ∙ c.take.ensures) c.wide_count.ensures
+    put a.word p.0 p.1 (c.from-old.ensures ∙ c.take.ensures) c.from.ensures

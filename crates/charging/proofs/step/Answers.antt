@@ -8,4 +8,4 @@ returns-then-not-all_fit c = simp (← c.all_fit.ensures, c.if-not-all_fit.true)
 
 pub returns : goal.returns
 unfolding charge_step_of
-returns c = simp (← c.all_fit.ensures, c.if-not-all_fit.false, c.next_charge-next.ensures)
+returns c = simp (← c.all_fit.ensures, c.if-not-all_fit.false, c.next_charge.ensures)

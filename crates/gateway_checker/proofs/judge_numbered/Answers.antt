@@ -1,28 +1,20 @@
 -- `gateway_checker::judge_numbered` meets its contract: what the searches found over the masks is what there is to find over chains. Assumes nothing.
-use Rattle.gateway_checker.proofs.Judging.{loop_by, sound_by, doubling_by}
+use native.Mathlib.Omega.{arith}
+use Rattle.gateway_checker.proofs.Judging.{loop_by, sound_by, doubling_by, doubling_there}
 use Rattle.gateway_checker.proofs.judge_numbered.Goals as goal
 
-pub returns-then-i-n : goal.returns-then-i-n
-returns-then-i-n c = loop_by _ _ _ c.fill.ensures.led _ c.first_loop-i.ensures c.if-i-n.true
+pub returns-in-Some : goal.returns-in-Some
+returns-in-Some c = loop_by _ _ _ c.fill.ensures.led _ c.in-Some.ensures.1 c.in-Some.ensures.0
 
 pub returns-then-up-eq0 : goal.returns-then-up-eq0
-returns-then-up-eq0 c =
-    let at-forking = c.forking-up in
-    let at-if1 = c.if-i-n in
-    let at-first-loop = c.first_loop-i in
-    let at_fill_lem = c.fill in
-    sound_by _ _ _ at_fill_lem.ensures.led _ at-first-loop.ensures at-if1.false _ at-forking.ensures c.if-up-eq0.true
+returns-then-up-eq0 c = sound_by _ _ _ c.fill.ensures.led _ c.in_default.ensures (omega arith) _ c.forking-up.ensures c.if-up-eq0.true
 
-pub returns : goal.returns
-returns c =
-    let at-starts-of = c.starts_of in
-    let at-either = c.either-forks in
-    let at-forking2 = c.forking in
-    let at-if2 = c.if-up-eq0 in
-    let at-forking = c.forking-up in
-    let at-if1 = c.if-i-n in
-    let at-first-loop = c.first_loop-i in
-    let at_fill_lem = c.fill in
-    let at_pre = c.requires in
-    let by = doubling_by _ _ _ at_fill_lem.ensures.led _ at-first-loop.ensures at-if1.false _ at-forking.ensures at-if2.false at_pre in
-    by _ _ _ _ at-forking2.ensures at-either.ensures at-starts-of.ensures c.first_doubling-j.ensures
+pub returns-in-Some-first_doubling : goal.returns-in-Some-first_doubling
+returns-in-Some-first_doubling c =
+    let by = doubling_by _ _ _ c.fill.ensures.led _ c.in_default.ensures (omega arith) _ c.forking-up.ensures c.if-up-eq0.false c.args.table.now.numbers _ _ _ in
+    by c.forking.ensures c.either-forks.ensures c.starts_of-places.ensures _ c.in-Some-first_doubling.ensures.0 c.in-Some-first_doubling.ensures.1
+
+pub returns-in-None : goal.returns-in-None
+returns-in-None c =
+    let there = doubling_there _ _ _ c.fill.ensures.led _ c.in_default.ensures (omega arith) _ c.forking-up.ensures c.if-up-eq0.false c.args.table.now.numbers _ _ _ in
+    absurd (there c.forking.ensures c.either-forks.ensures c.starts_of-places.ensures c.in-None.ensures)

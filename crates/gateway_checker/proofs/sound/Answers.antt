@@ -1,21 +1,18 @@
 -- `gateway_checker::sound` meets its contract: each verdict says whether the table is sound. Assumes nothing.
-use mathlib.Core.Path.{subst}
+use mathlib.Core.Path.{◌≡◌, refl}
+use mathlib.Core.List.{List}
+use Prim.Native.Nat.{ℕ}
+use Rattle.chains.specs.Chain.{IsSound}
 use Rattle.verdict.specs.declared.Verdict.{Verdict}
+use Rattle.verdict.specs.declared.Verdict.TheVariants as verdict
 use Rattle.verdict.specs.Verdicts.{Judged}
 use Rattle.verdict.proofs.Once.{loop_unsound, doubling_unsound}
 use Rattle.gateway_checker.proofs.sound.Goals as goal
 
-pub returns-in-Loop : goal.returns-in-Loop
-returns-in-Loop c =
-    let at-judge = c.judge in
-    let at-args = c.args in
-    loop_unsound at-args.froms.now at-args.tos.now _ (subst (λ (v : Verdict). Judged at-args.froms.now at-args.tos.now v) c.in-Loop.is at-judge.ensures)
+unsound : (froms tos : List ℕ) (v : Verdict) → Judged froms tos v → (v ≡ verdict.Sound → ⊥) → IsSound froms tos → ⊥
+unsound froms tos (verdict.Loop i) j other = loop_unsound froms tos i j
+unsound froms tos (verdict.Doubling i) j other = doubling_unsound froms tos i j
+unsound froms tos verdict.Sound j other = absurd (other refl)
 
-pub returns-in-Doubling : goal.returns-in-Doubling
-returns-in-Doubling c =
-    let at-judge = c.judge in
-    let at-args = c.args in
-    doubling_unsound at-args.froms.now at-args.tos.now _ (subst (λ (v : Verdict). Judged at-args.froms.now at-args.tos.now v) c.in-Doubling.is at-judge.ensures)
-
-pub returns-in-Sound : goal.returns-in-Sound
-returns-in-Sound c = subst (λ (v : Verdict). Judged c.args.froms.now c.args.tos.now v) c.in-Sound.is c.judge.ensures
+pub returns-in_default : goal.returns-in_default
+returns-in_default c = unsound _ _ _ c.judge.ensures c.in_default.not-Sound

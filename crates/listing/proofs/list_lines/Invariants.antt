@@ -7,7 +7,7 @@ use Rattle.listing.proofs.Running.{Ran}
 use Rattle.listing.proofs.list_lines.Given as goal
 
 abbrev pub invariant-loop-used : goal.invariant-loop-used
-invariant-loop-used l = Ran (printout l.figures (messages_of l.book)) l.text l.initial.out l.out l.used l.written
+invariant-loop-used l = Ran (printout l.figures (messages_of l.book.words.now)) l.text l.initial.out l.out l.used l.written
 
 abbrev pub decreases-loop-used : goal.decreases-loop-used
 decreases-loop-used l = length l.text - l.used

@@ -18,9 +18,6 @@ pub returns-then-not-fitting : goal.returns-then-not-fitting
 unfolding step_of
 returns-then-not-fitting c = simp (← c.relays_fit-relays.ensures, ← c.commands_fit-commands.ensures, ← c.readings_fit-readings.ensures, ← c.share_fits-fitting.ensures, c.if-not-relays.false, c.if-not-commands.false, c.if-not-readings.false, c.if-not-fitting.true)
 
-pub next_state-next-requires : goal.next_state-next-requires
-next_state-next-requires c = simp (← c.relays_fit-relays.ensures) c.if-not-relays.false
-
 pub returns : goal.returns
 unfolding step_of
-returns c = simp (← c.relays_fit-relays.ensures, ← c.commands_fit-commands.ensures, ← c.readings_fit-readings.ensures, ← c.share_fits-fitting.ensures, c.if-not-relays.false, c.if-not-commands.false, c.if-not-readings.false, c.if-not-fitting.false, c.next_state-next.ensures)
+returns c = simp (← c.relays_fit-relays.ensures, ← c.commands_fit-commands.ensures, ← c.readings_fit-readings.ensures, ← c.share_fits-fitting.ensures, c.if-not-relays.false, c.if-not-commands.false, c.if-not-readings.false, c.if-not-fitting.false, c.next_state.ensures)

@@ -1,6 +1,5 @@
 -- `reach::fill` meets its contract: the masks of the first i routes say what each leads on to. Assumes nothing.
-use mathlib.Core.Path.{refl}
-use Prim.Native.Nat.{◌-◌, ◌*◌, ◌<◌}
+use Prim.Native.Nat.{◌*◌, ◌<◌}
 use native.Mathlib.Omega.{arith}
 use lib.ListN.{length}
 use Rattle.masks.specs.Bit.{width}
@@ -8,25 +7,25 @@ use Rattle.reach.proofs.Leading.{real_start, tells_one, leading_start, leading_m
 use Rattle.reach.proofs.fill.Goals as goal
 
 pub settle-requires : goal.settle-requires
-settle-requires c = (c.requires.0, refl, real_start _ _ (2 * width))
+settle-requires c = real_start _ _ (2 * width)
 
 pub loop-i-init : goal.loop-i-init
 loop-i-init c = leading_start _ _ _
 
-pub end_of-end-requires : goal.end_of-end-requires
-end_of-end-requires c =
-    let at_pre = c.requires in
-    (at_pre.0.to, omega (arith, c.loop-i-test.true, at_pre.0.same))
+pub bounds-masks-end : goal.bounds-masks-end
+bounds-masks-end c = omega (arith, c.from-end.ensures, c.args.table.now.numbers.to.low c.loop-i.i c.loop-i-test.true)
+
+pub overflow_cast-end : goal.overflow_cast-end
+overflow_cast-end c = omega (arith, c.from-end.ensures, c.args.table.now.numbers.to.low c.loop-i.i c.loop-i-test.true)
+
+pub with-requires : goal.with-requires
+with-requires c = omega (arith, c.from-end.ensures, c.args.table.now.numbers.to.low c.loop-i.i c.loop-i-test.true)
 
 pub loop-i-preserved : goal.loop-i-preserved
 loop-i-preserved c =
-    let at_end_of = c.end_of-end in
-    let at-loop-test = c.loop-i-test in
-    let at-loop = c.loop-i in
-    let at-settle = c.settle in
-    let at_pre = c.requires in
-    let low : at-loop.i < length at-loop.onward = omega (arith, at-loop-test.true, at_pre.1, at-loop.invariant.long) in
-    leading_more _ _ _ _ _ at-loop.invariant at-loop-test.true low _ (tells_one _ _ _ at-settle.ensures _ _ _ at_end_of.ensures.0 c.with.ensures)
+    let on : c.loop-i.i < length c.args.table.now.starts.now = omega (arith, c.loop-i-test.true, c.args.table.now.numbers.same) in
+    let low : c.loop-i.i < length c.loop-i.onward = omega (arith, on, c.args.table.now.numbers.from.few, c.loop-i.invariant.long) in
+    leading_more _ _ _ _ _ c.loop-i.invariant on low _ (tells_one _ _ _ c.settle.ensures _ _ _ c.from-end.ensures c.with.ensures)
 
 pub returns : goal.returns
-returns c = leading_end _ _ _ _ _ c.loop-i.invariant c.loop-i-test.false
+returns c = leading_end _ _ _ _ _ c.loop-i.invariant (omega (arith, c.loop-i-test.false, c.args.table.now.numbers.same))

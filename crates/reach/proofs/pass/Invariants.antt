@@ -5,7 +5,7 @@ use Rattle.reach.proofs.Passing.{Turned}
 use Rattle.reach.proofs.pass.Given as goal
 
 abbrev pub invariant-loop-t : goal.invariant-loop-t
-invariant-loop-t l = (l.t ≤ l.n) × Handing l.starts l.ends (Turned l.n l.down l.t) l.initial.masks l.masks l.new
+invariant-loop-t l = (l.t ≤ l.n) × Handing l.table.starts.now l.table.ends.now (Turned l.n l.down l.t) l.initial.masks l.masks l.new
 
 abbrev pub decreases-loop-t : goal.decreases-loop-t
 decreases-loop-t l = l.n - l.t

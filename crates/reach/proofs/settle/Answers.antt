@@ -4,17 +4,14 @@ use Rattle.reach.proofs.Passing.{settling_start, settling_more, settling_less, s
 use Rattle.reach.proofs.settle.Goals as goal
 
 pub loop-new-init : goal.loop-new-init
-loop-new-init c = settling_start _ _ _ c.requires.1 c.requires.2
-
-pub pass-new-requires : goal.pass-new-requires
-pass-new-requires c = (c.requires.0, c.loop-new.invariant.long)
+loop-new-init c = settling_start _ _ _ (omega arith) c.requires
 
 pub loop-new-smaller : goal.loop-new-smaller
 loop-new-smaller c =
     let at-pass = c.pass-new in
     let at-loop-test = c.loop-new-test in
     let at-loop = c.loop-new in
-    settling_less _ _ _ _ _ _ at-loop.invariant at-pass.ensures at-loop-test.true (λ x. omega (arith, c.slice_known-in-loop-new-1.given x))
+    settling_less _ _ _ _ _ _ at-loop.invariant at-pass.ensures at-loop-test.true c.args.table.now.numbers
 
 pub loop-new-preserved : goal.loop-new-preserved
 loop-new-preserved c = settling_more _ _ _ _ _ _ c.loop-new.invariant c.pass-new.ensures

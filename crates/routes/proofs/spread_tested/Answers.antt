@@ -1,6 +1,10 @@
 -- `routes::spread_tested` meets its contract: each test that led to a refusal is that refusal's own, in the order of their numbers, and what is copied is the
 -- spread. Assumes nothing.
+use mathlib.Core.Path.{ap}
+use mathlib.Core.List.{List, ◌++◌}
+use Prim.Native.Nat.{ℕ}
 use native.Mathlib.Omega.{arith}
+use lib.ListN.{drop, length-take}
 use Rattle.routes.specs.Answers.{no_place}
 use Rattle.routes.proofs.Gathering.{ready, enough, too_small, written}
 use Rattle.routes.proofs.spread_tested.Goals as goal
@@ -15,10 +19,16 @@ pub send-written-requires : goal.send-written-requires
 send-written-requires c = ready _ c.requires _
 
 pub returns-then-count-room : goal.returns-then-count-room
-returns-then-count-room c = too_small _ c.requires _ _ _ c.place.ensures _ _ c.send-written.ensures (record { on_bus = omega (arith, c.if-bus-ge-BUSES.false); identified = omega (arith, c.if-identifier-ge-IDENTIFIER_LIMIT.false) }) _ (omega (arith, c.if-count-room.true, c.wide-count.ensures))
+returns-then-count-room c = too_small _ c.requires _ _ _ c.place.ensures _ _ c.send-written.ensures (record { on_bus = omega (arith, c.if-bus-ge-BUSES.false); identified = omega (arith, c.if-identifier-ge-IDENTIFIER_LIMIT.false) }) _ (omega (arith, c.if-count-room.true))
 
-pub copy-requires : goal.copy-requires
-copy-requires c = (omega (arith, enough _ c.requires _ _ _ c.place.ensures _ _ c.send-written.ensures, c.wide-count.ensures), omega (arith, c.if-count-room.false))
+pub slice_bounds-places-end : goal.slice_bounds-places-end
+slice_bounds-places-end c = omega (arith, enough _ c.requires _ _ _ c.place.ensures _ _ c.send-written.ensures, c.send-written.array_long)
+
+pub slice_bounds-copy_from_slice-end-3 : goal.slice_bounds-copy_from_slice-end-3
+slice_bounds-copy_from_slice-end-3 c = omega (arith, enough _ c.requires _ _ _ c.place.ensures _ _ c.send-written.ensures, c.send-written.array_long, length-take {A = ℕ})
+
+pub copy_from_slice-requires : goal.copy_from_slice-requires
+copy_from_slice-requires c = omega (arith, enough _ c.requires _ _ _ c.place.ensures _ _ c.send-written.ensures, c.send-written.array_long, c.if-count-room.false, length-take {A = ℕ})
 
 pub returns : goal.returns
-returns c = written _ c.requires _ _ _ c.place.ensures _ _ c.send-written.ensures (record { on_bus = omega (arith, c.if-bus-ge-BUSES.false); identified = omega (arith, c.if-identifier-ge-IDENTIFIER_LIMIT.false) }) _ (omega (arith, c.if-count-room.false, c.wide-count.ensures)) _ (rw c.wide-count.ensures at c.copy.ensures)
+returns c = written _ c.requires _ _ _ c.place.ensures _ _ c.send-written.ensures (record { on_bus = omega (arith, c.if-bus-ge-BUSES.false); identified = omega (arith, c.if-identifier-ge-IDENTIFIER_LIMIT.false) }) _ (omega (arith, c.if-count-room.false)) _ (ap (λ (l : List ℕ). l ++ drop c.send-written.result c.args.room.now) c.copy_from_slice.ensures.after)

@@ -3,4 +3,4 @@ use Rattle.sending.proofs.Steps.{column_entry}
 use Rattle.sending.proofs.from_of.Goals as goal
 
 pub returns : goal.returns
-returns c = column_entry c.froms-froms.ensures.0 c.wide.ensures c.requires
+returns c = column_entry c.froms.ensures.0 c.requires

@@ -3,4 +3,4 @@ use Rattle.sending.proofs.Steps.{column_entry}
 use Rattle.sending.proofs.to_of.Goals as goal
 
 pub returns : goal.returns
-returns c = column_entry c.tos-tos.ensures.0 c.wide.ensures c.requires
+returns c = column_entry c.tos.ensures.0 c.requires

@@ -1,11 +1,13 @@
 -- `signal_lines::put_class` meets its contract: each class has its word. Assumes nothing.
 use mathlib.Core.Path.{subst}
 use borrow.Author.Rules.{rules}
+use Rattle.std.specs.Prelude.{Ok}
+use Rattle.catalogue.specs.declared.Class.{Class}
 use Rattle.doubles.specs.Doubles.{SmallIfValue}
 use Rattle.signal_lines.proofs.put_class.Goals as goal
 
 pub put_value-requires : goal.put_value-requires
-put_value-requires c = (search rules, subst SmallIfValue c.in-Value.is c.requires.1)
+put_value-requires c = (search rules, subst (λ (k : Class). SmallIfValue (Ok k)) c.in-Value.is c.requires.1)
 
 pub returns-in-Value : goal.returns-in-Value
 returns-in-Value c = rw c.in-Value.is c.put_value.ensures
@@ -24,9 +26,3 @@ returns-in-Reserved c = rw c.in-Reserved.is c.put_count-in-Reserved.ensures
 
 pub returns-in-Outside : goal.returns-in-Outside
 returns-in-Outside c = rw c.in-Outside.is c.put_count-in-Outside.ensures
-
-pub returns-in-NotInCatalogue : goal.returns-in-NotInCatalogue
-returns-in-NotInCatalogue c = rw c.in-NotInCatalogue.is c.put_count-in-NotInCatalogue.ensures
-
-pub returns-in-TooWide : goal.returns-in-TooWide
-returns-in-TooWide c = rw c.in-TooWide.is c.put_count-in-TooWide.ensures

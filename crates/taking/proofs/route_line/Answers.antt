@@ -1,5 +1,4 @@
 -- `taking::route_line` meets its contract: the answer for the rest is the answer for the whole. Assumes nothing.
-use Prim.Native.Nat.{◌-◌}
 use native.Mathlib.Omega.{arith}
 use Rattle.taking.proofs.Going.{read}
 use Rattle.taking.proofs.Seeking.{start, not_there, found, one_less, as_many}

@@ -3,13 +3,13 @@ use mathlib.Core.Path.{refl, sym, ◌∙◌}
 use Rattle.zeros.proofs.Gathering.{zeros_step, zeros_end}
 use Rattle.zeros.proofs.all_zero.Goals as goal
 
-pub loop-i-init : goal.loop-i-init
-loop-i-init c = refl
+pub loop-x-init : goal.loop-x-init
+loop-x-init c = refl
 
-pub loop-i-preserved : goal.loop-i-preserved
-loop-i-preserved c =
-    zeros_step c.args.entries.now c.loop-i.i c.loop-i.all c.loop-i-test.true ∙ c.loop-i.invariant
+pub loop-x-preserved : goal.loop-x-preserved
+loop-x-preserved c =
+    zeros_step c.args.entries.now c.loop-x.x-index c.loop-x.all c.loop-x-test.true ∙ c.loop-x.invariant
 
 pub returns : goal.returns
 returns c =
-    sym (zeros_end c.args.entries.now c.loop-i.i c.loop-i.all c.loop-i-test.false) ∙ c.loop-i.invariant
+    sym (zeros_end c.args.entries.now c.loop-x.x-index c.loop-x.all c.loop-x-test.false) ∙ c.loop-x.invariant

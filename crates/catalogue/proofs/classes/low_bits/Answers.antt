@@ -10,8 +10,8 @@ use Rattle.catalogue.proofs.classes.low_bits.Goals as goal
 power : (bits : ℕ) → 1 + bits ≤ 64 → (1 * 2 ^ bits) % 2 ^ 64 ≡ 2 ^ bits
 power bits h = shl_exact 1 bits 64 (omega arith) h ∙ one-mul (2 ^ bits)
 
-pub overflow_cast-result-3 : goal.overflow_cast-result-3
-overflow_cast-result-3 c = omega (arith, mod-le c.args.window ((1 * 2 ^ c.args.bits) % 2 ^ 64), c.ranges.window)
+pub overflow_cast-result-2 : goal.overflow_cast-result-2
+overflow_cast-result-2 c = omega (arith, mod-le c.from.result ((1 * 2 ^ c.args.bits) % 2 ^ 64), c.from.ensures, c.ranges.window)
 
 pub returns : goal.returns
-returns c = ap (λ (m : ℕ). c.args.window % m) (power c.args.bits (omega (arith, c.requires)))
+returns c = ap (λ (m : ℕ). c.from.result % m) (power c.args.bits (omega (arith, c.requires))) ∙ ap (λ (n : ℕ). n % 2 ^ c.args.bits) c.from.ensures

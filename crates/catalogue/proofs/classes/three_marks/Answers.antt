@@ -3,6 +3,7 @@
 -- the count and its class, put together
 use mathlib.Core.Path.{◌≡◌, ap, ◌∙◌}
 use mathlib.Core.Option.{some}
+use Rattle.std.specs.Prelude.{Ok}
 use Prim.Native.Nat.{ℕ, ◌%◌, ◌^◌}
 use mir.Syntax.{w32}
 use mir.ValLaws.{to_z-of_z}
@@ -15,10 +16,10 @@ use Rattle.catalogue.specs.Cut.{cut_for}
 use Rattle.catalogue.proofs.classes.three_marks.Goals as goal
 
 together : (r : Row) (window count : ℕ) (k : Class) → count ≡ window % 2 ^ r.bits → k ≡ class_in_spec r (record { 0 = count })
-    → ◌≡◌ {A = Cut} (record { bits = r.bits; raw = record { 0 = count }; class = k }) (cut_for (some r) window)
+    → ◌≡◌ {A = Cut} (record { bits = r.bits; raw = record { 0 = count }; class = Ok k }) (cut_for (some r) window)
 together r window count k e h =
     let class = h ∙ ap (λ (n : ℕ). class_in_spec r (record { 0 = n })) e in
-    λ i. record { bits = r.bits; raw = record { 0 = e i }; class = class i }
+    λ i. record { bits = r.bits; raw = record { 0 = e i }; class = Ok (class i) }
 
 pub returns : goal.returns
 returns c =

@@ -5,19 +5,19 @@ use Rattle.listing.proofs.Sizes.{list_long, list_used}
 use Rattle.lister.proofs.Whole.{none_used, no_book_law, all_used}
 use Rattle.lister.proofs.input.list_whole.Goals as goal
 
-pub returns-then-more-eq0 : goal.returns-then-more-eq0
-returns-then-more-eq0 g c = none_used _ _ c.loop-used.invariant.0 c.loop-used.invariant.1 c.part_from-rest.ensures c.list.ensures _ _ c.in-Lines.is c.if-more-eq0.true
+pub returns-then-listed-eq0 : goal.returns-then-listed-eq0
+returns-then-listed-eq0 g c = none_used _ _ c.loop-used.invariant.0 c.loop-used.invariant.1 c.part_from-rest.ensures c.in-Ok.ensures c.if-listed-eq0.true
 
 pub overflow_add-used : goal.overflow_add-used
 overflow_add-used g c =
-    omega (arith, list_used _ _ _ _ c.list.ensures _ _ c.in-Lines.is, ap length c.part_from-rest.ensures, length-drop c.loop-used.used c.args.text.now, c.loop-used-test.true)
+    omega (arith, list_used _ _ _ _ c.in-Ok.ensures, ap length c.part_from-rest.ensures, length-drop c.loop-used.used c.args.text.now, c.loop-used-test.true)
 
 pub loop-used-preserved : goal.loop-used-preserved
 loop-used-preserved g c =
-    (omega (arith, list_used _ _ _ _ c.list.ensures _ _ c.in-Lines.is, ap length c.part_from-rest.ensures, length-drop c.loop-used.used c.args.text.now, c.loop-used-test.true), list_long _ _ _ _ c.list.ensures ∙ c.loop-used.invariant.1)
+    (omega (arith, list_used _ _ _ _ c.in-Ok.ensures, ap length c.part_from-rest.ensures, length-drop c.loop-used.used c.args.text.now, c.loop-used-test.true), list_long _ _ _ _ c.in-Ok.ensures ∙ c.loop-used.invariant.1)
 
-pub returns-in-NotABook : goal.returns-in-NotABook
-returns-in-NotABook g c = no_book_law _ _ c.loop-used.invariant.0 c.loop-used.invariant.1 _ c.list.ensures c.in-NotABook.is
+pub returns-in_default : goal.returns-in_default
+returns-in_default g c = no_book_law _ _ c.loop-used.invariant.0 c.loop-used.invariant.1 _ c.in_default.ensures
 
 pub returns : goal.returns
 returns g c = all_used c.loop-used.invariant.0 c.loop-used-test.false

@@ -1,6 +1,5 @@
 -- `listing::message::put_signals` meets its contract: writing what is left gives the final list. Assumes nothing.
 use mathlib.Core.Path.{ap, ◌∙◌, subst⁻¹}
-use Prim.Native.Nat.{◌-◌}
 use native.Mathlib.Omega.{arith}
 use Rattle.catalogue.specs.declared.Cut.{Cut}
 use Rattle.doubles.specs.Doubles.{SmallIfValue}
@@ -11,18 +10,6 @@ use Rattle.listing.proofs.message.put_signals.Goals as goal
 
 pub loop-i-init : goal.loop-i-init
 loop-i-init c = none_walked _ _ _ _ _ _ _ c.requires
-
-pub offset_bounds-numbers-i : goal.offset_bounds-numbers-i
-offset_bounds-numbers-i c = omega arith
-
-pub bounds-numbers-i : goal.bounds-numbers-i
-bounds-numbers-i c = omega arith
-
-pub offset_bounds-starts-i : goal.offset_bounds-starts-i
-offset_bounds-starts-i c = omega arith
-
-pub bounds-starts-i : goal.bounds-starts-i
-bounds-starts-i c = omega (arith, c.requires.same)
 
 pub window-requires : goal.window-requires
 window-requires c =
@@ -36,12 +23,6 @@ put_reading-next-requires c =
     let h = c.loop-i-test.true in
     let class = ap (λ (k : Cut). k.class) c.cut_of-cut.ensures ∙ class_there _ _ (fits_next w r h) _ c.window.ensures in
     (room_left w r h, subst⁻¹ SmallIfValue class (small_class _ _))
-
-pub overflow_add-i : goal.overflow_add-i
-overflow_add-i c = omega arith
-
-pub loop-i-smaller : goal.loop-i-smaller
-loop-i-smaller c = omega arith
 
 pub loop-i-preserved : goal.loop-i-preserved
 loop-i-preserved c =

@@ -1,12 +1,12 @@
 -- `messages::packing::put_one` meets its contract: at each `return` the tests that led there say which case holds.
 -- Assumes nothing.
+use Rattle.std.specs.Prelude.{Ok}
 use mathlib.Core.Path.{sym, ap, ◌∙◌, subst⁻¹}
 use Prim.Native.Nat.{ℕ, ◌^◌, ◌<◌}
 use Rattle.bits.specs.Word.{Fits, placed}
 use Rattle.catalogue.specs.Class.{class_of_spec}
 use Rattle.catalogue.proofs.Classing.{class_cut, cut_bits}
 use Rattle.framing.specs.Reading.{class_code}
-use Rattle.messages.specs.declared.packing.PutWord.TheVariants.{Word}
 use Rattle.messages.proofs.Cuts.{more_wide, count_narrow, not_wide, its_bits, its_count, its_code}
 use Rattle.messages.proofs.Packs.{fine_code, barred_code, put_skips, put_wide, put_fine, put_barred}
 use Rattle.messages.proofs.packing.put_one.Goals as goal
@@ -47,5 +47,5 @@ returns c =
     let bits = its_bits cut ∙ cut_bits a.number a.value in
     let whole = sym (its_count cut) ∙ c.if-count-value.false in
     let code = its_code cut ∙ ap class_code (class_cut a.number a.value whole) in
-    ap Word (c.place.ensures ∙ ap (λ (b : ℕ). placed a.word a.start b a.value) bits)
+    ap Ok (c.place.ensures ∙ ap (λ (b : ℕ). placed a.word a.start b a.value) bits)
     ∙ put_fine a.word (record { number = a.number; start = a.start }) a.value c.if-number-eq-CHECKSUM.false (not_wide a.number a.value some whole) (fine_code (class_of_spec a.number (record { 0 = a.value })) code c.if-code-ge-RESERVED.false)

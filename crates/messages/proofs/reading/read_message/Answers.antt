@@ -12,8 +12,8 @@ returns-then-not-checked c = let a = c.args in
     let check : check_holds a.identifier a.word a.numbers.now ≡ false = sym c.checked.ensures ∙ c.if-not-checked.true in
     refused_check a.identifier a.word a.numbers.now a.starts.now (omega arith) c.requires (record { raws = a.raws.now; classes = a.classes.now; thousandths = a.thousandths.now }) check
 
-pub returns-then-least-numbers : goal.returns-then-least-numbers
-returns-then-least-numbers c = let a = c.args in
+pub returns-then-min-numbers : goal.returns-then-min-numbers
+returns-then-min-numbers c = let a = c.args in
     let check : check_holds a.identifier a.word a.numbers.now ≡ true = sym c.checked.ensures ∙ c.if-not-checked.false in
     refused_room a.identifier a.word a.numbers.now a.starts.now (omega arith) c.requires (record { raws = a.raws.now; classes = a.classes.now; thousandths = a.thousandths.now }) check (omega arith)
 

@@ -12,7 +12,7 @@ pub overflow_mul-needed : goal.overflow_mul-needed
 overflow_mul-needed c =
     let share_fits : Fits w32 c.hundredths.result = search rules in
     let inside_fits : Fits w32 c.args.inside.0 = search rules in
-    let product : c.wide.result * c.wide-2.result ≤ 4294967295 * 4294967295 = mul-le-mul {n₂ = 4294967295} {m₂ = 4294967295} (omega (arith, share_fits, c.wide.ensures)) (omega (arith, inside_fits, c.wide-2.ensures)) in
+    let product : c.from.result * c.from-2.result ≤ 4294967295 * 4294967295 = mul-le-mul {n₂ = 4294967295} {m₂ = 4294967295} (omega (arith, share_fits, c.from.ensures)) (omega (arith, inside_fits, c.from-2.ensures)) in
     record { fits = omega (arith, product) }
 
 pub returns : goal.returns

@@ -2,14 +2,14 @@
 use Rattle.power.specs.Rules.{step_else, rule3, rule4}
 use Rattle.power.proofs.rules.from_rising.Goals as goal
 
-pub returns-then-shows_picture-seen : goal.returns-then-shows_picture-seen
+pub returns-then-shows_picture-tested : goal.returns-then-shows_picture-tested
 unfolding step_else rule3 rule4
-returns-then-shows_picture-seen c = simp (← c.shows_picture.ensures, c.if-shows_picture-seen.true)
+returns-then-shows_picture-tested c = simp (← c.shows_picture.ensures, c.if-shows_picture-tested.true)
 
-pub returns-then-shows_picture-seen-2 : goal.returns-then-shows_picture-seen-2
+pub returns-then-shows_picture-tested-2 : goal.returns-then-shows_picture-tested-2
 unfolding step_else rule3 rule4
-returns-then-shows_picture-seen-2 c = simp (← c.shows_picture.ensures, c.if-shows_picture-seen.false, ← c.shows_picture-2.ensures, c.if-shows_picture-seen-2.true)
+returns-then-shows_picture-tested-2 c = simp (← c.shows_picture.ensures, c.if-shows_picture-tested.false, ← c.shows_picture-2.ensures, c.if-shows_picture-tested-2.true)
 
 pub returns : goal.returns
 unfolding step_else rule3 rule4
-returns c = simp (← c.shows_picture.ensures, c.if-shows_picture-seen.false, ← c.shows_picture-2.ensures, c.if-shows_picture-seen-2.false)
+returns c = simp (← c.shows_picture.ensures, c.if-shows_picture-tested.false, ← c.shows_picture-2.ensures, c.if-shows_picture-tested-2.false)

@@ -8,7 +8,7 @@ use Rattle.printing.proofs.Spelling.{negative_put, positive_put}
 use Rattle.printing.proofs.numbers.put_signed.Goals as goal
 
 pub returns-then-z-lt0 : goal.returns-then-z-lt0
-returns-then-z-lt0 c = negative_put (c.magnitude-n.ensures ∙ ap nat_abs (to_z-of_z w64 _ c.ranges.z)) (negative _ c.ranges.z c.if-z-lt0.true) c.put_byte-digits.ensures c.put_natural.ensures
+returns-then-z-lt0 c = negative_put (c.unsigned_abs-n.ensures.value ∙ ap nat_abs (to_z-of_z w64 _ c.ranges.z)) (negative _ c.ranges.z c.if-z-lt0.true) c.put_byte-digits.ensures c.put_natural.ensures
 
 pub returns : goal.returns
-returns c = positive_put (c.magnitude-n.ensures ∙ ap nat_abs (to_z-of_z w64 _ c.ranges.z)) (positive _ c.ranges.z c.if-z-lt0.false) c.put_natural-2.ensures
+returns c = positive_put (c.unsigned_abs-n.ensures.value ∙ ap nat_abs (to_z-of_z w64 _ c.ranges.z)) (positive _ c.ranges.z c.if-z-lt0.false) c.put_natural-2.ensures

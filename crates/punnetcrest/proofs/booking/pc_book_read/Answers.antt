@@ -2,8 +2,8 @@
 use Rattle.punnetcrest.proofs.BookNumbers.{as_read}
 use Rattle.punnetcrest.proofs.booking.pc_book_read.Goals as goal
 
-pub returns-in-Taken : goal.returns-in-Taken
-returns-in-Taken c = as_read c.read-answer.ensures c.in-Taken.is
+pub returns-in-Ok : goal.returns-in-Ok
+returns-in-Ok c = as_read c.read-answer.ensures c.in-Ok.is
 
-pub returns-in-Refused : goal.returns-in-Refused
-returns-in-Refused c = rw c.number.ensures (as_read c.read-answer.ensures c.in-Refused.is)
+pub returns-in-Err : goal.returns-in-Err
+returns-in-Err c = rw c.from.ensures (as_read c.read-answer.ensures c.in-Err.is)

@@ -1,15 +1,9 @@
 -- `punnetcrest::spreading::pc_spread` meets its contract: in each arm the answer is the one that the arm names. Assumes nothing.
-use Rattle.punnetcrest.proofs.SpreadNumbers.{as_spread}
+use Rattle.punnetcrest.proofs.SpreadNumbers.{as_spread, refused}
 use Rattle.punnetcrest.proofs.spreading.pc_spread.Goals as goal
 
-pub returns-in-Places : goal.returns-in-Places
-returns-in-Places c = as_spread _ _ _ _ _ c.spread-answer.ensures c.in-Places.is
+pub returns-in-Ok : goal.returns-in-Ok
+returns-in-Ok c = as_spread _ _ _ _ _ c.spread.ensures c.in-Ok.is
 
-pub returns-in-NotABook : goal.returns-in-NotABook
-returns-in-NotABook c = as_spread _ _ _ _ _ c.spread-answer.ensures c.in-NotABook.is
-
-pub returns-in-NoSuchPlace : goal.returns-in-NoSuchPlace
-returns-in-NoSuchPlace c = as_spread _ _ _ _ _ c.spread-answer.ensures c.in-NoSuchPlace.is
-
-pub returns-in-NoRoom : goal.returns-in-NoRoom
-returns-in-NoRoom c = as_spread _ _ _ _ _ c.spread-answer.ensures c.in-NoRoom.is
+pub returns-in-Err : goal.returns-in-Err
+returns-in-Err c = refused _ _ _ _ _ _ c.spread.ensures c.in-Err.is c.from.ensures

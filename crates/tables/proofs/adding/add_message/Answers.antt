@@ -15,17 +15,17 @@ has_message-requires c = omega (arith, c.message_count-count.ensures, messages_h
 pub returns-then-has_message : goal.returns-then-has_message
 returns-then-has_message c = λ b h. let e = message_again _ b h c.args.identifier c.message_count-count.result c.message_count-count.ensures c.if-identifier-ge-IDENTIFIER_LIMIT.false (sym c.has_message.ensures ∙ c.if-has_message.true) in stays _ _ _ _ _ (sym e) 4 e h
 
-pub returns-then-wide-ge-MESSAGES : goal.returns-then-wide-ge-MESSAGES
-returns-then-wide-ge-MESSAGES c = λ b h. let e = message_full _ b h c.args.identifier c.message_count-count.result c.message_count-count.ensures c.if-identifier-ge-IDENTIFIER_LIMIT.false (sym c.has_message.ensures ∙ c.if-has_message.false) (omega (arith, c.wide.ensures, c.if-wide-ge-MESSAGES.true)) in stays _ _ _ _ _ (sym e) 8 e h
+pub returns-then-count-ge-MESSAGES : goal.returns-then-count-ge-MESSAGES
+returns-then-count-ge-MESSAGES c = λ b h. let e = message_full _ b h c.args.identifier c.message_count-count.result c.message_count-count.ensures c.if-identifier-ge-IDENTIFIER_LIMIT.false (sym c.has_message.ensures ∙ c.if-has_message.false) (omega (arith, c.if-count-ge-MESSAGES.true)) in stays _ _ _ _ _ (sym e) 8 e h
 
 pub returns : goal.returns
 returns c = λ b h.
-    let e = message_free _ b h c.args.identifier c.message_count-count.result c.message_count-count.ensures c.if-identifier-ge-IDENTIFIER_LIMIT.false (sym c.has_message.ensures ∙ c.if-has_message.false) (omega (arith, c.wide.ensures, c.if-wide-ge-MESSAGES.false)) in
+    let e = message_free _ b h c.args.identifier c.message_count-count.result c.message_count-count.ensures c.if-identifier-ge-IDENTIFIER_LIMIT.false (sym c.has_message.ensures ∙ c.if-has_message.false) (omega (arith, c.if-count-ge-MESSAGES.false)) in
     let n = messages_held _ b h in
     let s = signals_held _ b h in
     let m = c.message_count-count.ensures in
     let k = c.signal_count-end.ensures in
     let w = h.words in
     let p = c.put_message.ensures in
-    let stored = message_stored_law b c.args.identifier h.within (omega (arith, c.wide.ensures, c.if-wide-ge-MESSAGES.false, m, n)) in
+    let stored = message_stored_law b c.args.identifier h.within (omega (arith, c.if-count-ge-MESSAGES.false, m, n)) in
     takes _ _ _ _ _ (sym e) e (cc)

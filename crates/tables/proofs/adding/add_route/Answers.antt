@@ -13,8 +13,8 @@ returns-then-over_limit c = λ b h. let e = from_over _ b h _ _ c.args.to_bus c.
 pub returns-then-over_limit-2 : goal.returns-then-over_limit-2
 returns-then-over_limit-2 c = λ b h. let e = to_over _ b h c.args.from_bus c.args.from_identifier _ _ _ refl (sym c.over_limit-2.ensures ∙ c.if-over_limit-2.true) in stays _ _ _ _ _ (sym e) 2 e h
 
-pub returns-then-wide-ge-ROUTES : goal.returns-then-wide-ge-ROUTES
-returns-then-wide-ge-ROUTES c = λ b h. let e = route_full _ b h _ _ _ _ c.route_count-count.result c.route_count-count.ensures (sym c.over_limit.ensures ∙ c.if-over_limit.false) (sym c.over_limit-2.ensures ∙ c.if-over_limit-2.false) (omega (arith, c.wide.ensures, c.if-wide-ge-ROUTES.true)) in stays _ _ _ _ _ (sym e) 8 e h
+pub returns-then-count-ge-ROUTES : goal.returns-then-count-ge-ROUTES
+returns-then-count-ge-ROUTES c = λ b h. let e = route_full _ b h _ _ _ _ c.route_count-count.result c.route_count-count.ensures (sym c.over_limit.ensures ∙ c.if-over_limit.false) (sym c.over_limit-2.ensures ∙ c.if-over_limit-2.false) (omega (arith, c.if-count-ge-ROUTES.true)) in stays _ _ _ _ _ (sym e) 8 e h
 
 pub place-from-requires : goal.place-from-requires
 place-from-requires c = inside _ _ (sym c.over_limit.ensures ∙ c.if-over_limit.false)
@@ -24,12 +24,12 @@ place-to-requires c = inside _ _ (sym c.over_limit-2.ensures ∙ c.if-over_limit
 
 pub returns : goal.returns
 returns c = λ b h.
-    let e = route_free _ b h _ _ _ _ c.route_count-count.result c.route_count-count.ensures (sym c.over_limit.ensures ∙ c.if-over_limit.false) (sym c.over_limit-2.ensures ∙ c.if-over_limit-2.false) (omega (arith, c.wide.ensures, c.if-wide-ge-ROUTES.false)) in
+    let e = route_free _ b h _ _ _ _ c.route_count-count.result c.route_count-count.ensures (sym c.over_limit.ensures ∙ c.if-over_limit.false) (sym c.over_limit-2.ensures ∙ c.if-over_limit-2.false) (omega (arith, c.if-count-ge-ROUTES.false)) in
     let n = routes_held _ b h in
     let m = c.route_count-count.ensures in
     let w = h.words in
     let p = c.put_route.ensures in
     let from = c.place-from.ensures in
     let to = c.place-to.ensures in
-    let stored = route_stored_law b (route c.args.from_bus c.args.from_identifier c.args.to_bus c.args.to_identifier) h.within (omega (arith, c.wide.ensures, c.if-wide-ge-ROUTES.false, m, n)) in
+    let stored = route_stored_law b (route c.args.from_bus c.args.from_identifier c.args.to_bus c.args.to_identifier) h.within (omega (arith, c.if-count-ge-ROUTES.false, m, n)) in
     takes _ _ _ _ _ (sym e) e (cc)

@@ -22,18 +22,18 @@ pub last_begin-first-requires : goal.last_begin-first-requires
 last_begin-first-requires c = (pos_of_ne-zero c.if-messages-eq0.false, omega (arith, c.message_count-messages.ensures, messages_held _ c.requires.0.0 c.requires.0.1.holds, c.requires.0.1.holds.within.messages))
 
 pub part-before-requires : goal.part-before-requires
-part-before-requires c = (last_in _ c.requires.0.0 c.requires.0.1.holds c.message_count-messages.result c.wide-end.result c.last_begin-first.result c.message_count-messages.ensures (c.wide-end.ensures ∙ c.signal_count.ensures) c.last_begin-first.ensures (pos_of_ne-zero c.if-messages-eq0.false), omega (arith, c.numbers.ensures.1, c.wide-end.ensures, c.signal_count.ensures, signals_held _ c.requires.0.0 c.requires.0.1.holds, c.requires.0.1.holds.within.signals))
+part-before-requires c = (last_in _ c.requires.0.0 c.requires.0.1.holds c.message_count-messages.result c.signal_count-end.result c.last_begin-first.result c.message_count-messages.ensures c.signal_count-end.ensures c.last_begin-first.ensures (pos_of_ne-zero c.if-messages-eq0.false), omega (arith, c.numbers.ensures.1, c.signal_count-end.ensures, signals_held _ c.requires.0.0 c.requires.0.1.holds, c.requires.0.1.holds.within.signals))
 
 pub judge_after-requires : goal.judge_after-requires
 judge_after-requires c =
-    let held = last_held _ c.requires.0.0 c.requires.0.1.holds c.message_count-messages.result c.wide-end.result c.last_begin-first.result c.message_count-messages.ensures (c.wide-end.ensures ∙ c.signal_count.ensures) c.last_begin-first.ensures (pos_of_ne-zero c.if-messages-eq0.false) in
+    let held = last_held _ c.requires.0.0 c.requires.0.1.holds c.message_count-messages.result c.signal_count-end.result c.last_begin-first.result c.message_count-messages.ensures c.signal_count-end.ensures c.last_begin-first.ensures (pos_of_ne-zero c.if-messages-eq0.false) in
     ((last_placements c.requires.0.0.messages, record { listed = rw (c.part-before.ensures.0, c.numbers.ensures.0) held; fills = c.requires.0.1.fills }), c.if-start-ge-START_LIMIT.false, pos_of_ne-zero c.if-bits-eq0.false, omega (arith, c.requires.1, few_bits c.args.number), c.requires.1)
 
 pub returns : goal.returns
 returns c = λ b h.
-    let held = last_held _ b h.holds c.message_count-messages.result c.wide-end.result c.last_begin-first.result c.message_count-messages.ensures (c.wide-end.ensures ∙ c.signal_count.ensures) c.last_begin-first.ensures (pos_of_ne-zero c.if-messages-eq0.false) in
+    let held = last_held _ b h.holds c.message_count-messages.result c.signal_count-end.result c.last_begin-first.result c.message_count-messages.ensures c.signal_count-end.ensures c.last_begin-first.ensures (pos_of_ne-zero c.if-messages-eq0.false) in
     let judged = c.judge_after.ensures (last_placements b.messages) (record { listed = rw (c.part-before.ensures.0, c.numbers.ensures.0) held; fills = h.fills }) in
-    let all = c.wide-end.ensures ∙ c.signal_count.ensures ∙ signals_held _ b h.holds in
+    let all = c.signal_count-end.ensures ∙ signals_held _ b h.holds in
     let fits = known c.args.number c.args.start (λ z. c.if-bits-eq0.false (c.requires.1 ∙ z)) c.if-start-ge-START_LIMIT.false in
     let later = signal_later b.messages (placement c.args.number c.args.start) fits (λ z. c.if-messages-eq0.false (c.message_count-messages.ensures ∙ messages_held _ b h.holds ∙ z)) in
     cc

@@ -38,22 +38,22 @@ first-stamps = record { each = refl; fixed = λ p f. go p (eqb p checksum_place)
         omega (arith, a, b, z)
 
 pub returns-then-messages-gt-MESSAGES : goal.returns-then-messages-gt-MESSAGES
-returns-then-messages-gt-MESSAGES c = many_messages _ _ (c.wide-messages.ensures ∙ c.message_count.ensures) c.if-messages-gt-MESSAGES.true
+returns-then-messages-gt-MESSAGES c = many_messages _ _ c.message_count-messages.ensures c.if-messages-gt-MESSAGES.true
 
 pub returns-then-signals-gt-SIGNALS : goal.returns-then-signals-gt-SIGNALS
-returns-then-signals-gt-SIGNALS c = many_signals _ _ (c.wide-signals.ensures ∙ c.signal_count.ensures) c.if-signals-gt-SIGNALS.true
+returns-then-signals-gt-SIGNALS c = many_signals _ _ c.signal_count-signals.ensures c.if-signals-gt-SIGNALS.true
 
 pub returns-then-not-rests_zero : goal.returns-then-not-rests_zero
-returns-then-not-rests_zero c = rest_of_messages _ _ _ _ (c.wide-messages.ensures ∙ c.message_count.ensures) c.ids-ids.ensures.0 c.ends-ends.ensures.0 (sym c.rests_zero.ensures ∙ c.if-not-rests_zero.true)
+returns-then-not-rests_zero c = rest_of_messages _ _ _ _ c.message_count-messages.ensures c.ids-ids.ensures.0 c.ends-ends.ensures.0 (sym c.rests_zero.ensures ∙ c.if-not-rests_zero.true)
 
 pub returns-then-not-rests_zero-2 : goal.returns-then-not-rests_zero-2
-returns-then-not-rests_zero-2 c = rest_of_signals _ _ _ _ (c.wide-signals.ensures ∙ c.signal_count.ensures) c.numbers-numbers.ensures.0 c.starts-starts.ensures.0 (sym c.rests_zero-2.ensures ∙ c.if-not-rests_zero-2.true)
+returns-then-not-rests_zero-2 c = rest_of_signals _ _ _ _ c.signal_count-signals.ensures c.numbers-numbers.ensures.0 c.starts-starts.ensures.0 (sym c.rests_zero-2.ensures ∙ c.if-not-rests_zero-2.true)
 
 pub returns-then-not-distinct : goal.returns-then-not-distinct
-returns-then-not-distinct c = repeated _ _ _ (c.wide-messages.ensures ∙ c.message_count.ensures) c.ids-ids.ensures.0 (sym (c.distinct.ensures ∙ ap (distinct_after []) c.first.ensures.0) ∙ c.if-not-distinct.true)
+returns-then-not-distinct c = repeated _ _ _ c.message_count-messages.ensures c.ids-ids.ensures.0 (sym (c.distinct.ensures ∙ ap (distinct_after []) c.first.ensures.0) ∙ c.if-not-distinct.true)
 
 pub well_parted-requires : goal.well_parted-requires
-well_parted-requires c = (omega (arith, c.first-3.ensures.1, c.first-4.ensures.1), omega (arith, c.first-3.ensures.1, c.if-signals-gt-SIGNALS.false), omega (arith, c.first-2.ensures.1, c.if-messages-gt-MESSAGES.false), record { places = (c.surpluses-above.ensures, c.bounds-bounds.ensures); lasts = c.last_starts-lasts.ensures }, first-stamps)
+well_parted-requires c = (omega (arith, c.first-3.ensures.1, c.first-4.ensures.1), omega (arith, c.first-2.ensures.1, c.if-messages-gt-MESSAGES.false), first-stamps)
 
 pub returns : goal.returns
-returns c = c.well_parted.ensures ∙ last_part _ _ _ _ _ _ _ (c.wide-messages.ensures ∙ c.message_count.ensures) (c.wide-signals.ensures ∙ c.signal_count.ensures) c.ids-ids.ensures.0 c.ends-ends.ensures.0 c.numbers-numbers.ensures.0 c.starts-starts.ensures.0 c.ids-ids.ensures.1 c.ends-ends.ensures.1 c.numbers-numbers.ensures.1 c.starts-starts.ensures.1 c.if-messages-gt-MESSAGES.false c.if-signals-gt-SIGNALS.false (sym c.rests_zero.ensures ∙ c.if-not-rests_zero.false) (sym c.rests_zero-2.ensures ∙ c.if-not-rests_zero-2.false) (sym (c.distinct.ensures ∙ ap (distinct_after []) c.first.ensures.0) ∙ c.if-not-distinct.false) _ _ _ c.first-2.ensures.0 c.first-3.ensures.0 c.first-4.ensures.0
+returns c = c.well_parted.ensures ∙ last_part _ _ _ _ _ _ _ c.message_count-messages.ensures c.signal_count-signals.ensures c.ids-ids.ensures.0 c.ends-ends.ensures.0 c.numbers-numbers.ensures.0 c.starts-starts.ensures.0 c.ids-ids.ensures.1 c.ends-ends.ensures.1 c.numbers-numbers.ensures.1 c.starts-starts.ensures.1 c.if-messages-gt-MESSAGES.false c.if-signals-gt-SIGNALS.false (sym c.rests_zero.ensures ∙ c.if-not-rests_zero.false) (sym c.rests_zero-2.ensures ∙ c.if-not-rests_zero-2.false) (sym (c.distinct.ensures ∙ ap (distinct_after []) c.first.ensures.0) ∙ c.if-not-distinct.false) _ _ _ c.first-2.ensures.0 c.first-3.ensures.0 c.first-4.ensures.0

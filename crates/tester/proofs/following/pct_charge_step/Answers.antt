@@ -1,10 +1,6 @@
--- `tester::following::pct_charge_step` meets its contract: a number that stands for a state takes the monitor's own step, any other is kept. Assumes nothing.
-use Rattle.tester.proofs.ChargeNumbers.{told, as_stepped}
+-- `tester::following::pct_charge_step` meets its contract where the monitor refuses: the number lent stays. Assumes nothing.
+use Rattle.tester.proofs.ChargeNumbers.{as_refused}
 use Rattle.tester.proofs.following.pct_charge_step.Goals as goal
 
-pub returns-in-Is : goal.returns-in-Is
-returns-in-Is c = simp (c.number_of.ensures, c.number.ensures)
-    (as_stepped _ _ c.step-next.result c.numbered-held.ensures c.in-Is.is c.observation_of.ensures c.step-next.ensures)
-
-pub returns-in-NoChargeState : goal.returns-in-NoChargeState
-returns-in-NoChargeState c = told _ _ c.numbered-held.ensures c.in-NoChargeState.is
+pub returns-in-Err : goal.returns-in-Err
+returns-in-Err c = as_refused _ _ c.in-Ok.ensures c.observation_of.ensures c.in-Err.ensures c.from-in-Err.ensures

@@ -1,7 +1,0 @@
--- `placing::is_repeated` meets its contract: a number whose mark is not set stands nowhere among them. Assumes nothing.
-use mathlib.Core.Path.{sym, ◌∙◌}
-use Rattle.placing.proofs.Marks.{unmarked}
-use Rattle.placing.proofs.is_repeated.Goals as goal
-
-pub returns : goal.returns
-returns c = sym (unmarked _ _ _ c.requires (sym c.has.ensures ∙ c.if-has.false))
