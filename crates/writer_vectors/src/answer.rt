@@ -5,7 +5,11 @@ use streams::{print_bytes, print_decimal, write_first};
 
 // How many of these bytes are as they were.
 fn stayed(room: &[u8]) -> usize {
-    room.iter().filter(|byte| **byte == FILLING).count()
+    let mut count = 0;
+    for byte in room {
+        count += usize::from(*byte == FILLING);
+    }
+    count
 }
 
 fn print_line(rt: &impl Print, word: &[u8], number: usize, bytes: usize) {
