@@ -14,7 +14,12 @@ pub const NEWLINE: u8 = b'\n';
 pub fn find(s: &[u8], b: u8) -> usize
     ensures { result ≡ index_of b s.now }
 {
-    s.iter().position(|x| *x == b).unwrap_or(s.len())
+    for (i, x) in s.iter().enumerate() {
+        if *x == b {
+            return i;
+        }
+    }
+    s.len()
 }
 
 // The part before k.

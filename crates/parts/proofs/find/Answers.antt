@@ -1,11 +1,10 @@
--- `parts::find` meets its contract: its closure holds each byte against the one that is looked for. Assumes nothing.
-use Rattle.std.proofs.Common.{rules, ◌≡◌, ◌≤◌, ◌<◌, ℕ, length, get_or}
+-- `parts::find` meets its contract: the byte stands nowhere before. Assumes nothing.
+use Rattle.std.proofs.Common.{arith}
 use Rattle.parts.proofs.Seek.{index_is}
 use Rattle.parts.proofs.find.Goals as goal
 
+pub returns-then-x-b : goal.returns-then-x-b
+returns-then-x-b c = index_is _ _ _ (omega arith) c.loop-i.invariant (λ h. c.if-x-b.true)
+
 pub returns : goal.returns
-returns c =
-    let w : c.unwrap_or.result ≤ length c.args.s.now = search rules in
-    let n : (i : ℕ) → i < c.unwrap_or.result → get_or c.args.s.now i 0 ≡ c.args.b → ⊥ = search rules in
-    let f : c.unwrap_or.result < length c.args.s.now → get_or c.args.s.now c.unwrap_or.result 0 ≡ c.args.b = search rules in
-    index_is c.args.b c.args.s.now c.unwrap_or.result w n f
+returns c = index_is _ _ _ (omega arith) (λ k h. c.loop-i.invariant k (omega arith)) (λ h. absurd (omega arith))
