@@ -41,7 +41,7 @@ pub fn identifier_before(text: &[u8], stop: u8) -> Option<(u32, usize)>
     requires { stop < zero_byte }
     ensures { result ≡ number_before identifier stop text.now }
 {
-    if text.get(IDENTIFIER_DIGITS) != Some(&stop) {
+    if text.len() <= IDENTIFIER_DIGITS || text[IDENTIFIER_DIGITS] != stop {
         return None;
     }
     let v = read_identifier(&text[..IDENTIFIER_DIGITS])?;
