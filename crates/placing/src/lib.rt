@@ -126,7 +126,8 @@ pub fn well_placed(
     ensures { ◌≡◌ {A = Bool × List ℕ} (result, stamps.new) (stamped_test (side_by_side numbers.now starts.now) stamp stamps.old) }
 {
     let mut filled: u64 = 0;
-    for (&number, &start) in numbers.iter().zip(starts) {
+    for (at, &number) in numbers.iter().enumerate() {
+        let start = starts[at];
         let Some(place) = columns.place_of(number) else {
             return false;
         };
