@@ -64,28 +64,35 @@ const TWO_BITS: u32 = 4;
 
 const FIVE_BITS: u32 = 32;
 
-// The raw count of a row.
-fn raw_of(counts: &[u32; ROW_COUNT], row: usize) -> Raw
-    requires { InTable (length counts.now) row row }
-    ensures { result ≡ raw_of_spec counts.now row }
-{
-    Raw(counts[row - FIRST_ROW])
+// The counts of the rows, row 1901 first. Who asks for one has seen that there are as many as rows.
+#[derive(Clone, Copy)]
+struct Counts<'a> {
+    each: &'a [u32],
+    ghost whole: { length each.now ≡ row_count },
 }
 
-fn stands_at(counts: &[u32; ROW_COUNT], row: usize, wanted: u32) -> bool
-    requires { InTable (length counts.now) row row }
-    ensures { result ≡ stands_at_spec counts.now wanted row }
+// The raw count of a row.
+fn raw_of(counts: Counts<'_>, row: usize) -> Raw
+    requires { InTable (length counts.each.now) row row }
+    ensures { result ≡ raw_of_spec counts.entry.each.now row }
+{
+    Raw(counts.each[row - FIRST_ROW])
+}
+
+fn stands_at(counts: Counts<'_>, row: usize, wanted: u32) -> bool
+    requires { InTable (length counts.each.now) row row }
+    ensures { result ≡ stands_at_spec counts.entry.each.now wanted row }
 {
     raw_of(counts, row).0 == wanted
 }
 
-// Kept, here and in the two functions below: a loop over rows and not over the part of the array that has them, for which
+// Kept, here and in the two functions below: a loop over rows and not over the part of the slice that has them, for which
 // `from <= to` would have to be asked; no `requires` may be tighter than it is.
 
 // How many of the rows `from` to `to` stand at `wanted`.
-fn how_many(counts: &[u32; ROW_COUNT], from: usize, to: usize, wanted: u32) -> u32
-    requires { InTable (length counts.now) from to }
-    ensures { (result ≡ how_many_spec (stands_at_spec counts.now wanted) (rows_between from to)) × (result ≤ row_count) }
+fn how_many(counts: Counts<'_>, from: usize, to: usize, wanted: u32) -> u32
+    requires { InTable (length counts.each.now) from to }
+    ensures { (result ≡ how_many_spec (stands_at_spec counts.entry.each.now wanted) (rows_between from to)) × (result ≤ row_count) }
 {
     let mut n: u32 = 0;
     for row in from..=to {
@@ -95,9 +102,9 @@ fn how_many(counts: &[u32; ROW_COUNT], from: usize, to: usize, wanted: u32) -> u
 }
 
 // The highest count among the rows `from` to `to`.
-fn highest_of(counts: &[u32; ROW_COUNT], from: usize, to: usize) -> u32
-    requires { InTable (length counts.now) from to }
-    ensures { result ≡ highest_of_spec (level_of_spec counts.now) (rows_between from to) }
+fn highest_of(counts: Counts<'_>, from: usize, to: usize) -> u32
+    requires { InTable (length counts.each.now) from to }
+    ensures { result ≡ highest_of_spec (level_of_spec counts.entry.each.now) (rows_between from to) }
 {
     let mut highest: u32 = 0;
     for row in from..=to {
@@ -107,9 +114,9 @@ fn highest_of(counts: &[u32; ROW_COUNT], from: usize, to: usize) -> u32
 }
 
 // Whether each of the rows `from` to `to` has a count below `limit`.
-fn all_below(counts: &[u32; ROW_COUNT], from: usize, to: usize, limit: u32) -> bool
-    requires { InTable (length counts.now) from to }
-    ensures { result ≡ all_of (raw_below counts.now limit) (rows_between from to) }
+fn all_below(counts: Counts<'_>, from: usize, to: usize, limit: u32) -> bool
+    requires { InTable (length counts.each.now) from to }
+    ensures { result ≡ all_of (raw_below counts.entry.each.now limit) (rows_between from to) }
 {
     let mut all = true;
     for row in from..=to {
@@ -118,8 +125,8 @@ fn all_below(counts: &[u32; ROW_COUNT], from: usize, to: usize, limit: u32) -> b
     all
 }
 
-fn all_fit(counts: &[u32; ROW_COUNT]) -> bool
-    ensures { result ≡ all_fit counts.now }
+fn all_fit(counts: Counts<'_>) -> bool
+    ensures { result ≡ all_fit counts.entry.each.now }
 {
     all_below(counts, FIRST_ROW, 1914, TWO_BITS)
         & all_below(counts, 1915, 1922, ONE_BIT)
@@ -129,28 +136,28 @@ fn all_fit(counts: &[u32; ROW_COUNT]) -> bool
         & all_below(counts, 1926, LAST_ROW, ONE_BIT)
 }
 
-fn highest_level(counts: &[u32; ROW_COUNT]) -> u32
-    ensures { result ≡ highest_of_spec (level_of_spec counts.now) level_rows }
+fn highest_level(counts: Counts<'_>) -> u32
+    ensures { result ≡ highest_of_spec (level_of_spec counts.entry.each.now) level_rows }
 {
     highest_of(counts, 1902, 1914).max(highest_of(counts, 1925, 1925))
 }
 
-fn levels_at(counts: &[u32; ROW_COUNT], level: u32) -> u32
-    ensures { result ≡ how_many_spec (stands_at_spec counts.now level) level_rows }
+fn levels_at(counts: Counts<'_>, level: u32) -> u32
+    ensures { result ≡ how_many_spec (stands_at_spec counts.entry.each.now level) level_rows }
 {
     how_many(counts, 1902, 1914, level) + how_many(counts, 1925, 1925, level)
 }
 
-fn one_bit_faults(counts: &[u32; ROW_COUNT]) -> u32
-    ensures { result ≡ how_many_spec (stands_at_spec counts.now 1) one_bit_rows }
+fn one_bit_faults(counts: Counts<'_>) -> u32
+    ensures { result ≡ how_many_spec (stands_at_spec counts.entry.each.now 1) one_bit_rows }
 {
     how_many(counts, 1915, 1921, 1)
         + how_many(counts, 1924, 1924, 1)
         + how_many(counts, 1926, 1927, 1)
 }
 
-fn is_emergency(counts: &[u32; ROW_COUNT]) -> bool
-    ensures { result ≡ is_emergency_spec counts.now }
+fn is_emergency(counts: Counts<'_>) -> bool
+    ensures { result ≡ is_emergency_spec counts.entry.each.now }
 {
     stands_at(counts, 1902, 3)
         | stands_at(counts, 1903, 3)
@@ -164,9 +171,10 @@ fn is_emergency(counts: &[u32; ROW_COUNT]) -> bool
 pub fn sum(counts: &[u32]) -> Result<FaultSum, FaultRefusal>
     ensures { result ≡ answer_to counts.now }
 {
-    let Ok(counts) = <&[u32; ROW_COUNT]>::try_from(counts) else {
+    if counts.len() != ROW_COUNT {
         return Err(FaultRefusal::NotTwentySeven);
-    };
+    }
+    let counts = Counts { each: counts };
     if !all_fit(counts) {
         return Err(FaultRefusal::TooWide);
     }

@@ -8,4 +8,4 @@ use Rattle.faults.proofs.all_below.Given as goal
 
 abbrev pub invariant-loop-row : goal.invariant-loop-row
 invariant-loop-row l =
-    (l.from ≤ l.row) × (l.all && all_of (raw_below l.counts l.limit) (rows_between l.row l.to) ≡ all_of (raw_below l.counts l.limit) (rows_between l.from l.to))
+    (l.from ≤ l.row) × (l.all && all_of (raw_below l.counts.each.now l.limit) (rows_between l.row l.to) ≡ all_of (raw_below l.counts.each.now l.limit) (rows_between l.from l.to))

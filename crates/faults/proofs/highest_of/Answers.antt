@@ -7,12 +7,12 @@ use Rattle.faults.proofs.highest_of.Goals as goal
 
 pub loop-row-preserved : goal.loop-row-preserved
 loop-row-preserved c =
-    (search rules, highest_next _ _ (search rules) (level_of_spec c.args.counts.now) _ _ _ _ c.loop-row.invariant.1 (simp c.raw_of.ensures) c.max-highest.ensures)
+    (search rules, highest_next _ _ (search rules) (level_of_spec c.args.counts.each.now) _ _ _ _ c.loop-row.invariant.1 (simp c.raw_of.ensures) c.max-highest.ensures)
 
 pub returns : goal.returns
-returns c = highest_end _ _ (search rules) (level_of_spec c.args.counts.now) _ _ c.loop-row.invariant.1
+returns c = highest_end _ _ (search rules) (level_of_spec c.args.counts.each.now) _ _ c.loop-row.invariant.1
 
 pub returns-2 : goal.returns-2
 returns-2 c =
-    highest_end (c.loop-row.row + 1) _ (search rules) (level_of_spec c.args.counts.now) _ _
-    (highest_next _ _ (search rules) (level_of_spec c.args.counts.now) _ _ _ _ c.loop-row.invariant.1 (simp c.raw_of.ensures) c.max-highest.ensures)
+    highest_end (c.loop-row.row + 1) _ (search rules) (level_of_spec c.args.counts.each.now) _ _
+    (highest_next _ _ (search rules) (level_of_spec c.args.counts.each.now) _ _ _ _ c.loop-row.invariant.1 (simp c.raw_of.ensures) c.max-highest.ensures)

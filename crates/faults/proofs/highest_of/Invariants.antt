@@ -7,4 +7,4 @@ use Rattle.faults.proofs.highest_of.Given as goal
 
 abbrev pub invariant-loop-row : goal.invariant-loop-row
 invariant-loop-row l =
-    (l.from ≤ l.row) × (max l.highest (highest_of_spec (level_of_spec l.counts) (rows_between l.row l.to)) ≡ highest_of_spec (level_of_spec l.counts) (rows_between l.from l.to))
+    (l.from ≤ l.row) × (max l.highest (highest_of_spec (level_of_spec l.counts.each.now) (rows_between l.row l.to)) ≡ highest_of_spec (level_of_spec l.counts.each.now) (rows_between l.from l.to))

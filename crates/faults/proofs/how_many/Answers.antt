@@ -18,17 +18,17 @@ one_if {b} {test} e = rw e (go test)
 pub loop-row-preserved : goal.loop-row-preserved
 loop-row-preserved c = (
   search rules,
-  many_next _ _ (search rules) (stands_at_spec c.args.counts.now c.args.wanted) _ _ _
+  many_next _ _ (search rules) (stands_at_spec c.args.counts.each.now c.args.wanted) _ _ _
       c.loop-row.invariant.1 (c.from-n.ensures ∙ one_if c.stands_at.ensures),
 )
 
 pub returns : goal.returns
 returns c =
-    (many_end _ _ (search rules) (stands_at_spec c.args.counts.now c.args.wanted) _ _ c.loop-row.invariant.1, search rules)
+    (many_end _ _ (search rules) (stands_at_spec c.args.counts.each.now c.args.wanted) _ _ c.loop-row.invariant.1, search rules)
 
 pub returns-2 : goal.returns-2
 returns-2 c = (
-  many_end (c.loop-row.row + 1) _ (search rules) (stands_at_spec c.args.counts.now c.args.wanted) _ _
-      (many_next _ _ (search rules) (stands_at_spec c.args.counts.now c.args.wanted) _ _ _ c.loop-row.invariant.1 (c.from-n.ensures ∙ one_if c.stands_at.ensures)),
+  many_end (c.loop-row.row + 1) _ (search rules) (stands_at_spec c.args.counts.each.now c.args.wanted) _ _
+      (many_next _ _ (search rules) (stands_at_spec c.args.counts.each.now c.args.wanted) _ _ _ c.loop-row.invariant.1 (c.from-n.ensures ∙ one_if c.stands_at.ensures)),
   search rules,
 )

@@ -7,4 +7,4 @@ use Rattle.faults.proofs.how_many.Given as goal
 
 abbrev pub invariant-loop-row : goal.invariant-loop-row
 invariant-loop-row l =
-    ((l.from ≤ l.row) × ((l.n ≤ l.row - l.from) × (l.n ≤ row_count))) × (l.n + how_many_spec (stands_at_spec l.counts l.wanted) (rows_between l.row l.to) ≡ how_many_spec (stands_at_spec l.counts l.wanted) (rows_between l.from l.to))
+    ((l.from ≤ l.row) × ((l.n ≤ l.row - l.from) × (l.n ≤ row_count))) × (l.n + how_many_spec (stands_at_spec l.counts.each.now l.wanted) (rows_between l.row l.to) ≡ how_many_spec (stands_at_spec l.counts.each.now l.wanted) (rows_between l.from l.to))
