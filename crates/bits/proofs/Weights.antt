@@ -1,14 +1,15 @@
 -- The frame and its word: each frame bit is a bit of the word, the count by weights is a field of it, and bytes and word
 -- are each other's. Assumes nothing.
 use mathlib.Core.Path.{◌≡◌, refl, sym, ap, ◌∙◌, subst}
-use mathlib.Core.List.{List, [], ◌∷◌}
+use mathlib.Core.List.{List, [], ◌∷◌, ◌++◌, append-nil}
 use Prim.Native.Nat.{ℕ, zero, suc, ◌+◌, ◌-◌, ◌*◌, ◌/◌, ◌%◌, ◌^◌, ◌≤◌, ◌<◌}
 use native.Mathlib.Nat.{add_comm, add-zero, zero-add, not-suc-le-zero, le_of_suc-le-suc, mod-lt, pow-succ'}
 use native.Mathlib.Omega.{arith}
 use lib.Dec.{lit<}
 use lib.Pow.{shr-shr, mod-pow-add, field, mod-mod-pow}
 use lib.Arith.{digits_lt}
-use lib.ListN.{get_or}
+use lib.ListN.{get_or, length, drop}
+use lib.Seq.{sets, sets-eq, drop-length}
 use Rattle.bits.specs.Frame.{frame_bit, count_at, Bytes}
 use Rattle.bits.specs.Word.{word_from, word_of, bytes_from, bytes_of, field_of}
 
@@ -100,6 +101,14 @@ bytes_small (suc n) w (suc k) = bytes_small n (w / 256) k
 pub read_bytes : (w s b : ℕ) → w < 2 ^ 64 → s + b ≤ 64 → count_at (bytes_of w) s b ≡ field_of w s b
 unfolding word_of
 read_bytes w s b hw h = weights (bytes_of w) (bytes_small 8 w) s b h ∙ ap (λ (x : ℕ). field_of x s b) (bytes_word 8 w hw)
+
+-- stores from the front that replace all of a list
+pub sets_all : (vs l : List ℕ) → length vs ≡ length l → sets l 0 vs ≡ vs
+sets_all vs l e =
+    sets-eq vs l 0 (omega arith)
+    ∙ ap (λ (n : ℕ). vs ++ drop n l) (zero-add (length vs) ∙ e)
+    ∙ ap (λ (r : List ℕ). vs ++ r) (drop-length l)
+    ∙ append-nil vs
 
 -- the bytes of the word are the frame again
 back : (n : ℕ) (frame : List ℕ) → Bytes n frame → bytes_from n (word_from frame 0 n) ≡ frame

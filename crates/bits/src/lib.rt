@@ -50,7 +50,9 @@ pub fn store(word: u64, frame: &mut [u8])
     requires { length frame.old ≡ frame_bytes }
     ensures { frame.new ≡ bytes_of word }
 {
-    frame.copy_from_slice(&word.to_le_bytes());
+    for (i, byte) in word.to_le_bytes().iter().enumerate() {
+        frame[i] = *byte;
+    }
 }
 
 // Bytes 0 to 6 and the low four bits of byte 7, added up.

@@ -1,13 +1,12 @@
--- Texts written one after another, a text that is copied, and the two kinds of numbers of a book. Assumes nothing.
+-- Texts written one after another, a text written byte by byte, and the two kinds of numbers of a book. Assumes nothing.
 use mathlib.Core.Path.{◌≡◌, refl, sym, ap, ◌∙◌, subst}
-use mathlib.Core.List.{List, [], ◌∷◌, ◌++◌, append_assoc}
-use Prim.Native.Nat.{ℕ, suc, ◌+◌, ◌-◌, ◌≤◌}
+use mathlib.Core.List.{List, [], ◌∷◌, ◌++◌}
+use Prim.Native.Nat.{ℕ, suc, ◌+◌, ◌≤◌, ◌<◌}
 use native.Mathlib.Nat.{add-zero, add-suc, suc-add}
+use native.Mathlib.Numerals.{add-one}
 use native.Mathlib.Omega.{arith}
-use lib.ListN.{length, take, drop, set, length-append}
-use lib.Seq.{sets, length-sets, drop-drop}
-use borrow.Rule.Slice.PartMut.{put_mid}
-use Rattle.std.proofs.lemmas.List.Edits.{sets-eq}
+use lib.ListN.{length, drop, set, get_or, length-append, length-set, drop_of_length-le}
+use lib.Seq.{sets, length-sets, drop-cons}
 use Rattle.numerals.specs.Written.{identifier_text, decimal_width_spec, decimal_text}
 use Rattle.numerals.proofs.Identifiers.{length_identifier}
 use Rattle.numerals.proofs.Decimals.{decimal_long}
@@ -41,10 +40,23 @@ put_identifier_law i p = record { now_there = p.1; now_at = omega (arith, p.0, l
 pub put_decimal_law : {old new : List ℕ} {at next : ℕ} (n : ℕ) → (next ≡ at + decimal_width_spec n) × (new ≡ sets old at (decimal_text n)) → Put old at (decimal_text n) new next
 put_decimal_law n p = record { now_there = p.1; now_at = omega (arith, p.0, decimal_long n) }
 
--- a text that is copied to its place
-pub bytes_put : {old text copied : List ℕ} {at : ℕ} → at + length text ≤ length old → copied ≡ text
-    → Put old at text (put_mid at (at + length text - at) old copied) (at + length text)
-bytes_put {old} {text} {copied} {at} h e =
-    let k : at + length text - at ≡ length text = omega arith in
-    let rest : drop (length text) (drop at old) ≡ drop (at + length text) old = drop-drop (length text) at old in
-    record { now_there = rw (k, e, rest) (sym (sets-eq text old at h ∙ append_assoc (take at old) text (drop (at + length text) old))); now_at = refl }
+-- i bytes of a text are written: writing what is left gives the final list
+pub record Written (old : List ℕ) (at : ℕ) (text out : List ℕ) (i : ℕ) : Type 0 where
+  pub rest : sets out (at + i) (drop i text) ≡ sets old at text
+  pub within : i ≤ length text
+  pub size : length out ≡ length old
+
+pub none_written : (old : List ℕ) (at : ℕ) (text : List ℕ) → Written old at text old 0
+none_written old at text = record { rest = ap (λ (n : ℕ). sets old n text) (add-zero at); within = omega arith; size = refl }
+
+module _ {old : List ℕ} {at : ℕ} {text out : List ℕ} {i : ℕ} (w : Written old at text out i) where
+  pub byte_written : i < length text → Written old at text (set out (at + i) (get_or text i 0)) (i + 1)
+  byte_written h =
+      record {
+        rest = rw (add-one i, add-suc at i) (rw (drop-cons text i 0 h) at w.rest);
+        within = omega arith;
+        size = length-set out (at + i) (get_or text i 0) ∙ w.size;
+      }
+
+  pub all_written : length text ≤ i → Put old at text out (at + i)
+  all_written h = record { now_there = rw (drop_of_length-le text h) at w.rest; now_at = omega (arith, w.within) }

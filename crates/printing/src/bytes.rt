@@ -10,12 +10,12 @@ pub fn put_byte(out: &mut [u8], at: usize, b: u8) -> usize
     at + 1
 }
 
-#[tactic(auto, using(crate::proofs::Puts::bytes_put))]
 pub fn put_bytes(out: &mut [u8], at: usize, text: &[u8]) -> usize
     requires { at + length text.now ≤ length out.old }
     ensures { Put out.old at text.now out.new result }
 {
-    let next = at + text.len();
-    out[at..next].copy_from_slice(text);
-    next
+    for (i, byte) in text.iter().enumerate() {
+        out[at + i] = *byte;
+    }
+    at + text.len()
 }
