@@ -57,7 +57,9 @@ fn spread_tested(
     if count > room.len() {
         return Err(SpreadRefusal::NoRoom);
     }
-    room[..count].copy_from_slice(&places[..count]);
+    for (i, entry) in places[..count].iter().enumerate() {
+        room[i] = *entry;
+    }
     Ok(written)
 }
 

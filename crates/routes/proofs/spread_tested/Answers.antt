@@ -1,11 +1,11 @@
 -- `routes::spread_tested` meets its contract: each test that led to a refusal is that refusal's own, in the order of their numbers, and what is copied is the
 -- spread. Assumes nothing.
-use mathlib.Core.Path.{ap}
-use mathlib.Core.List.{List, ◌++◌}
-use Prim.Native.Nat.{ℕ}
+use mathlib.Core.Path.{◌≡◌, refl}
+use Prim.Native.Nat.{ℕ, ◌≤◌}
 use native.Mathlib.Omega.{arith}
-use lib.ListN.{drop, length-take}
+use lib.ListN.{length, take, length-take}
 use Rattle.routes.specs.Answers.{no_place}
+use Rattle.routes.proofs.Front.{copied_more, copied_all}
 use Rattle.routes.proofs.Gathering.{ready, enough, too_small, written}
 use Rattle.routes.proofs.spread_tested.Goals as goal
 
@@ -24,11 +24,18 @@ returns-then-count-room c = too_small _ c.requires _ _ _ c.place.ensures _ _ c.s
 pub slice_bounds-places-end : goal.slice_bounds-places-end
 slice_bounds-places-end c = omega (arith, enough _ c.requires _ _ _ c.place.ensures _ _ c.send-written.ensures, c.send-written.array_long)
 
-pub slice_bounds-copy_from_slice-end-3 : goal.slice_bounds-copy_from_slice-end-3
-slice_bounds-copy_from_slice-end-3 c = omega (arith, enough _ c.requires _ _ _ c.place.ensures _ _ c.send-written.ensures, c.send-written.array_long, length-take {A = ℕ})
+pub slice_bounds-entry-items-end : goal.slice_bounds-entry-items-end
+slice_bounds-entry-items-end c = omega (arith, enough _ c.requires _ _ _ c.place.ensures _ _ c.send-written.ensures, c.send-written.array_long, length-take {A = ℕ})
 
-pub copy_from_slice-requires : goal.copy_from_slice-requires
-copy_from_slice-requires c = omega (arith, enough _ c.requires _ _ _ c.place.ensures _ _ c.send-written.ensures, c.send-written.array_long, c.if-count-room.false, length-take {A = ℕ})
+pub loop-i-init : goal.loop-i-init
+loop-i-init c = record { within = omega arith; long = refl; front = refl }
+
+pub loop-i-preserved : goal.loop-i-preserved
+loop-i-preserved c =
+    let all : length (take c.send-written.result c.send-written.new.room) ≤ length c.args.room.now = omega (arith, c.if-count-room.false, length-take {A = ℕ}) in
+    copied_more _ _ _ _ _ c.loop-i.invariant c.loop-i-test.true (omega arith) all
 
 pub returns : goal.returns
-returns c = written _ c.requires _ _ _ c.place.ensures _ _ c.send-written.ensures (record { on_bus = omega (arith, c.if-bus-ge-BUSES.false); identified = omega (arith, c.if-identifier-ge-IDENTIFIER_LIMIT.false) }) _ (omega (arith, c.if-count-room.false)) _ (ap (λ (l : List ℕ). l ++ drop c.send-written.result c.args.room.now) c.copy_from_slice.ensures.after)
+returns c =
+    let n : c.send-written.result ≡ length (take c.send-written.result c.send-written.new.room) = omega (arith, enough _ c.requires _ _ _ c.place.ensures _ _ c.send-written.ensures, c.send-written.array_long, length-take {A = ℕ}) in
+    written _ c.requires _ _ _ c.place.ensures _ _ c.send-written.ensures (record { on_bus = omega (arith, c.if-bus-ge-BUSES.false); identified = omega (arith, c.if-identifier-ge-IDENTIFIER_LIMIT.false) }) _ (omega (arith, c.if-count-room.false)) _ (copied_all _ _ _ _ _ c.loop-i.invariant c.loop-i-test.false n)
