@@ -32,14 +32,17 @@ module _ (ss es onward : List ℕ) (led : Led ss es onward) (i : ℕ) (f : First
     pub sound_by : up ≡ 0 → Judged ss es verdict.Sound
     sound_by z = no_doubling ss es free (length ss) (none_begins ss es onward led up told-up z) (omega arith)
 
-    module _ (nz : up ≡ 0 → ⊥) (low : Numbers ss es) (below forks places : ℕ)
-        (told-down : (a : ℕ) → Tells (ForksEarlier ss onward true (length ss) a) (bit below a)) (either : (a : ℕ) → bit forks a ≡ bit up a || bit below a)
-        (told-places : (x : ℕ) → Tells (StartsAt ss forks (length ss) x) (bit places x)) where
-      pub doubling_by : (j : ℕ) → j < length ss → FirstPassing (begins_by onward forks places) (length ss) j → Judged ss es (verdict.Doubling j)
-      doubling_by j found g =
-          let same = begins_same ss es onward led up below forks told-up told-down either low places told-places in
-          doubling_found ss es free j (first_same (begins_by onward forks places) (begins ss es) (length ss) j same g) found
+    pub doubling_by : (up ≡ 0 → ⊥) → Numbers ss es → (below forks places j : ℕ) → ((a : ℕ) → Tells (ForksEarlier ss onward true (length ss) a) (bit below a))
+        → ((a : ℕ) → bit forks a ≡ bit up a || bit below a) → ((x : ℕ) → Tells (StartsAt ss forks (length ss) x) (bit places x))
+        → FirstPassing (begins_by onward forks places) (length ss) j → Judged ss es (verdict.Doubling j)
+    doubling_by nz low below forks places j told-down either told-places g =
+        let same = begins_same ss es onward led up below forks told-up told-down either low places told-places in
+        let found = some_begins ss es onward led up below forks told-up told-down either low places told-places j nz g in
+        doubling_found ss es free j (first_same (begins_by onward forks places) (begins ss es) (length ss) j same g) found
 
-      -- where some route forks, some route begins a doubling
-      pub doubling_there : FirstPassing (begins_by onward forks places) (length ss) (length ss) → ⊥
-      doubling_there g = omega (arith, some_begins ss es onward led up below forks told-up told-down either low places told-places (length ss) nz g)
+    -- where some route forks, some route begins a doubling
+    pub doubling_there : (up ≡ 0 → ⊥) → Numbers ss es → (below forks places : ℕ) → ((a : ℕ) → Tells (ForksEarlier ss onward true (length ss) a) (bit below a))
+        → ((a : ℕ) → bit forks a ≡ bit up a || bit below a) → ((x : ℕ) → Tells (StartsAt ss forks (length ss) x) (bit places x))
+        → FirstPassing (begins_by onward forks places) (length ss) (length ss) → ⊥
+    doubling_there nz low below forks places told-down either told-places g =
+        omega (arith, some_begins ss es onward led up below forks told-up told-down either low places told-places (length ss) nz g)

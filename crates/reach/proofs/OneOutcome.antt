@@ -76,13 +76,13 @@ module _ {M : Type 1} {𝓤 : Ura M} (𝓛 : Logic 𝓤) (mem : Memory → SProp
   one_nth t n down l e = record { coded = coded_ℕ; outcome = turn n down t; Says = λ r. (r ≡ turn n down t) × (r < n); says = λ r. refl; there = (refl, turn_low n t down l); alone = λ r h. h.0 }
 
   -- the masks at exit
-  pub one_fill : (κs : Lfts 3) (table : Bor NumberedRoutes) (onward : MutBor (List ℕ)) → length onward.now ≡ width
+  pub one_fill : (κs : Lfts 3) (table : Bor NumberedRoutes) (onward : MutBor (List ℕ)) → length table.now.starts.now ≤ length onward.now
       → Only 𝓤 (λ (x : List ℕ). (fill.clauses 𝓛 mem run κs (table, (onward, tt))).ensures tt tt (table, (at_last onward x, tt)))
-  one_fill κs table onward long =
+  one_fill κs table onward room =
       let starts = table.now.starts.now in
       let ends = table.now.ends.now in
       let ns = table.now.numbers in
-      let r = filled_there starts ends onward.now ns (omega (arith, ns.from.few, long)) in
+      let r = filled_there starts ends onward.now ns room in
       record {
         coded = coded_list coded_ℕ;
         outcome = r.0;

@@ -2,11 +2,9 @@
 // chains lead to from it, and routes hand on what they lead to until nothing is new.
 #![tactic(auto)]
 
-ghost use Rattle.std.specs.Prelude.{◌≡◌, ◌<◌, length};
+ghost use Rattle.std.specs.Prelude.{◌≡◌, ◌<◌, ◌≤◌, length};
 ghost use Rattle.reach.specs.Led.{Numbers, OnwardFilled, turn};
 ghost use Rattle.reach.specs.Handing.{Real, Handing, Settled};
-
-use masks::WIDTH;
 
 // How many numbers there can be: each route has two places.
 pub const NUMBERS: usize = 128;
@@ -72,7 +70,8 @@ fn settle(table: &NumberedRoutes<'_>, masks: &mut [u64; NUMBERS])
 }
 
 // For each route, the numbers it leads on to. What was lent past them stays as it was.
-pub fn fill(table: &NumberedRoutes<'_>, onward: &mut [u64; WIDTH])
+pub fn fill(table: &NumberedRoutes<'_>, onward: &mut [u64])
+    requires { length table.now.starts.now ≤ length onward.old }
     ensures { OnwardFilled table.now.starts.now table.now.ends.now onward.old onward.new }
 {
     let mut masks = [0u64; NUMBERS];

@@ -3,6 +3,9 @@ use native.Mathlib.Omega.{arith}
 use Rattle.gateway_checker.proofs.Judging.{loop_by, sound_by, doubling_by, doubling_there}
 use Rattle.gateway_checker.proofs.judge_numbered.Goals as goal
 
+pub fill-requires : goal.fill-requires
+fill-requires c = omega (arith, c.args.table.now.numbers.from.few)
+
 pub returns-in-Some : goal.returns-in-Some
 returns-in-Some c = loop_by _ _ _ c.fill.ensures.led _ c.in-Some.ensures.1 c.in-Some.ensures.0
 
@@ -11,8 +14,8 @@ returns-then-up-eq0 c = sound_by _ _ _ c.fill.ensures.led _ c.in_default.ensures
 
 pub returns-in-Some-first_doubling : goal.returns-in-Some-first_doubling
 returns-in-Some-first_doubling c =
-    let by = doubling_by _ _ _ c.fill.ensures.led _ c.in_default.ensures (omega arith) _ c.forking-up.ensures c.if-up-eq0.false c.args.table.now.numbers _ _ _ in
-    by c.forking.ensures c.either-forks.ensures c.starts_of-places.ensures _ c.in-Some-first_doubling.ensures.0 c.in-Some-first_doubling.ensures.1
+    let by = doubling_by _ _ _ c.fill.ensures.led _ c.in_default.ensures (omega arith) _ c.forking-up.ensures c.if-up-eq0.false c.args.table.now.numbers in
+    by _ _ _ _ c.forking.ensures c.either-forks.ensures c.starts_of-places.ensures c.in-Some-first_doubling.ensures.1
 
 pub returns-in-None : goal.returns-in-None
 returns-in-None c =

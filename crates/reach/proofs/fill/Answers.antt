@@ -24,7 +24,7 @@ with-requires c = omega (arith, c.from-end.ensures, c.args.table.now.numbers.to.
 pub loop-i-preserved : goal.loop-i-preserved
 loop-i-preserved c =
     let on : c.loop-i.i < length c.args.table.now.starts.now = omega (arith, c.loop-i-test.true, c.args.table.now.numbers.same) in
-    let low : c.loop-i.i < length c.loop-i.onward = omega (arith, on, c.args.table.now.numbers.from.few, c.loop-i.invariant.long) in
+    let low : c.loop-i.i < length c.loop-i.onward = omega (arith, on, c.requires, c.loop-i.invariant.long) in
     leading_more _ _ _ _ _ c.loop-i.invariant on low _ (tells_one _ _ _ c.settle.ensures _ _ _ c.from-end.ensures c.with.ensures)
 
 pub returns : goal.returns
