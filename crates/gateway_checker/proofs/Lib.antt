@@ -4,4 +4,5 @@ pub mod Starting
 pub mod Masks
 pub mod Numbering
 pub mod Judging
+pub mod Unsound
 pub mod OneOutcome

@@ -105,6 +105,7 @@ pub fn judge(froms: &[u32], tos: &[u32]) -> Verdict
 }
 
 // Whether the verdict is sound.
+#[tactic(auto, using(crate::proofs::Unsound::unsound))]
 pub fn sound(froms: &[u32], tos: &[u32]) -> bool
     requires { (length froms.now ≤ width) × (length froms.now ≡ length tos.now) }
     ensures { Tells (IsSound froms.now tos.now) result }

@@ -1,9 +1,9 @@
 -- `routes::spread_tested` meets its contract: each test that led to a refusal is that refusal's own, in the order of their numbers, and what is copied is the
 -- spread. Assumes nothing.
-use mathlib.Core.Path.{◌≡◌, refl}
-use Prim.Native.Nat.{ℕ, ◌≤◌}
+use mathlib.Core.Path.{refl}
+use Prim.Native.Nat.{ℕ}
 use native.Mathlib.Omega.{arith}
-use lib.ListN.{length, take, length-take}
+use lib.ListN.{length-take}
 use Rattle.routes.specs.Answers.{no_place}
 use Rattle.routes.proofs.Front.{copied_more, copied_all}
 use Rattle.routes.proofs.Gathering.{ready, enough, too_small, written}
@@ -31,11 +31,9 @@ pub loop-i-init : goal.loop-i-init
 loop-i-init c = record { within = omega arith; long = refl; front = refl }
 
 pub loop-i-preserved : goal.loop-i-preserved
-loop-i-preserved c =
-    let all : length (take c.send-written.result c.send-written.new.room) ≤ length c.args.room.now = omega (arith, c.if-count-room.false, length-take {A = ℕ}) in
-    copied_more _ _ _ _ _ c.loop-i.invariant c.loop-i-test.true (omega arith) all
+loop-i-preserved c = copied_more _ _ _ _ _ c.loop-i.invariant c.loop-i-test.true (omega arith) (omega (arith, c.if-count-room.false, length-take {A = ℕ}))
 
 pub returns : goal.returns
 returns c =
-    let n : c.send-written.result ≡ length (take c.send-written.result c.send-written.new.room) = omega (arith, enough _ c.requires _ _ _ c.place.ensures _ _ c.send-written.ensures, c.send-written.array_long, length-take {A = ℕ}) in
-    written _ c.requires _ _ _ c.place.ensures _ _ c.send-written.ensures (record { on_bus = omega (arith, c.if-bus-ge-BUSES.false); identified = omega (arith, c.if-identifier-ge-IDENTIFIER_LIMIT.false) }) _ (omega (arith, c.if-count-room.false)) _ (copied_all _ _ _ _ _ c.loop-i.invariant c.loop-i-test.false n)
+    let copied = copied_all _ _ c.send-written.result _ _ c.loop-i.invariant c.loop-i-test.false (omega (arith, enough _ c.requires _ _ _ c.place.ensures _ _ c.send-written.ensures, c.send-written.array_long, length-take {A = ℕ})) in
+    written _ c.requires _ _ _ c.place.ensures _ _ c.send-written.ensures (record { on_bus = omega (arith, c.if-bus-ge-BUSES.false); identified = omega (arith, c.if-identifier-ge-IDENTIFIER_LIMIT.false) }) _ (omega (arith, c.if-count-room.false)) _ copied

@@ -1,4 +1,4 @@
--- `gateway_checker::sound` meets its contract: each verdict says whether the table is sound. Assumes nothing.
+-- A verdict that is not `Sound` is of a table that is not sound. Assumes nothing.
 use mathlib.Core.Path.{◌≡◌, refl}
 use mathlib.Core.List.{List}
 use Prim.Native.Nat.{ℕ}
@@ -7,12 +7,8 @@ use Rattle.verdict.specs.declared.Verdict.{Verdict}
 use Rattle.verdict.specs.declared.Verdict.TheVariants as verdict
 use Rattle.verdict.specs.Verdicts.{Judged}
 use Rattle.verdict.proofs.Once.{loop_unsound, doubling_unsound}
-use Rattle.gateway_checker.proofs.sound.Goals as goal
 
-unsound : (froms tos : List ℕ) (v : Verdict) → Judged froms tos v → (v ≡ verdict.Sound → ⊥) → IsSound froms tos → ⊥
+pub unsound : (froms tos : List ℕ) (v : Verdict) → Judged froms tos v → (v ≡ verdict.Sound → ⊥) → IsSound froms tos → ⊥
 unsound froms tos (verdict.Loop i) j other = loop_unsound froms tos i j
 unsound froms tos (verdict.Doubling i) j other = doubling_unsound froms tos i j
 unsound froms tos verdict.Sound j other = absurd (other refl)
-
-pub returns-in_default : goal.returns-in_default
-returns-in_default c = unsound _ _ _ c.judge.ensures c.in_default.not-Sound
