@@ -15,6 +15,7 @@ pub use book::TestedBook;
 use framing::{PackRefusal, ReadRefusal};
 pub use lookup::find_message;
 use record::BOOK_WORDS;
+use tables::messages_taken;
 use tested::{pack_tested, read_tested};
 
 // Reads a frame: the raw count, class code and thousandths of each placement, in the order of the S lines, from the front of the three
@@ -30,9 +31,10 @@ pub fn read(
 ) -> Result<u32, ReadRefusal>
     ensures { ReadsInto (reading book.now identifier frame.now) result raws classes thousandths }
 {
-    let Some(book) = TestedBook::tested(book) else {
+    if !messages_taken(book) {
         return Err(ReadRefusal::NotABook);
-    };
+    }
+    let book = TestedBook { words: book };
     read_tested(&book, identifier, frame, raws, classes, thousandths)
 }
 
@@ -48,8 +50,8 @@ pub fn pack(
 ) -> Result<(), PackRefusal>
     ensures { PacksInto (packing book.now identifier values.now) result frame }
 {
-    let Some(book) = TestedBook::tested(book) else {
-        return Err(PackRefusal::NotABook);
-    };
-    pack_tested(&book, identifier, values, frame)
+    if messages_taken(book) {
+        return pack_tested(&TestedBook { words: book }, identifier, values, frame);
+    }
+    Err(PackRefusal::NotABook)
 }
