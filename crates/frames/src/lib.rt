@@ -31,7 +31,8 @@ pub fn read(
 ) -> Result<u32, ReadRefusal>
     ensures { ReadsInto (reading book.now identifier frame.now) result raws classes thousandths }
 {
-    if !messages_taken(book) {
+    let taken = messages_taken(book);
+    if !taken {
         return Err(ReadRefusal::NotABook);
     }
     let book = TestedBook { words: book };
@@ -50,8 +51,9 @@ pub fn pack(
 ) -> Result<(), PackRefusal>
     ensures { PacksInto (packing book.now identifier values.now) result frame }
 {
-    if messages_taken(book) {
-        return pack_tested(&TestedBook { words: book }, identifier, values, frame);
+    if !messages_taken(book) {
+        return Err(PackRefusal::NotABook);
     }
-    Err(PackRefusal::NotABook)
+    let book = TestedBook { words: book };
+    pack_tested(&book, identifier, values, frame)
 }

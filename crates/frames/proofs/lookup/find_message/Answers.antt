@@ -28,7 +28,7 @@ returns-in_err-at c =
     let ids = take c.message_count-count.result c.ids-ids.result.now in
     let long : length ids ≡ c.message_count-count.result = length-take-le _ _ (omega (arith, count_few w c.args.book.now.taken, count, c.ids-ids.ensures.1)) in
     let found = first_by_position n ids c.position.result
-    (IsFirst-from_position _ _ _ (λ x. x ≡ n) (λ x. x ≡ n → ⊥) c.position.ensures.ran (YieldsList-from_slice ids c.iter.ensures.rest) (λ x q k. search (rules, tests)) (λ x q k. search (rules, tests))) in
+    (IsFirst-from_position _ _ _ (λ x. x ≡ n) (λ x. x ≡ n → ⊥) c.position.ensures.ran (YieldsList-from_slice ids c.iter.ensures.rest) (λ x q k. search (rules, tests)) (λ x q k. (search (rules, tests), search (rules, tests)))) in
     let none : first_at n ids ≡ length ids = found ∙ ap (λ (r : Option ℕ). unwrap_or r (length ids)) c.in_err-at.was in
     rw c.from_residual.ensures
     (nothing w c.args.book.now.taken n _ (first_is w c.args.book.now.taken n _ _ _ count c.ids-ids.ensures.0 (sym (none ∙ long))) count)
