@@ -1,6 +1,7 @@
 -- The whole text of a book whose tables are those of a taken one: how long it is, and that both parts, written one after the other,
 -- are it. Assumes nothing.
 use mathlib.Core.Path.{◌≡◌, sym, ap, ◌∙◌, subst}
+use mathlib.Core.Bool.{Bool, true, false}
 use Prim.Native.Nat.{ℕ, ◌+◌, ◌≤◌}
 use native.Mathlib.Nat.{zero-add}
 use native.Mathlib.Omega.{arith}
@@ -12,11 +13,13 @@ use Rattle.line.specs.declared.Line.TheVariants as line
 use Rattle.line.specs.Written.{Writable}
 use Rattle.books.specs.Book.{Message, Placement, Route, identifiers, numbers, all_placements}
 use Rattle.record.specs.Limits.{message_limit, signal_limit}
-use Rattle.books.specs.Words.{placement_starts, messages_of, froms, tos, routes_of}
+use Rattle.books.specs.Words.{placement_starts, messages_of, messages_taken_spec, froms, tos, routes_of}
 use Rattle.books.proofs.Building.{good_built}
 use Rattle.books.proofs.Columns.{taken_stands}
 use Rattle.reading.specs.Written.{route_line, message_lines, book_lines, book_text, lines_text}
 use Rattle.reading.proofs.Texts.{AllWritable, messages_writable}
+use Rattle.chains.specs.Tells.{Tells}
+use Rattle.route_tables.specs.Tables.{RoutesTaken}
 use Rattle.route_tables.proofs.Shown.{few_shown}
 use Rattle.printing.specs.Put.{Put}
 use Rattle.printing.proofs.Puts.{and_then}
@@ -27,6 +30,11 @@ use Rattle.reading.proofs.TextLengths.{signal_bytes, route_bytes, signals_few, r
 use Rattle.book_writer.specs.ShownLines.{signal_line_of, route_line_of, pair_lines}
 use Rattle.book_writer.proofs.Pairs.{lines_of_signals, lines_of_routes}
 use Rattle.book_writer.proofs.Shown.{limits}
+
+-- where the messages are taken, the test of the routes tells of all tables
+pub all_told : (w : List ℕ) → messages_taken_spec w ≡ true → (r : Bool) → Tells (RoutesTaken w) r → Tells (TablesTaken w) r
+all_told w m true t = record { messages = m; routes = t }
+all_told w m false t = λ a. t a.routes
 
 -- lines that have texts can be written, and R lines can in any case
 digits_of : (l : Line) → Writable l → FewDigits l

@@ -9,7 +9,8 @@ mod lines;
 mod taken;
 
 ghost use Rattle.std.specs.Prelude.{◌≡◌};
-ghost use Rattle.book_writer.specs.Answers.{write_refusal_number, wrote_number, byte_count, WriteAnswer};
+ghost use Rattle.chains.specs.Tells.{Tells};
+ghost use Rattle.book_writer.specs.Answers.{TablesTaken, write_refusal_number, wrote_number, byte_count, WriteAnswer};
 
 use lengths::text_length;
 use lines::{put_message_lines, put_route_lines};
@@ -41,13 +42,24 @@ impl From<WriteRefusal> for u32 {
     }
 }
 
+// Whether all tables of the book are those of a taken one.
+fn tables_taken(book: &[u32; BOOK_WORDS]) -> bool
+    ensures { Tells (TablesTaken book.now) result }
+{
+    if !tables::messages_taken(book) {
+        return false;
+    }
+    route_tables::routes_taken(book)
+}
+
 // Writes the text of the book to the front of the room: how many bytes it has.
 pub fn write(book: &[u32; BOOK_WORDS], room: &mut [u8]) -> Result<u32, WriteRefusal>
     ensures { WriteAnswer book.now room.old (wrote_number result) (byte_count result) room.new }
 {
-    let Some(taken) = TakenBook::tested(book) else {
+    if !tables_taken(book) {
         return Err(WriteRefusal::NotABook);
-    };
+    }
+    let taken = TakenBook { words: book };
     let length = text_length(&taken);
     if room.len() < length as usize {
         return Err(WriteRefusal::NoRoom);

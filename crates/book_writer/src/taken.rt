@@ -1,5 +1,5 @@
-// A lent book whose tables have been tested, and its columns as far as they are in use. Only the test makes one.
-ghost use Rattle.std.specs.Prelude.{◌≡◌, ◌-◌, ◌≤◌, length, take, drop, MatchOption};
+// A lent book whose tables are all those of a taken one, and its columns as far as they are in use.
+ghost use Rattle.std.specs.Prelude.{◌≡◌, ◌-◌, ◌≤◌, length, take, drop};
 ghost use Rattle.books.specs.Book.{identifiers, numbers, all_placements};
 ghost use Rattle.books.specs.Words.{placement_starts, ends_after, messages_of, froms, tos, routes_of};
 ghost use Rattle.book_writer.specs.Answers.{TablesTaken};
@@ -31,21 +31,10 @@ impl<'a> Pairs<'a> {
 #[derive(Clone, Copy)]
 pub struct TakenBook<'a> {
     pub words: &'a [u32; BOOK_WORDS],
-    ghost taken: { TablesTaken words.now },
+    pub ghost taken: { TablesTaken words.now },
 }
 
 impl<'a> TakenBook<'a> {
-    // The book that the words show, if all its tables are those of a taken one.
-    pub fn tested(words: &'a [u32; BOOK_WORDS]) -> Option<TakenBook<'a>>
-        ensures { MatchOption result (TablesTaken words.now → ⊥) (λ book. book.words.now ≡ words.now) }
-    {
-        if tables::messages_taken(words) && route_tables::routes_taken(words) {
-            Some(TakenBook { words })
-        } else {
-            None
-        }
-    }
-
     // The messages' identifiers.
     pub fn ids(&self) -> &'a [u32]
         ensures { result.now ≡ identifiers (messages_of self.now.words.now) }

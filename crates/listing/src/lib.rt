@@ -16,6 +16,7 @@ use line::list_line;
 use parts::{NEWLINE, find, part_before, part_from};
 use record::BOOK_WORDS;
 use signal_lines::Figures;
+use tables::messages_taken;
 
 // So many bytes of the lines were used, and so many of the room written.
 #[derive(Clone, Copy, PartialEq, Eq)]
@@ -62,8 +63,9 @@ pub fn list(
 ) -> Result<Listed, ListRefusal>
     ensures { ◌≡◌ {A = Result Listed ListRefusal × List ℕ} (result, out.new) (listing figures book.now text.now out.old) }
 {
-    let Some(book) = TestedBook::tested(book) else {
+    if !messages_taken(book) {
         return Err(ListRefusal::NotABook);
-    };
+    }
+    let book = TestedBook { words: book };
     Ok(list_lines(&book, text, out, figures))
 }
