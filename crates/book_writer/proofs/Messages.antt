@@ -4,6 +4,7 @@ use Prim.Native.Nat.{ℕ, ◌+◌, ◌-◌, ◌≤◌}
 use native.Mathlib.Omega.{arith}
 use mathlib.Core.List.{List, [], ◌∷◌, ◌++◌, map}
 use lib.ListN.{length, get_or, take, drop, length-append, length-map, length-drop}
+use Rattle.std.proofs.lemmas.List.{take-take, take-map, take-append-drop, append_assoc}
 use mathlib.Core.Logic.{◌⊎◌, inl, inr}
 use lib.Seq.{take_at, drop_at, drop-drop}
 use Rattle.line.specs.declared.Line.{Line}
@@ -117,6 +118,30 @@ module _ {old : List ℕ} {all : List Line} {ns ss out : List ℕ} {next begin i
   pub message_fit : LinesFit out next (line.Message id ∷ [])
   message_fit = first_fit (line.Message id ∷ []) (map signal_line x.placed ++ message_lines x.later) x.lines
 
+  -- its S lines are the next, once the M line is written
+  module _ {mid : List ℕ} {m : ℕ} (p : Put out next (lines_text (line.Message id ∷ [])) mid m) where
+    signals_left : LinesLeft old 0 all mid m (map signal_line x.placed ++ message_lines x.later)
+    signals_left = lines_put (line.Message id ∷ []) (map signal_line x.placed ++ message_lines x.later) x.lines p
+
+  -- as many parts of the two columns as are no more than its signals, from `begin` on: their lines have room
+  module _ {fs ts : List ℕ} {n : ℕ} (a : fs ≡ take n (drop begin ns)) (b : ts ≡ take n (drop begin ss)) (h : n ≤ length x.placed) where
+    some_of : (l : List ℕ) (f : Placement → ℕ) → take (length x.placed) (drop begin l) ≡ map f x.placed → take n (drop begin l) ≡ map f (take n x.placed)
+    some_of l f e = sym (take-take n (length x.placed) (drop begin l) h) ∙ ap (take n) e ∙ take-map f n x.placed
+
+    some_lines : pair_lines signal_line_of fs ts ≡ map signal_line (take n x.placed)
+    some_lines =
+        lines_of_signals (take n x.placed) (a ∙ some_of ns (λ (p : Placement). p.number) x.numbers_are) (b ∙ some_of ss (λ (p : Placement). p.start) x.starts_are)
+
+    parted_lines : map signal_line x.placed ++ message_lines x.later ≡ map signal_line (take n x.placed) ++ (map signal_line (drop n x.placed) ++ message_lines x.later)
+    parted_lines =
+        ap (λ (l : List Line). l ++ message_lines x.later) (ap (map signal_line) (sym (take-append-drop n x.placed)) ∙ map-append signal_line (take n x.placed) (drop n x.placed))
+        ∙ append_assoc (map signal_line (take n x.placed)) (map signal_line (drop n x.placed)) (message_lines x.later)
+
+    pub signals_fit : {mid : List ℕ} {m : ℕ} → Put out next (lines_text (line.Message id ∷ [])) mid m → LinesFit mid m (pair_lines signal_line_of fs ts)
+    signals_fit {mid} {m} p =
+        subst (LinesFit mid m) (sym some_lines)
+        (first_fit (map signal_line (take n x.placed)) (map signal_line (drop n x.placed) ++ message_lines x.later) (subst (LinesLeft old 0 all mid m) parted_lines (signals_left p)))
+
   -- the parts of the two columns that are its signals', from `begin` to its end
   size : word - begin ≡ length x.placed
   size = omega (arith, x.end_is)
@@ -127,21 +152,15 @@ module _ {old : List ℕ} {all : List Line} {ns ss out : List ℕ} {next begin i
         lines_of_signals x.placed (a ∙ ap (λ (k : ℕ). take k (drop begin ns)) size ∙ x.numbers_are)
         (b ∙ ap (λ (k : ℕ). take k (drop begin ss)) size ∙ x.starts_are)
 
-    module _ {mid : List ℕ} {m : ℕ} (p : Put out next (lines_text (line.Message id ∷ [])) mid m) where
-      signals_left : LinesLeft old 0 all mid m (map signal_line x.placed ++ message_lines x.later)
-      signals_left = lines_put (line.Message id ∷ []) (map signal_line x.placed ++ message_lines x.later) x.lines p
-
-      pub signals_fit : LinesFit mid m (pair_lines signal_line_of fs ts)
-      signals_fit = subst (LinesFit mid m) (sym own_lines) (first_fit (map signal_line x.placed) (message_lines x.later) signals_left)
-
-      -- with both written, the messages after it are left
-      pub message_written : {new : List ℕ} {n : ℕ} → Put mid m (lines_text (pair_lines signal_line_of fs ts)) new n → MessagesLeft old all ns ss new n word is' es'
-      message_written {new} {n} q = record {
-        messages = x.later;
-        lines = lines_put (map signal_line x.placed) (message_lines x.later) signals_left (subst (λ (l : List Line). Put mid m (lines_text l) new n) own_lines q);
-        ids_left = x.ids_on;
-        ends_left = rw x.end_is x.ends_on;
-        numbers_left = rw x.end_is x.numbers_on;
-        starts_left = rw x.end_is x.starts_on;
-        within = omega (arith, x.end_is, x.fits);
-      }
+    -- with both written, the messages after it are left
+    pub message_written : {mid : List ℕ} {m : ℕ} → Put out next (lines_text (line.Message id ∷ [])) mid m → {new : List ℕ} {n : ℕ} → Put mid m (lines_text (pair_lines signal_line_of fs ts)) new n
+        → MessagesLeft old all ns ss new n word is' es'
+    message_written {mid} {m} p {new} {n} q = record {
+      messages = x.later;
+      lines = lines_put (map signal_line x.placed) (message_lines x.later) (signals_left p) (subst (λ (l : List Line). Put mid m (lines_text l) new n) own_lines q);
+      ids_left = x.ids_on;
+      ends_left = rw x.end_is x.ends_on;
+      numbers_left = rw x.end_is x.numbers_on;
+      starts_left = rw x.end_is x.starts_on;
+      within = omega (arith, x.end_is, x.fits);
+    }

@@ -25,7 +25,7 @@ part-requires c =
 pub put_lines-next-requires : goal.put_lines-next-requires
 put_lines-next-requires c =
     let x = next_message (Zip-more c.loop-id.id-iterator c.next.new.self _ _ c.in-Some.is c.next.ensures.steps) c.loop-id.invariant in
-    signals_fit x c.part.ensures.firsts c.part.ensures.seconds c.put_message-after_message.ensures
+    signals_fit x c.part.ensures.firsts c.part.ensures.seconds (omega (arith, x.end_is)) c.put_message-after_message.ensures
 
 pub loop-id-preserved : goal.loop-id-preserved
 loop-id-preserved c =
