@@ -20,7 +20,7 @@ use Rattle.rows.specs.Rows.{rows}
 use Rattle.rows.specs.Widths.{last_starts_of}
 use Rattle.catalogue.specs.declared.Raw.{Raw}
 use Rattle.catalogue.specs.Find.{bits_of_spec}
-use Rattle.catalogue.specs.Class.{class_of_spec}
+use Rattle.catalogue.specs.Class.{class_of_spec, no_class_number}
 use Rattle.catalogue.specs.Cut.{cut_of_spec}
 use Rattle.catalogue.specs.Places.{Placed}
 use Rattle.catalogue.proofs.Placed.{found_place, one_place}
@@ -37,6 +37,7 @@ use Rattle.catalogue.specs.contracts.widths.Widths.bits as widths-bits
 use Rattle.catalogue.specs.contracts.widths.Widths.new as widths-new
 use Rattle.catalogue.specs.contracts.starts.SignalStarts.new as starts-new
 use Rattle.catalogue.specs.contracts.widths.bits_of as bits_of
+use Rattle.catalogue.specs.contracts.U32FromNoClass.from as number-fn
 
 module _ {M : Type 1} {𝓤 : Ura M} (𝓛 : Logic 𝓤) (mem : Memory → SProp 𝓤) (run : Routine → Fun 𝓤) where
   pub one_class_of : (number : ℕ) (raw : Raw) (e : AtExit class_of.ended tt) → Only 𝓤 (λ r. (class_of.clauses 𝓛 mem run tt (number, (raw, tt))).ensures tt r e)
@@ -60,6 +61,11 @@ module _ {M : Type 1} {𝓤 : Ura M} (𝓛 : Logic 𝓤) (mem : Memory → SProp
         there = p.1;
         alone = λ r h. one_place number r p.0 h p.1;
       }
+
+-- the number of a refusal
+module _ (M : Type 1) where
+  pub one_number : OneResult M number-fn.ended (λ _. number-fn.clauses)
+  one_number = result_is (λ c. no_class_number c.arguments.0) refl
 
 -- by the columns, which are held
 module _ (M : Type 1) where

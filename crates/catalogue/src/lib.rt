@@ -16,7 +16,7 @@ mod starts;
 mod widths;
 
 pub use by_shape::{class_of, cut_of};
-pub use places::{CHECKSUM_PLACE, COUNTER_PLACE, PLACES};
+pub use places::{CHECKSUM_PLACE, COUNTER_PLACE, HUNDREDS, PLACES};
 pub use starts::SignalStarts;
 pub use widths::{Widths, bits_of};
 

@@ -5,7 +5,7 @@ ghost use Rattle.std.specs.Prelude.{◌≡◌, ◌<◌};
 ghost use Rattle.catalogue.specs.Places.{number_limit, hundred, surpluses, bounds, Placed};
 
 // How many hundreds there are with signals in them, or below one that has.
-pub(crate) const HUNDREDS: usize = 20;
+pub const HUNDREDS: usize = 20;
 
 // How many places there are.
 pub const PLACES: usize = 199;

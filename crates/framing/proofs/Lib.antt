@@ -12,3 +12,4 @@ pub mod PackAgain
 pub mod Few
 pub mod StandIns
 pub mod CodedSlices
+pub mod OneOutcome
