@@ -14,7 +14,7 @@ use rows::{Mark, MarkKind};
 fn is_between(first: u32, last: u32, count: u32) -> bool
     ensures { result ≡ between first last count }
 {
-    (first..=last).contains(&count)
+    first <= count && count <= last
 }
 
 // The lowest `bits` bits of a window.
