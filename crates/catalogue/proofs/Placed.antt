@@ -7,7 +7,7 @@ use Prim.Native.Nat.{ℕ, zero, suc, ◌-◌, ◌≤◌, ◌<◌}
 use native.Mathlib.Omega.{arith}
 use lib.Arith.{lt_of_le-ne}
 use lib.Dec.{eqb, leb, ltb}
-use lib.ListN.{length, get_or}
+use lib.ListN.{length, get_or, length-map}
 use borrow.Author.Tests.{eqb-true, eqb-false, ne_eqb, leb-true, le-leb, lt-leb, ltb-true, ltb-false}
 use Rattle.std.specs.Prelude.{Option, Some, None}
 use Rattle.rows.specs.declared.Row.{Row}
@@ -173,6 +173,9 @@ all_wide_law = refl
 
 -- what is read there is the signal's bits, and there are some
 module _ (widths : List ℕ) (n p : ℕ) (column : widths ≡ widths_of rows) (place : (p ≡ place_of n) × (p < no_place_spec)) where
+  pub in_widths : p < length widths
+  in_widths = rw column (subst (λ (k : ℕ). p < k) (sym (length-map rows (λ (r : Row). r.bits) ∙ long)) place.1)
+
   module _ (b : ℕ) (e : b ≡ get_or widths p 0) where
     pub its_bits : b ≡ bits_of_spec n
     its_bits = e ∙ (rw (column, place.0) (bits_there n))

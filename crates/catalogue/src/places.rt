@@ -37,7 +37,7 @@ fn hundred_of(number: u32) -> usize
 }
 
 // The place of a signal in the table, by its columns.
-pub(crate) fn place_of(number: u32, above: &[u32; HUNDREDS], ends: &[u8; HUNDREDS]) -> Option<usize>
+pub(crate) fn place_of(number: u32, above: &[u32], ends: &[u8]) -> Option<usize>
     requires { (above.now ≡ surpluses) × (ends.now ≡ bounds) }
     ensures { Placed number result }
 {

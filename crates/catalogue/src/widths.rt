@@ -1,6 +1,7 @@
 // The bits of a signal, from the constant table's own column, by the signal's place. Who asks for those of many holds the columns.
 ghost use Rattle.std.specs.Prelude.{◌≡◌};
 ghost use Rattle.catalogue.specs.Find.{bits_of_spec};
+ghost use Rattle.catalogue.specs.Places.{TableColumns};
 
 use crate::places::{BOUNDS, HUNDREDS, PLACES, SURPLUSES, place_of};
 use std::marker::Model;
@@ -38,11 +39,19 @@ impl Widths {
     pub fn bits(&self, number: u32) -> u32
         ensures { result ≡ bits_of_spec number }
     {
-        let Some(place) = place_of(number, &self.above, &self.ends) else {
-            return 0;
-        };
-        u32::from(self.bits[place])
+        bits_at(number, &self.above, &self.ends, &self.bits)
     }
+}
+
+// The same by the columns themselves.
+fn bits_at(number: u32, above: &[u32], ends: &[u8], bits: &[u8]) -> u32
+    requires { TableColumns above.now ends.now bits.now }
+    ensures { result ≡ bits_of_spec number }
+{
+    let Some(place) = place_of(number, above, ends) else {
+        return 0;
+    };
+    u32::from(bits[place])
 }
 
 // The bits of one signal: 0 where the catalogue has no such signal. The columns are built for this call alone.
