@@ -86,38 +86,83 @@ def working_side(promises):
         yield f"docs/PROMISES.md: {crate}: {file} is neither rested on nor listed as the working side"
 
 
-def public_functions(crate):
-    """The names by which other crates, or C, call the functions of a library."""
+def exported(crate):
+    """What the root of a library lets others name, with the module that each name is of: none where it is the root's own."""
     root = (crate / "src/lib.rt").read_text()
-    names = re.findall(r"(?m)^pub fn (\w+)", root) + re.findall(r"(?m)^pub use \w+::([a-z]\w*);", root)
-    for path in (crate / "src").glob("*.rt"):
-        text = path.read_text()
-        names += re.findall(r'pub extern "C" fn pct?_(\w+)', text)
-        names += [name for body in re.findall(r"(?ms)^impl \w+.*?\{$(.*?)^\}", text) for name in re.findall(r"pub fn (\w+)", body)]
-    return names
+    own = {name: "" for name in re.findall(r"(?m)^pub (?:fn|struct|enum|trait|type|const) (\w+)", root)}
+    return own | {name: module for module, names in re.findall(r"(?m)^pub use (\w+)::([^;]+);", root) for name in re.findall(r"\w+", names)}
+
+
+def called(head):
+    """How the papers call a function of an impl with this head, and where its contract stands: `From<A> for B` has `B::from(A)`."""
+    trait, _, owner = re.sub(r"<'\w+(?:, '\w+)*>", "", head).rpartition(" for ")
+    words = re.findall(r"\w+", f"{owner} {trait}")
+    return owner, f"({', '.join(words[2:])})" if trait else "", "".join(word[0].upper() + word[1:] for word in words)
+
+
+def public_functions(crate):
+    """What other crates, or C, call of a library: how the papers name the function, its contract as the prover has it, and its head."""
+    names = exported(crate)
+    hidden = set(re.findall(r"(?m)^(?:pub(?:\(crate\))? )?(?:struct|enum|trait) (\w+)", source(crate.name))) - set(names)
+    for path in sorted((crate / "src").glob("*.rt")):
+        text, module = path.read_text(), path.stem.removesuffix("lib")
+        before = module and module + "."
+        for face, name, head in re.findall(r'(?ms)^pub (extern "C" )?fn (\w+)(.*?\{)$', text):
+            if face or names.get(name) == module:
+                yield name, before + name, head
+        for impl, body in re.findall(r"(?ms)^impl(?:<[^\n]*?>)? ([^\n{]+) \{$(.*?)^\}", text):
+            owner, of, contract = called(impl)
+            for name, head in re.findall(rf"(?ms)^    {'' if of else 'pub '}fn (\w+)(.*?\{{)$", body):
+                if not hidden & set(re.findall(r"\w+", impl)):
+                    yield f"{owner}::{name}{of}", f"{before}{contract}.{name}", head
+
+
+def laws_of(crate):
+    """The laws of one outcome of a crate, each with the contract that it is over."""
+    text = "".join(path.read_text() for path in crate.glob("proofs/OneOutcome.antt"))
+    contracts = {known: contract for contract, known in re.findall(rf"(?m)^use Rattle\.{crate.name}\.specs\.contracts\.(\S+) as (\S+)$", text)}
+    for law, says in re.findall(r"(?ms)^ *pub (one_\w+) :(.*?)^ *\1\b", text):
+        if re.search(r"\b(?:Only|One(?:Result|Content|Outcome))\b", says):
+            yield from ((law, contracts.get(known)) for known in re.findall(r"([\w-]+)\.clauses\b", says))
 
 
 def without_law(promises):
-    """The public functions that have no law of one outcome and are not named as parts of programs."""
+    """The public functions that have no law of one outcome over their contract, and are not named as parts of programs. That of a plain
+    function, or of a call of C, goes by its name."""
     for crate in sorted(path.parent.parent for path in ROOT.glob("crates/*/src/lib.rt")):
-        laws = "".join(path.read_text() for path in crate.glob("proofs/OneOutcome.antt"))
-        for name in public_functions(crate):
-            law = "one_" + name
-            if not re.search(rf"(?m)^ *pub {law} :", laws) and f"`{crate.name}::{name}`" not in promises:
-                yield f"{crate.name}::{name}: no law {law}, and docs/PROMISES.md does not name it as part of a program"
+        laws = list(laws_of(crate))
+        for name, contract, _ in public_functions(crate):
+            plain = "::" not in name
+            law = "one_" + (re.sub("^pct?_", "", name) if plain else "..")
+            found = (law, contract) in laws if plain else any(over == contract for _, over in laws)
+            if not found and not (plain and f"`{crate.name}::{name}`" in promises):
+                yield f"{crate.name}: {name}: no law {law} over its contract, {contract}, in proofs/OneOutcome.antt" + ", and docs/PROMISES.md does not name it as part of a program" * plain
+
+
+def is_of(call, name):
+    """Whether a call, as docs/PROMISES.md writes it, is of the function of that name. Of a conversion it may leave out what is converted."""
+    call = re.sub(r"^From<(\w+)> for (\w+)$", r"\2::from(\1)", re.sub(r"^TryFrom<(\w+)> for (\w+)$", r"\2::try_from(\1)", call))
+    begins, _, given = call.partition("(")
+    return name == begins or name.startswith(begins + "(") and (name == call or not given[:1].isupper())
 
 
 def asking(promises):
-    """The entry points, by the table of docs/PROMISES.md, and the calls of C that have a `requires`, or are not there."""
-    table = promises.partition("### Entry points")[2].partition("### Wrong programs")[0]
-    named = [(crate, name.split("::")[-1]) for crate, calls in re.findall(r"(?m)^\| `(\w+)` \| ([^|]+) \|", table) for name in re.findall(r"`([\w:]+)\(", calls)]
-    for crate, name in named:
-        heads = re.findall(rf'(?ms)^ *(?:pub (?:extern "C" )?)?fn {name}\(.*?\{{$', source(crate))
+    """The entry points, by the table of docs/PROMISES.md, and the calls of C that have a `requires`, or are not there; and the methods and
+    conversions that stand beside wrong programs, and no crate has."""
+    table, _, wrong = promises.partition("### Entry points")[2].partition("### Definitions of the working side")[0].partition("### Wrong programs")
+    functions = {path.parts[-3]: list(public_functions(path.parent.parent)) for path in sorted(ROOT.glob("crates/*/src/lib.rt"))}
+    named = [(crate, call) for crate, calls in re.findall(r"(?m)^\| `(\w+)` \| ([^|]+) \|", table) for call in re.findall(r"`([^`]+)`", calls)]
+    for crate, call in named:
+        heads = [head for name, _, head in functions.get(crate, []) if is_of(call, name)]
         if len(heads) != 1 or re.search(r"(?m)^ *requires ", heads[0]):
-            yield f"docs/PROMISES.md: the entry point {crate}: {name}() has a `requires`, or there is not just one of that name"
-    calls = {(path.parts[-3], name) for path in ROOT.glob("crates/*/src/*.rt") for name in re.findall(r'pub extern "C" fn (\w+)', path.read_text())}
-    for crate, name in sorted(calls - set(named)):
-        yield f"docs/PROMISES.md: {crate}: {name}() is not among the entry points"
+            yield f"docs/PROMISES.md: the entry point {crate}: {call} has a `requires`, or there is not just one of that name"
+    for call in re.findall(r"`(\w+::\w+\([^`]*)`", wrong):
+        if not any(is_of(call, name) for crate in functions for name, _, _ in functions[crate]):
+            yield f"docs/PROMISES.md: no crate has {call}"
+    for crate in functions:
+        for name, _, _ in functions[crate]:
+            if re.match("pct?_", name) and not any(where == crate and is_of(call, name) for where, call in named):
+                yield f"docs/PROMISES.md: {crate}: {name}() is not among the entry points"
 
 
 def lost_edits():
