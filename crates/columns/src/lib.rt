@@ -14,7 +14,7 @@ const SLOTS: usize = 256;
 
 const SLOT_PRIME: u32 = 251;
 
-// How many entries a column of a book, or a part of one, has. A loop that counts them down does so in 32 bits, which is what most
+// How many entries a column of a book, or a part of one, has. A loop that counts up to it does so in 32 bits, which is what most
 // gateways have.
 pub fn length_of(column: &[u32]) -> u32
     requires { length column.now ≤ signal_limit }
