@@ -1,12 +1,8 @@
--- The bytes of a number as std has them, by their worths, are those that specs/Word.antt takes one by one; and a frame borrowed as an
--- array is that frame. Assumes nothing.
-use mathlib.Core.Path.{◌≡◌, subst}
+-- The bytes of a number as std has them, by their worths, are those that specs/Word.antt takes one by one. Assumes nothing.
+use mathlib.Core.Path.{◌≡◌}
 use mathlib.Core.List.{List}
 use Prim.Native.Nat.{ℕ, ◌/◌, ◌%◌}
 use native.Mathlib.Omega.{arith}
-use denote.Bor.{Bor}
-use Rattle.std.specs.Prelude.{Option, Some, MatchOption, length, ◌≢◌}
-use Rattle.std.specs.Array.{IsWholeChunk}
 use Rattle.std.specs.Int.{w64, from_le_bytes, to_le_bytes}
 use Rattle.bits.specs.Word.{word_from, word_of, bytes_from, bytes_of}
 
@@ -26,8 +22,3 @@ bytes_by_worth w =
     let b6 : w / 281474976710656 % 256 ≡ w / 256 / 256 / 256 / 256 / 256 / 256 % 256 = omega arith in
     let b7 : w / 72057594037927936 % 256 ≡ w / 256 / 256 / 256 / 256 / 256 / 256 / 256 % 256 = omega arith in
     cc (b2, b3, b4, b5, b6, b7)
-
--- the array that a slice of as many is
-pub whole : {o : Option (Bor (List ℕ))} {array : Bor (List ℕ)} {xs : List ℕ} (n : ℕ) → o ≡ Some array
-    → MatchOption o (length xs ≢ n) (λ y. IsWholeChunk xs y.now n) → array.now ≡ xs
-whole {xs = xs} n e m = (subst (λ o. MatchOption o (length xs ≢ n) (λ y. IsWholeChunk xs y.now n)) e m).same

@@ -16,7 +16,9 @@ pub fn load(frame: &[u8]) -> u64
     requires { length frame.now ≡ frame_bytes }
     ensures { result ≡ word_of frame.now }
 {
-    u64::from_le_bytes(*frame.as_array::<8>().unwrap())
+    u64::from_le_bytes([
+        frame[0], frame[1], frame[2], frame[3], frame[4], frame[5], frame[6], frame[7],
+    ])
 }
 
 // The window of 32 bits that begins at `start`; those past the frame are 0.
