@@ -1,18 +1,13 @@
 -- The message of an identifier stands in the columns where its end and the end before it say. Assumes nothing.
 use mathlib.Core.Path.{◌≡◌, refl, sym, ap, ◌∙◌, subst⁻¹}
-use Rattle.std.specs.Prelude.{Option}
-use Rattle.std.specs.Option.{MatchOption, unwrap_or}
-use Rattle.std.specs.List.{AllWithin, HoldsAt}
-use Rattle.std.proofs.lemmas.Iterator.{index_from_first}
 use mathlib.Core.Bool.{Bool, true, false, cond}
 use mathlib.Core.List.{List, [], ◌∷◌}
 use mathlib.Core.Option.{none, some}
-use Prim.Native.Nat.{ℕ, suc, ◌≤◌, ◌<◌}
-use native.Mathlib.Nat.{not-suc-le-zero, le_of_suc-le-suc}
-use native.Mathlib.Numerals.{add-one}
+use Prim.Native.Nat.{ℕ, suc, ◌+◌, ◌≤◌, ◌<◌}
+use native.Mathlib.Nat.{not-suc-le-zero, le_of_suc-le-suc, add-suc}
 use native.Mathlib.Omega.{arith}
 use lib.Dec.{eqb}
-use lib.ListN.{length, get_or, take, length-map}
+use lib.ListN.{length, get_or, take, drop, length-map, drop_of_length-le}
 use borrow.Author.Tests.{eqb-true, eq-eqb, ne_eqb}
 use Rattle.books.specs.Book.{Placement, Message, identifiers, numbers, all_placements}
 use Rattle.books.specs.Lines.{message_limit, signal_limit}
@@ -26,19 +21,25 @@ use Rattle.framing.proofs.WellPlaced.{WellPlaced, sound_message}
 use Rattle.record.specs.Columns.{message_count_of, ids_of, ends_of, numbers_of, starts_of}
 use Rattle.messages.specs.Signals.{AllFit}
 use Rattle.frames.specs.Lookup.{first_at, before, part, Spans}
+use Rattle.messages.proofs.Steps.{from}
 
 -- ---- the first place of a number
 
--- a search by `position` finds it
-pub first_by_position : (n : ℕ) (l : List ℕ) (r : Option ℕ)
-    → MatchOption r (AllWithin (λ x. x ≡ n → ⊥) l 0 (length l)) (λ i. (i < length l) × HoldsAt (λ x. x ≡ n) l i × AllWithin (λ x. x ≡ n → ⊥) l 0 i)
-    → first_at n l ≡ unwrap_or r (length l)
-unfolding first_at
-first_by_position n l r h =
-    index_from_first (first_at n) (λ x. x ≡ n) (λ x. x ≡ n → ⊥) refl
-    (λ x xs e. rw (eq-eqb n x (sym e)) refl)
-    (λ x xs d. rw (ne_eqb n x (λ e. d (sym e))) (sym (add-one (first_at n xs))))
-    l r h
+module _ (n : ℕ) (l : List ℕ) (i : ℕ) where
+  pub first_here : i < length l → n ≡ get_or l i 0 → first_at n (drop i l) ≡ 0
+  unfolding first_at
+  first_here h e = ap (first_at n) (from l i h) ∙ rw (eq-eqb n (get_or l i 0) e) refl
+
+  pub first_later : i < length l → (n ≡ get_or l i 0 → ⊥) → first_at n (drop i l) ≡ suc (first_at n (drop (i + 1) l))
+  unfolding first_at
+  first_later h e = ap (first_at n) (from l i h) ∙ rw (ne_eqb n (get_or l i 0) e) refl
+
+  pub first_none : length l ≤ i → first_at n (drop i l) ≡ 0
+  unfolding first_at
+  first_none h = ap (first_at n) (drop_of_length-le l h)
+
+  pub first_counts : i + first_at n (drop i l) ≡ first_at n l → first_at n (drop i l) ≡ suc (first_at n (drop (i + 1) l)) → i + 1 + first_at n (drop (i + 1) l) ≡ first_at n l
+  first_counts a b = omega (arith, add-suc i (first_at n (drop (i + 1) l)))
 
 first_within : (n : ℕ) (l : List ℕ) → first_at n l ≤ length l
 unfolding first_at
@@ -113,6 +114,9 @@ module _ (w : List ℕ) (t : messages_taken_spec w ≡ true) where
 
   pub there_is : (identifier at : ℕ) → at ≡ first_at identifier (identifiers Ms) → (at ≡ message_count_of w → ⊥) → at < length Ms
   there_is identifier at e n = let h = first_within identifier (identifiers Ms) in omega (arith, length-map Ms (λ (m : Message). m.identifier), count_is_law)
+
+  pub at_few : (identifier at : ℕ) → at ≡ first_at identifier (identifiers Ms) → (at ≡ message_count_of w → ⊥) → at < message_limit
+  at_few identifier at e n = let h = there_is identifier at e n in omega (arith, few)
 
   -- no message has the identifier
   pub nothing : (identifier at : ℕ) → at ≡ first_at identifier (identifiers Ms) → at ≡ message_count_of w → message_with identifier Ms ≡ none
