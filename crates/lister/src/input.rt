@@ -1,5 +1,5 @@
 // Frame lines from standard input, through one buffer.
-ghost use Rattle.std.specs.Prelude.{◌+◌, ◌≤◌, length};
+ghost use Rattle.std.specs.Prelude.{◌≡◌, ◌+◌, ◌-◌, ◌≤◌, length, take, drop};
 ghost use Rattle.lister.specs.Whole.{WholeUsed};
 
 use listing::list;
@@ -56,6 +56,15 @@ fn list_whole(
     used
 }
 
+// Moves the bytes from `from` to before `size` to the front, and answers how many they are.
+fn keep(input: &mut [u8], from: usize, size: usize) -> usize
+    requires { (from ≤ size) × (size ≤ length input.old) }
+    ensures { (result ≡ size - from) × (take result input.new ≡ take (size - from) (drop from input.old)) }
+{
+    input.copy_within(from..size, 0);
+    size - from
+}
+
 // Lists what stands in the buffer from `from` to before `size`. A line that fills the buffer is too long: it is ill formed.
 fn list_buffer(
     rt: &impl Print,
@@ -70,8 +79,7 @@ fn list_buffer(
 {
     let used = list_whole(rt, book, &input[from..size], &mut *out, figures);
     let begin = from + used;
-    let left = size - begin;
-    input.copy_within(begin..size, 0);
+    let left = keep(&mut *input, begin, size);
     if left < input.len() {
         return Held::Part(left);
     }
