@@ -4,7 +4,7 @@
 
 use catalogue::{Class, Raw};
 use rows::{Mark, MarkKind, Row};
-use streams::{print_bytes, print_decimal};
+use streams::{print_bytes, print_decimal, print_refusal};
 
 const ROWS: usize = 199;
 
@@ -73,8 +73,9 @@ fn print_class(rt: &impl Print, number: u32, count: u32) {
         Ok(Class::Reserved(raw)) => print_count(rt, b"\treserved", raw),
         Ok(Class::Outside(raw)) => print_count(rt, b"\toutside", raw),
         Err(why) => {
-            print_bytes(rt, b"\tno");
-            print(rt, u32::from(why));
+            print_bytes(rt, b"\t");
+            print_refusal(rt, u32::from(why));
+            return;
         }
     }
     print_bytes(rt, b"\n");

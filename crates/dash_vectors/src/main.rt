@@ -7,7 +7,7 @@ ghost use Rattle.dash_vectors.specs.Numbers.{IsNumber, NumberDrawn, NumberAnswer
 use catalogue::{NoClass, Raw};
 use dash::Dash;
 use numerals::identifier_or_0;
-use streams::{print_bytes, print_decimal, read_full};
+use streams::{print_bytes, print_refusal, read_full};
 use writing::put_hexadecimals;
 
 const MOST_LINES: u32 = 1000000;
@@ -60,11 +60,7 @@ fn print_answer(rt: &impl Print, answer: Result<Dash, NoClass>)
 {
     match answer {
         Ok(shown) => print_shown(rt, shown),
-        Err(why) => {
-            print_bytes(rt, b"no\t");
-            print_decimal(rt, u64::from(u32::from(why)));
-            print_bytes(rt, b"\n");
-        }
+        Err(why) => print_refusal(rt, u32::from(why)),
     }
 }
 

@@ -5,7 +5,7 @@
 use faults::FaultSum;
 use numerals::identifier_or_0;
 use record_cases::short_hex;
-use streams::{print_bytes, print_decimal, read_first, read_full};
+use streams::{print_bytes, print_decimal, print_refusal, read_first, read_full};
 
 const MOST_LINES: u32 = 1000000;
 
@@ -29,12 +29,6 @@ fn print_sum(rt: &impl Print, sum: FaultSum) {
     print(rt, sum.set);
     print(rt, u32::from(sum.emergency));
     print(rt, u32::from(sum.agrees));
-    print_bytes(rt, b"\n");
-}
-
-fn print_refusal(rt: &impl Print, number: u32) {
-    print_bytes(rt, b"no");
-    print(rt, number);
     print_bytes(rt, b"\n");
 }
 

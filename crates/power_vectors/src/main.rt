@@ -6,7 +6,7 @@
 use catalogue::Raw;
 use numerals::identifier_or_0;
 use power::{Observation, State};
-use streams::{print_bytes, print_decimal, read_full};
+use streams::{print_bytes, print_decimal, print_refusal, read_full};
 
 const MOST_LINES: u32 = 1000000;
 
@@ -51,10 +51,7 @@ fn print_number(rt: &impl Print, number: u32) {
 fn step(rt: &impl Print, state: State, seen: Observation) {
     match power::step(state, seen) {
         Ok(next) => print_number(rt, u32::from(next)),
-        Err(why) => {
-            print_bytes(rt, b"no\t");
-            print_number(rt, u32::from(why));
-        }
+        Err(why) => print_refusal(rt, u32::from(why)),
     }
 }
 

@@ -3,7 +3,7 @@
 #![tactic(auto)]
 
 use record::{BOOK_WORDS, ROUTES};
-use streams::{print_bytes, print_decimal};
+use streams::{print_bytes, print_decimal, print_refusal};
 
 fn print_place(rt: &impl Print, place: u32) {
     let mut text = [b'\t', 0, 0, 0, 0, 0, 0, 0, 0];
@@ -30,11 +30,7 @@ fn print_answer(
 ) {
     match routes::spread(book, bus, identifier, &mut *room) {
         Ok(n) => print_places(rt, word, &*room, n as usize),
-        Err(refusal) => {
-            print_bytes(rt, b"no\t");
-            print_decimal(rt, u64::from(u32::from(refusal)));
-            print_bytes(rt, b"\n");
-        }
+        Err(why) => print_refusal(rt, u32::from(why)),
     }
 }
 

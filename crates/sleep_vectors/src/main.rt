@@ -6,7 +6,7 @@
 use numerals::identifier_or_0;
 use sleep::Watch;
 use std::io::Read;
-use streams::{print_bytes, print_decimal, read_full};
+use streams::{print_bytes, print_decimal, print_refusal, read_full};
 
 // More turns than the input has lines.
 const MOST_TURNS: u32 = 1000000;
@@ -42,12 +42,6 @@ fn print_watch(rt: &impl Print, watch: Watch) {
         print_bytes(rt, b"awake\t");
     }
     print_decimal(rt, u64::from(watch.last_wake));
-    print_bytes(rt, b"\n");
-}
-
-fn print_refusal(rt: &impl Print, number: u32) {
-    print_bytes(rt, b"no\t");
-    print_decimal(rt, u64::from(number));
     print_bytes(rt, b"\n");
 }
 

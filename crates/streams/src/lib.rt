@@ -4,9 +4,15 @@
 
 ghost use Rattle.std.specs.Prelude.{◌≤◌, length, take};
 ghost use Rattle.std.specs.Io.KnownBytes.{Consumes};
+ghost use Rattle.printing.specs.Put.{Put};
+ghost use Rattle.streams.specs.Refusal.{refusal_line, refusal_room};
 
+use printing::{put_byte, put_bytes, put_natural, put_signed};
 use std::io;
 use std::io::{ErrorKind, Read};
+
+// No number with its sign is longer, and no line of a refusal.
+const ROOM: usize = 32;
 
 // Fills the buffer, as far as the input goes, and answers how many bytes it put there.
 pub fn read_full<R: Read>(input: &mut R, buffer: &mut [u8]) -> usize
@@ -48,7 +54,25 @@ pub fn print_decimal(rt: &impl Print, number: u64) {
     let _ = rt.print(number);
 }
 
-// The number in decimal digits, a minus before one below zero.
+// The number in decimal digits, a minus before one below zero, by one write.
 pub fn print_signed(rt: &impl Print, number: i64) {
-    let _ = rt.print(number);
+    let mut text = [0u8; ROOM];
+    let size = put_signed(&mut text, 0, number);
+    let _ = write_first(rt, &text, size);
+}
+
+fn put_refusal(out: &mut [u8], number: u32) -> usize
+    requires { refusal_room ≤ length out.old }
+    ensures { Put out.old 0 (refusal_line number) out.new result }
+{
+    let word = put_bytes(&mut *out, 0, b"no\t");
+    let digits = put_natural(&mut *out, word, u64::from(number));
+    put_byte(&mut *out, digits, b'\n')
+}
+
+// The line of a refusal: `no` and its number, by one write.
+pub fn print_refusal(rt: &impl Print, number: u32) {
+    let mut text = [0u8; ROOM];
+    let size = put_refusal(&mut text, number);
+    let _ = write_first(rt, &text, size);
 }
