@@ -11,13 +11,23 @@ pub const TAB: u8 = b'\t';
 pub const NEWLINE: u8 = b'\n';
 
 // Where b first stands in s, or the length of s.
+// Two bytes a turn, so that it is asked half as often whether s has ended: each byte of a text is passed here.
 pub fn find(s: &[u8], b: u8) -> usize
     ensures { result ≡ index_of b s.now }
 {
-    for (i, x) in s.iter().enumerate() {
-        if *x == b {
+    let pairs = s.len() / 2;
+    for pair in 0..pairs {
+        let i = 2 * pair;
+        if s[i] == b {
             return i;
         }
+        if s[i + 1] == b {
+            return i + 1;
+        }
+    }
+    let last = 2 * pairs;
+    if last < s.len() && s[last] == b {
+        return last;
     }
     s.len()
 }
