@@ -5,7 +5,7 @@ use Prim.Native.Nat.{ℕ, suc, ◌+◌, ◌≤◌, ◌<◌}
 use native.Mathlib.Nat.{add-zero, add-suc, suc-add}
 use native.Mathlib.Numerals.{add-one}
 use native.Mathlib.Omega.{arith}
-use lib.ListN.{length, drop, set, get_or, length-append, length-set, drop_of_length-le}
+use lib.ListN.{length, drop, set, get_or, length-append, length-set}
 use lib.Seq.{sets, length-sets, drop-cons}
 use Rattle.numerals.specs.Written.{identifier_text, decimal_width_spec, decimal_text}
 use Rattle.numerals.proofs.Identifiers.{length_identifier}
@@ -57,6 +57,3 @@ module _ {old : List ℕ} {at : ℕ} {text out : List ℕ} {i : ℕ} (w : Writte
         within = omega arith;
         size = length-set out (at + i) (get_or text i 0) ∙ w.size;
       }
-
-  pub all_written : length text ≤ i → Put old at text out (at + i)
-  all_written h = record { now_there = rw (drop_of_length-le text h) at w.rest; now_at = omega (arith, w.within) }
