@@ -11,6 +11,7 @@ use Rattle.line.specs.declared.Line.{Line}
 use Rattle.line.specs.declared.Line.TheVariants as line
 use Rattle.books.specs.Book.{Message, Placement, identifiers, numbers, all_placements}
 use Rattle.books.specs.Words.{placement_starts, ends_after}
+use Rattle.books.proofs.Columns.{length_ends}
 use Rattle.books.proofs.Ends.{map-append}
 use Rattle.reading.specs.Written.{signal_line, message_lines, lines_text}
 use Rattle.line_writer.specs.Fitting.{LinesFit}
@@ -32,6 +33,10 @@ pub record MessagesLeft (old : List ℕ) (all : List Line) (ns ss out : List ℕ
 pub messages_left : (ms : List Message) {out is' es' ns ss : List ℕ} → LinesFit out 0 (message_lines ms) → is' ≡ identifiers ms → es' ≡ ends_after 0 ms → ns ≡ numbers (all_placements ms)
     → ss ≡ placement_starts (all_placements ms) → MessagesLeft out (message_lines ms) ns ss out 0 0 is' es'
 messages_left ms f i e n s = record { messages = ms; lines = all_left f; ids_left = i; ends_left = e; numbers_left = n; starts_left = s; within = omega arith }
+
+-- the columns of the same messages are of one length
+pub columns_level : (ms : List Message) {is es : List ℕ} → is ≡ identifiers ms → es ≡ ends_after 0 ms → length es ≡ length is
+columns_level ms i e = ap length e ∙ length_ends 0 ms ∙ sym (ap length i ∙ length-map ms (λ (m : Message). m.identifier))
 
 -- the first of them, which these words say, its signals from `begin` on, and those after it
 pub record NextMessage (old : List ℕ) (all : List Line) (ns ss out : List ℕ) (next begin id end : ℕ) (is' es' : List ℕ) : Type 0 where

@@ -1,13 +1,14 @@
 -- The lines that pairs of entries make: those of signals and those of routes are such lines; and how long they are together. Assumes nothing.
 use mathlib.Core.Path.{◌≡◌, refl, ap, subst, ◌∙◌}
 use mathlib.Core.Logic.{◌⊎◌, inl, inr}
-use Prim.Native.Nat.{ℕ, ◌≤◌, ◌*◌}
+use Prim.Native.Nat.{ℕ, ◌+◌, ◌*◌, ◌≤◌, ◌<◌}
 use native.Mathlib.Omega.{arith}
 use mathlib.Core.List.{List, [], ◌∷◌, map}
-use lib.ListN.{length}
+use lib.ListN.{length, get_or, drop}
 use Rattle.line.specs.declared.Line.{Line}
 use Rattle.books.specs.Book.{Placement, Route, numbers}
 use Rattle.books.specs.Words.{placement_starts, froms, tos}
+use Rattle.books.proofs.Sides.{from}
 use Rattle.reading.specs.Written.{signal_line, route_line, lines_text}
 use Rattle.reading.proofs.LineLengths.{both_long}
 use Rattle.reading.proofs.TextLengths.{signals_few}
@@ -36,6 +37,10 @@ pub pairs_few : (line : ℕ → ℕ → Line) → ((x y : ℕ) → length (lines
 pairs_few line short [] ys = omega (arith, signals_few [])
 pairs_few line short (x ∷ xs) [] = omega (arith, signals_few [])
 pairs_few line short (x ∷ xs) (y ∷ ys) = omega (arith, both_long (line x y ∷ []) (pair_lines line xs ys), short x y, pairs_few line short xs ys)
+
+-- two columns in step, from an entry that they have on
+pub both_from : (xs ys : List ℕ) (i : ℕ) → length ys ≡ length xs → i < length xs → (drop i xs ≡ get_or xs i 0 ∷ drop (i + 1) xs) × (drop i ys ≡ get_or ys i 0 ∷ drop (i + 1) ys)
+both_from xs ys i e h = (from xs i h, from ys i (omega (arith, e, h)))
 
 -- along two columns, what holds of the lines of the pairs that are left holds of the next pair's line before the others, and of no lines
 -- where a column ends

@@ -15,8 +15,8 @@ fn lines_length<L: PairLine>(pairs: &Pairs) -> u32
     ensures { result ≡ length (lines_text (pair_lines L.line pairs.now.firsts.now pairs.now.seconds.now)) }
 {
     let mut sum = 0;
-    for (first, second) in pairs.firsts.iter().zip(pairs.seconds) {
-        sum += L::length(*first, *second);
+    for (i, first) in pairs.firsts.iter().enumerate() {
+        sum += L::length(*first, pairs.seconds[i]);
     }
     sum
 }

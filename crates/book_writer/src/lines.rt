@@ -16,8 +16,8 @@ fn put_lines<L: PairLine>(out: &mut [u8], at: usize, pairs: &Pairs) -> usize
     ensures { Put out.old at (lines_text (pair_lines L.line pairs.now.firsts.now pairs.now.seconds.now)) out.new result }
 {
     let mut next = at;
-    for (first, second) in pairs.firsts.iter().zip(pairs.seconds) {
-        next = L::put(&mut *out, next, *first, *second);
+    for (i, first) in pairs.firsts.iter().enumerate() {
+        next = L::put(&mut *out, next, *first, pairs.seconds[i]);
     }
     next
 }
@@ -27,11 +27,13 @@ pub fn put_message_lines(book: &TakenBook, out: &mut [u8]) -> usize
     requires { LinesFit out.old 0 (message_lines (messages_of book.now.words.now)) }
     ensures { Put out.old 0 (lines_text (message_lines (messages_of book.now.words.now))) out.new result }
 {
+    let ids = book.ids();
+    let ends = book.ends();
     let signals = book.signals();
     let mut next = 0;
     let mut begin = 0;
-    for (id, end) in book.ids().iter().zip(book.ends()) {
-        let end = *end as usize;
+    for (i, id) in ids.iter().enumerate() {
+        let end = ends[i] as usize;
         let after_message = put_message(&mut *out, next, *id);
         next = put_lines::<SignalLine>(&mut *out, after_message, &signals.part(begin, end));
         begin = end;
