@@ -44,6 +44,8 @@ fn observation_of(seen: &[u32; SEEN_WORDS], share: Option<u32>) -> Observation
 }
 
 // One observation, and the share that the caller names.
+// By these laws an arm that has a number of its own is proved or refused for that number, and not for its form.
+#[tactic(auto, using(power::proofs::Answers::kept_or_next, power::proofs::Numbers::number_named))]
 #[unsafe(no_mangle)]
 pub extern "C" fn pc_power_step_by(state: &mut u32, seen: &[u32; SEEN_WORDS], share: u32) -> u32
     ensures { (result, state.new) ≡ stepped state.old seen.now (Some share) }
