@@ -98,7 +98,7 @@ module _ (s : ChargeState) (seen : ChargeObservation) where
         ∙ of_step seen w s (omega (arith, h))
         ∙ ap step_with_spec (min-eq_left {n = suc (charge_number s)} {m = before_lost conditions seen} (held_within seen conditions (suc (charge_number s)) (omega (arith, h, six)) held))
 
-    -- and it stays where all that was met holds and the next one does not, or there is None
+    -- and it stays where all that was met holds and the next one does not, or there is none
     pub stays_there : (s ≡ Fault → ⊥) → no_welded_fault seen ≡ true → each_holds (take (charge_number s) conditions) seen ≡ true → next_holds conditions (charge_number s) seen ≡ false → (charge_step_of s seen).state ≡ s
     stays_there f w held lost =
         taken s seen not_refused

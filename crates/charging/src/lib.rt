@@ -10,7 +10,7 @@
 mod conditions;
 mod widths;
 
-ghost use Rattle.std.specs.Prelude.{◌≡◌, Err};
+ghost use Rattle.std.specs.Prelude.{◌≡◌, Err, min};
 ghost use Rattle.charging.specs.States.{charge_start, charge_number, charge_state_or_not, step_with_spec};
 ghost use Rattle.charging.specs.Rules.{next_charge_spec};
 ghost use Rattle.charging.specs.Refusals.{charge_refusal, charge_step_of, charge_if_taken};
@@ -131,6 +131,13 @@ fn step_with(n: u32) -> ChargeState
     }
 }
 
+// A function of its own, though it is `min`: a body that gives another number is refused by its contract, and not for its form.
+fn lesser(a: u32, b: u32) -> u32
+    ensures { result ≡ min a b }
+{
+    a.min(b)
+}
+
 // The state that follows an observation whose counts fit. Of a step, the lesser of one more condition and as many as hold from the
 // first on is what the rule says (`Moving lesser_of`): one on where all of them hold, back before the first that is lost.
 fn next_charge(state: ChargeState, seen: ChargeObservation) -> ChargeState
@@ -141,7 +148,7 @@ fn next_charge(state: ChargeState, seen: ChargeObservation) -> ChargeState
     }
     let before = u32::from(state);
     if before < FAULT_NUMBER {
-        return step_with((before + 1).min(holding(seen)));
+        return step_with(lesser(before + 1, holding(seen)));
     }
     if is_unplugged(seen) {
         return ChargeState::Start;

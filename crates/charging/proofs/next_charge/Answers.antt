@@ -16,7 +16,7 @@ returns-then-not-none_welded c = sym (welded _ c.args.state (sym c.none_welded.e
 pub returns-then-before-lt-FAULT_NUMBER : goal.returns-then-before-lt-FAULT_NUMBER
 returns-then-before-lt-FAULT_NUMBER c =
     as_step _ (sym c.none_welded.ensures ∙ c.if-not-none_welded.false) c.args.state
-    c.from-before.ensures (omega (arith, c.if-before-lt-FAULT_NUMBER.true)) c.holding.ensures (simp unary_clauses at c.min.ensures) c.step_with.ensures
+    c.from-before.ensures (omega (arith, c.if-before-lt-FAULT_NUMBER.true)) c.holding.ensures (simp unary_clauses at c.lesser.ensures) c.step_with.ensures
 
 pub returns : goal.returns
 returns c =
