@@ -3,7 +3,7 @@ use mathlib.Core.Path.{◌≡◌, refl, sym, ap, ◌∙◌, subst}
 use mathlib.Core.List.{List, [], ◌∷◌}
 use Prim.Native.Nat.{ℕ, zero, suc, ◌-◌, ◌<◌}
 use native.Mathlib.Omega.{arith}
-use lib.ListN.{length, get_or}
+use lib.ListN.{length, get_or, length-map}
 use Rattle.rows.specs.declared.Row.{Row}
 use Rattle.rows.specs.Rows.{rows}
 use Rattle.rows.specs.Widths.{widths_of, last_starts_of}
@@ -18,6 +18,9 @@ last_at (r ∷ rs) zero h = refl
 last_at (r ∷ rs) (suc p) h = last_at rs p (omega (arith, h))
 
 module _ (lasts : List ℕ) (n p : ℕ) (column : lasts ≡ last_starts_of rows) (place : (p ≡ place_of n) × (p < no_place_spec)) where
+  pub in_lasts : p < length lasts
+  in_lasts = rw column (subst (λ (k : ℕ). p < k) (sym (length-map rows (λ (r : Row). 64 - r.bits) ∙ long)) place.1)
+
   width_there : get_or (widths_of rows) p 0 ≡ bits_of_spec n
   width_there = ap (λ (q : ℕ). get_or (widths_of rows) q 0) place.0 ∙ bits_there n
 

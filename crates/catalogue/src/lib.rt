@@ -16,9 +16,9 @@ mod starts;
 mod widths;
 
 pub use by_shape::{class_of, cut_of};
-pub use places::{CHECKSUM_PLACE, COUNTER_PLACE, HUNDREDS, PLACES};
+pub use places::{CHECKSUM_PLACE, COUNTER_PLACE, HUNDREDS, PLACES, bounds, place_of, surpluses};
 pub use starts::SignalStarts;
-pub use widths::{Widths, bits_of};
+pub use widths::{Widths, bits_at, bits_of};
 
 // A raw count, as a frame carries it.
 #[derive(Clone, Copy, Debug, PartialEq, Eq)]

@@ -1,5 +1,5 @@
 // The place of a signal in the constant table, from its number: numbers go by the hundred, a hundred for each table of the standard.
-// A const array is built anew at every read, so a caller that asks for many signals holds the columns (`Widths`, `SignalStarts`). Numbers
+// A const array is built anew at every read, so a caller that asks for many signals holds the columns and lends them, or has them in one value (`Widths`, `SignalStarts`). Numbers
 // and places are computed in 32 bits, which is what most gateways have.
 ghost use Rattle.std.specs.Prelude.{◌≡◌, ◌<◌};
 ghost use Rattle.catalogue.specs.Places.{number_limit, hundred, surpluses, bounds, Placed};
@@ -28,6 +28,18 @@ pub(crate) const BOUNDS: [u8; HUNDREDS] = [
     0, 0, 10, 39, 47, 62, 67, 77, 85, 92, 95, 100, 126, 133, 133, 139, 145, 158, 172, 199,
 ];
 
+pub fn surpluses() -> [u32; HUNDREDS]
+    ensures { result ≡ surpluses }
+{
+    SURPLUSES
+}
+
+pub fn bounds() -> [u8; HUNDREDS]
+    ensures { result ≡ bounds }
+{
+    BOUNDS
+}
+
 // Of 1 to 100, 101 to 200 and so on, the hundred that a number is in: below the limit a product and a shift tell it.
 fn hundred_of(number: u32) -> usize
     requires { number < number_limit }
@@ -37,7 +49,7 @@ fn hundred_of(number: u32) -> usize
 }
 
 // The place of a signal in the table, by its columns.
-pub(crate) fn place_of(number: u32, above: &[u32], ends: &[u8]) -> Option<usize>
+pub fn place_of(number: u32, above: &[u32], ends: &[u8]) -> Option<usize>
     requires { (above.now ≡ surpluses) × (ends.now ≡ bounds) }
     ensures { Placed number result }
 {

@@ -39,19 +39,20 @@ impl Widths {
     pub fn bits(&self, number: u32) -> u32
         ensures { result ≡ bits_of_spec number }
     {
-        bits_at(number, &self.above, &self.ends, &self.bits)
+        bits_at(number, &self.bits, &self.above, &self.ends)
     }
 }
 
-// The same by the columns themselves.
-fn bits_at(number: u32, above: &[u32], ends: &[u8], bits: &[u8]) -> u32
-    requires { TableColumns above.now ends.now bits.now }
+// The bits of a signal, from the table's column and by the columns of its place, which the caller holds; 0 where the catalogue has
+// no such signal.
+pub fn bits_at(number: u32, widths: &[u8], above: &[u32], ends: &[u8]) -> u32
+    requires { TableColumns above.now ends.now widths.now }
     ensures { result ≡ bits_of_spec number }
 {
     let Some(place) = place_of(number, above, ends) else {
         return 0;
     };
-    u32::from(bits[place])
+    u32::from(widths[place])
 }
 
 // The bits of one signal: 0 where the catalogue has no such signal. The columns are built for this call alone.

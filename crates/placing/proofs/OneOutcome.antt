@@ -77,6 +77,6 @@ module _ (M : Type 1) where
 
   pub one_well_placed : OneOutcome M well_placed.ended (λ _. well_placed.clauses)
   one_well_placed =
-      outcome_is (coded× coded_bool (coded_list coded_ℕ)) (λ c o. (o.0, o.1.1.1.1.0)) (λ c x. (x.0, (tt, (tt, (tt, (x.1, (tt, tt)))))))
+      outcome_is (coded× coded_bool (coded_list coded_ℕ)) (λ c o. (o.0, o.1.1.1.1.1.1.0)) (λ c x. (x.0, (tt, (tt, (tt, (tt, (tt, (x.1, (tt, tt)))))))))
       (λ c o. refl) (λ c x. refl)
-      (λ c. stamped_test (side_by_side c.arguments.0.now c.arguments.1.0.now) c.arguments.1.1.1.1.0 c.arguments.1.1.1.0.now) refl
+      (λ c. stamped_test (side_by_side c.arguments.0.now c.arguments.1.0.now) c.arguments.1.1.1.1.1.1.0 c.arguments.1.1.1.1.1.0.now) refl

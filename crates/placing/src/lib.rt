@@ -4,6 +4,7 @@
 ghost use Rattle.std.specs.Prelude.{◌≡◌, Bool, List, ℕ, ◌-◌, ◌≤◌, ◌<◌, length};
 ghost use Rattle.rows.specs.Rule.{most_bits};
 ghost use Rattle.catalogue.specs.Find.{bits_of_spec};
+ghost use Rattle.catalogue.specs.Places.{StartColumns};
 ghost use Rattle.books.specs.Belonging.{in_run};
 ghost use Rattle.books.specs.Book.{placement};
 ghost use Rattle.books.specs.Lines.{is_in, misplaced, frame_bits};
@@ -14,7 +15,7 @@ ghost use Rattle.placing.specs.Filling.{Marks, FilledMore};
 ghost use Rattle.placing.specs.Stamps.{at_fixed_start, Below, stamped_test};
 ghost use Rattle.record.specs.Limits.{start_limit};
 
-use catalogue::{CHECKSUM_PLACE, COUNTER_PLACE, PLACES, SignalStarts};
+use catalogue::{CHECKSUM_PLACE, COUNTER_PLACE, PLACES};
 use record::{CHECKSUM, CHECKSUM_START, COUNTER, COUNTER_START};
 
 const FRAME_BITS: u32 = 64;
@@ -118,20 +119,22 @@ fn has_fixed_start(place: usize, start: u32) -> bool
 pub fn well_placed(
     numbers: &[u32],
     starts: &[u32],
-    columns: &SignalStarts,
+    above: &[u32],
+    ends: &[u8],
+    lasts: &[u8],
     stamps: &mut [u8; PLACES],
     stamp: u8,
 ) -> bool
-    requires { (length starts.now ≡ length numbers.now) × Below stamps.old stamp }
+    requires { (length starts.now ≡ length numbers.now) × StartColumns above.now ends.now lasts.now × Below stamps.old stamp }
     ensures { ◌≡◌ {A = Bool × List ℕ} (result, stamps.new) (stamped_test (side_by_side numbers.now starts.now) stamp stamps.old) }
 {
     let mut filled: u64 = 0;
     for (at, &number) in numbers.iter().enumerate() {
         let start = starts[at];
-        let Some(place) = columns.place_of(number) else {
+        let Some(place) = catalogue::place_of(number, above, ends) else {
             return false;
         };
-        let last = columns.at(place);
+        let last = u32::from(lasts[place]);
         if start > last {
             return false;
         }

@@ -62,9 +62,9 @@ module _ {M : Type 1} {𝓤 : Ura M} (𝓛 : Logic 𝓤) (mem : Memory → SProp
       → Only 𝓤 (λ (x : Result Unit Refusal × List ℕ). (add-route.clauses 𝓛 mem run κs (book, (a, (i, (c, (j, tt)))))).ensures tt x.0 (at_last book x.1, (a, (i, (c, (j, tt))))))
   one_add_route a i c j h = one_judged 𝓤 _ book.now h (λ b. route_refusal b.routes a i c j) (λ b. with_route b (route a i c j)) (λ b. route_answer b.routes a i c j) (λ x. refl)
 
-module _ {M : Type 1} {𝓤 : Ura M} (𝓛 : Logic 𝓤) (mem : Memory → SProp 𝓤) (run : Routine → Fun 𝓤) (κs : Lfts 2) (book : MutBor (List ℕ)) (widths : Bor Unit) where
+module _ {M : Type 1} {𝓤 : Ura M} (𝓛 : Logic 𝓤) (mem : Memory → SProp 𝓤) (run : Routine → Fun 𝓤) (κs : Lfts 4) (book : MutBor (List ℕ)) (above bounds widths : Bor (List ℕ)) where
   pub one_add_signal : (filled : Filled) (number start : ℕ) → OfBookFilled book.now filled
-      → Only 𝓤 (λ (x : Result Filled Refusal × List ℕ). (add-signal.clauses 𝓛 mem run κs (book, (filled, (number, (start, (widths, tt)))))).ensures tt x.0 (at_last book x.1, (filled, (number, (start, (widths, tt))))))
+      → Only 𝓤 (λ (x : Result Filled Refusal × List ℕ). (add-signal.clauses 𝓛 mem run κs (book, (filled, (number, (start, (above, (bounds, (widths, tt)))))))).ensures tt x.0 (at_last book x.1, (filled, (number, (start, (above, (bounds, (widths, tt))))))))
   one_add_signal filled number start (b, h) =
       let p = placement number start in
       let here = signal_judged_there b p filled h.fills in

@@ -1,11 +1,11 @@
 // One line more at the end of a book: the words are then those of the book with the line, or stay where the line is refused.
 ghost use Rattle.books.specs.Book.{Book, placement};
+ghost use Rattle.catalogue.specs.Places.{TableColumns};
 ghost use Rattle.tables.specs.Adding.{OfBook, OfBookFilled, HoldsFilled, MessageAdded, SignalJudged, RouteAdded};
 
 use crate::judging::{has_message, judge_signal, over_limit};
 use crate::storing::{put_message, put_route, put_signal};
 use answers::Refusal;
-use catalogue::Widths;
 use placing::Filled;
 use record::{BOOK_WORDS, IDENTIFIER_LIMIT, MESSAGES, ROUTES};
 
@@ -36,12 +36,14 @@ pub fn add_signal(
     filled: Filled,
     number: u32,
     start: u32,
-    widths: &Widths,
+    above: &[u32],
+    bounds: &[u8],
+    widths: &[u8],
 ) -> Result<Filled, Refusal>
-    requires { OfBookFilled book.old filled }
+    requires { OfBookFilled book.old filled × TableColumns above.now bounds.now widths.now }
     ensures { (b : Book) → HoldsFilled book.old filled b → SignalJudged b (placement number start) result book.new }
 {
-    let bits = widths.bits(number);
+    let bits = catalogue::bits_at(number, widths, above, bounds);
     judge_signal(&*book, filled, number, start, bits)?;
     let messages = record::message_count(&*book);
     let signals = record::signal_count(&*book);

@@ -2,11 +2,12 @@
 ghost use Rattle.std.specs.Prelude.{◌≡◌, ◌&&◌, ◌+◌, ◌≤◌, ◌<◌, length, drop};
 ghost use Rattle.books.specs.Words.{side_by_side, messages_taken_spec};
 ghost use Rattle.books.specs.Lines.{message_limit};
+ghost use Rattle.catalogue.specs.Places.{StartColumns};
 ghost use Rattle.placing.specs.Stamps.{Below};
 ghost use Rattle.zeros.specs.Zeros.{zeros};
 ghost use Rattle.tables.specs.Testing.{parted};
 
-use catalogue::{CHECKSUM_PLACE, COUNTER_PLACE, PLACES, SignalStarts};
+use catalogue::{CHECKSUM_PLACE, COUNTER_PLACE, PLACES};
 use record::{BOOK_WORDS, MESSAGES, SIGNALS};
 
 // Whether the entries past a count are 0 in two columns in step: each rest goes as two halves, which meet where its length is odd.
@@ -31,10 +32,12 @@ fn well_parted(
     ends: &[u32],
     numbers: &[u32],
     starts: &[u32],
-    columns: &SignalStarts,
+    above: &[u32],
+    bounds: &[u8],
+    lasts: &[u8],
     stamps: &mut [u8; PLACES],
 ) -> bool
-    requires { (length starts.now ≡ length numbers.now) × (length ends.now ≤ message_limit) × Below stamps.old 1 }
+    requires { (length starts.now ≡ length numbers.now) × (length ends.now ≤ message_limit) × StartColumns above.now bounds.now lasts.now × Below stamps.old 1 }
     ensures { result ≡ parted 0 ends.now (side_by_side numbers.now starts.now) }
 {
     let mut begin: usize = 0;
@@ -49,7 +52,9 @@ fn well_parted(
         if !placing::well_placed(
             columns::part(numbers, begin, end),
             columns::part(starts, begin, end),
-            columns,
+            above,
+            bounds,
+            lasts,
             stamps,
             (at + 1) as u8,
         ) {
@@ -85,7 +90,9 @@ pub fn messages_taken(book: &[u32; BOOK_WORDS]) -> bool
     if !columns::distinct(record::first(ids, messages)) {
         return false;
     }
-    let columns = SignalStarts::new();
+    let above = catalogue::surpluses();
+    let bounds = catalogue::bounds();
+    let lasts = rows::last_starts();
     let mut stamps = [0u8; PLACES];
     stamps[CHECKSUM_PLACE] = placing::FIXED_STAMP;
     stamps[COUNTER_PLACE] = placing::FIXED_STAMP;
@@ -93,7 +100,9 @@ pub fn messages_taken(book: &[u32; BOOK_WORDS]) -> bool
         record::first(ends, messages),
         record::first(numbers, signals),
         record::first(starts, signals),
-        &columns,
+        &above,
+        &bounds,
+        &lasts,
         &mut stamps,
     )
 }

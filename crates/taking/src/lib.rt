@@ -7,11 +7,11 @@ ghost use Rattle.record.specs.Limits.{text_limit};
 ghost use Rattle.books.specs.Book.{Book};
 ghost use Rattle.reading.specs.Reading.{meanings};
 ghost use Rattle.reading.specs.Taken.{r_lines_from};
+ghost use Rattle.catalogue.specs.Places.{TableColumns};
 ghost use Rattle.tables.specs.Adding.{OfBookFilled, HoldsFilled};
 ghost use Rattle.taking.specs.Taking.{is_route_spec, Took, Empty, Came};
 
 use answers::{Refusal, Refused};
-use catalogue::Widths;
 use line::Line;
 use line_reader::read_at;
 use placing::Filled;
@@ -23,9 +23,11 @@ fn take_line(
     book: &mut [u32; BOOK_WORDS],
     filled: Filled,
     line: Line,
-    widths: &Widths,
+    above: &[u32],
+    bounds: &[u8],
+    widths: &[u8],
 ) -> Result<Filled, Refusal>
-    requires { OfBookFilled book.old filled }
+    requires { OfBookFilled book.old filled × TableColumns above.now bounds.now widths.now }
     ensures { (b : Book) → HoldsFilled book.old filled b → Took b line result book.new }
 {
     match line {
@@ -33,7 +35,9 @@ fn take_line(
             tables::add_message(book, id)?;
             Ok(Filled::new())
         }
-        Line::Signal(number, start) => tables::add_signal(book, filled, number, start, widths),
+        Line::Signal(number, start) => {
+            tables::add_signal(book, filled, number, start, above, bounds, widths)
+        }
         Line::Route(from_bus, from_id, to_bus, to_id) => {
             tables::add_route(book, from_bus, from_id, to_bus, to_id)?;
             Ok(filled)
@@ -47,13 +51,15 @@ pub fn take_lines(text: &[u8], book: &mut [u32; BOOK_WORDS]) -> Result<(), Refus
     requires { (length text.now ≤ text_limit) × Empty book.old }
     ensures { Came text.now result book.new }
 {
-    let widths = Widths::new();
+    let above = catalogue::surpluses();
+    let bounds = catalogue::bounds();
+    let widths = rows::widths();
     let mut at: usize = 0;
     let mut n: u32 = 1;
     let mut filled = Filled::new();
     while at < text.len() {
         let read = read_at(text, at);
-        match take_line(&mut *book, filled, read.line, &widths) {
+        match take_line(&mut *book, filled, read.line, &above, &bounds, &widths) {
             Ok(more) => filled = more,
             Err(why) => {
                 record::clear(&mut *book);

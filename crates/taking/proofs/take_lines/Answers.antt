@@ -7,7 +7,9 @@ pub loop-at-init : goal.loop-at-init
 loop-at-init c = start _ _ c.requires.1 _ c.new-filled.ensures
 
 pub take_line-requires : goal.take_line-requires
-take_line-requires c = let going = c.loop-at.invariant in (going.book, going.kept)
+take_line-requires c =
+    let going = c.loop-at.invariant in
+    ((going.book, going.kept), record { places = (c.surpluses-above.ensures, c.bounds-bounds.ensures); bits = c.widths-widths.ensures })
 
 pub returns-in-Err : goal.returns-in-Err
 returns-in-Err c = (refused_here c.loop-at.invariant c.loop-at-test.true _ c.read_at-read.ensures _ (c.take_line.ensures c.loop-at.invariant.book c.loop-at.invariant.kept) _ c.in-Err.is, c.clear.ensures)

@@ -14,8 +14,8 @@ use Rattle.tables.proofs.adding.add_signal.Goals as goal
 use Rattle.tables.proofs.adding.add_signal.Goals.{In_ok-judge_signal}
 
 -- the line is taken after a book that the words are those of: it has room
-room : (c : In_ok-judge_signal) → SignalRoom c.requires.0.messages (placement c.args.number c.args.start)
-room c = signal_room _ _ (sym (c.in_ok-judge_signal.ensures c.requires.0 c.requires.1))
+room : (c : In_ok-judge_signal) → SignalRoom c.requires.0.0.messages (placement c.args.number c.args.start)
+room c = signal_room _ _ (sym (c.in_ok-judge_signal.ensures c.requires.0.0 c.requires.0.1))
 
 pub returns-in_err-judge_signal : goal.returns-in_err-judge_signal
 returns-in_err-judge_signal c = λ b k.
@@ -26,13 +26,13 @@ returns-in_err-judge_signal c = λ b k.
 
 pub put_signal-requires : goal.put_signal-requires
 put_signal-requires c =
-    let b = c.requires.0 in
-    let h = c.requires.1.holds in
+    let b = c.requires.0.0 in
+    let h = c.requires.0.1.holds in
     let r = room (goal.at.put_signal-requires c).In_ok-judge_signal in
     (omega (arith, c.message_count-messages.ensures, messages_held _ b h, r.some), omega (arith, c.message_count-messages.ensures, messages_held _ b h, h.within.messages), omega (arith, c.signal_count-signals.ensures, signals_held _ b h, r.room))
 
 pub with_signal-requires : goal.with_signal-requires
-with_signal-requires c = alone_room _ _ _ c.bits-bits.ensures (room (goal.at.with_signal-requires c).In_ok-judge_signal).alone
+with_signal-requires c = alone_room _ _ _ c.bits_at-bits.ensures (room (goal.at.with_signal-requires c).In_ok-judge_signal).alone
 
 pub returns : goal.returns
 returns c = λ b k.
@@ -43,4 +43,4 @@ returns c = λ b k.
     let messages = c.message_count-messages.ensures ∙ messages_held _ b h in
     let signals = c.signal_count-signals.ensures ∙ signals_held _ b h in
     let stored = signal_stored_law b.messages b.routes p h.within r.some r.room in
-    signal_takes b p _ _ taken (rw (c.put_signal.ensures, messages, signals, h.words) stored) (fills_signal b.messages p taken c.args.filled k.fills _ c.bits-bits.ensures _ c.with_signal.ensures)
+    signal_takes b p _ _ taken (rw (c.put_signal.ensures, messages, signals, h.words) stored) (fills_signal b.messages p taken c.args.filled k.fills _ c.bits_at-bits.ensures _ c.with_signal.ensures)

@@ -53,7 +53,7 @@ pub returns-then-not-distinct : goal.returns-then-not-distinct
 returns-then-not-distinct c = repeated _ _ _ c.message_count-messages.ensures c.ids-ids.ensures.0 (sym (c.distinct.ensures ∙ ap (distinct_after []) c.first.ensures.0) ∙ c.if-not-distinct.true)
 
 pub well_parted-requires : goal.well_parted-requires
-well_parted-requires c = (omega (arith, c.first-3.ensures.1, c.first-4.ensures.1), omega (arith, c.first-2.ensures.1, c.if-messages-gt-MESSAGES.false), first-stamps)
+well_parted-requires c = (omega (arith, c.first-3.ensures.1, c.first-4.ensures.1), omega (arith, c.first-2.ensures.1, c.if-messages-gt-MESSAGES.false), record { places = (c.surpluses-above.ensures, c.bounds-bounds.ensures); lasts = c.last_starts-lasts.ensures }, first-stamps)
 
 pub returns : goal.returns
 returns c = c.well_parted.ensures ∙ last_part _ _ _ _ _ _ _ c.message_count-messages.ensures c.signal_count-signals.ensures c.ids-ids.ensures.0 c.ends-ends.ensures.0 c.numbers-numbers.ensures.0 c.starts-starts.ensures.0 c.ids-ids.ensures.1 c.ends-ends.ensures.1 c.numbers-numbers.ensures.1 c.starts-starts.ensures.1 c.if-messages-gt-MESSAGES.false c.if-signals-gt-SIGNALS.false (sym c.rests_zero.ensures ∙ c.if-not-rests_zero.false) (sym c.rests_zero-2.ensures ∙ c.if-not-rests_zero-2.false) (sym (c.distinct.ensures ∙ ap (distinct_after []) c.first.ensures.0) ∙ c.if-not-distinct.false) _ _ _ c.first-2.ensures.0 c.first-3.ensures.0 c.first-4.ensures.0

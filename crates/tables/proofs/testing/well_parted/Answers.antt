@@ -6,7 +6,7 @@ use Rattle.tables.proofs.Parted.{begin_parted, end_parted, refuse_back, refuse_p
 use Rattle.tables.proofs.testing.well_parted.Goals as goal
 
 pub loop-at-init : goal.loop-at-init
-loop-at-init c = (begin_parted _ _ _, c.requires.2)
+loop-at-init c = (begin_parted _ _ _, c.requires.3)
 
 pub returns-then-end-begin : goal.returns-then-end-begin
 returns-then-end-begin c = refuse_back _ _ _ _ _ c.requires.0 c.loop-at.invariant.0 _ c.loop-at-test.true refl c.if-end-begin.true
@@ -21,7 +21,7 @@ pub part-requires-in-loop-at : goal.part-requires-in-loop-at
 part-requires-in-loop-at c = (c.if-end-begin.false, omega (arith, c.requires.0, c.if-end-numbers.false))
 
 pub well_placed-requires : goal.well_placed-requires
-well_placed-requires c = (omega (arith, c.part.ensures.1, c.part-in-loop-at.ensures.1), c.loop-at.invariant.1)
+well_placed-requires c = (omega (arith, c.part.ensures.1, c.part-in-loop-at.ensures.1), c.requires.2, c.loop-at.invariant.1)
 
 pub returns-then-not-well_placed : goal.returns-then-not-well_placed
 returns-then-not-well_placed c =
