@@ -8,8 +8,8 @@ ghost use Rattle.catalogue.specs.Class.{between, mark_class, class_in_spec};
 ghost use Rattle.catalogue.specs.Cut.{cut_for};
 
 use crate::{Class, Cut, Raw, Thousandths};
-use rows::MarkKind;
 use rows::MarkKind::Unmarked;
+use rows::{Mark, MarkKind};
 
 fn is_between(first: u32, last: u32, count: u32) -> bool
     ensures { result ≡ between first last count }
@@ -48,36 +48,28 @@ fn reading(raw: Raw, resolution: u16, offset: i32) -> Thousandths
 }
 
 // The class of a count in a row with these numbers and marks.
-// Kept: nine numbers and no three marks; tried, as structs they are copied at Os, where a class of one count then takes half as many
-// instructions again as plain C, and 128 bytes of stack more.
 fn class_in(
     resolution: u16,
     offset: i32,
     lowest: u32,
     highest: u32,
-    kind1: MarkKind,
-    first1: u32,
-    last1: u32,
-    kind2: MarkKind,
-    first2: u32,
-    last2: u32,
-    kind3: MarkKind,
-    first3: u32,
-    last3: u32,
+    mark1: Mark,
+    mark2: Mark,
+    mark3: Mark,
     raw: Raw,
 ) -> Class
-    requires { Kinded (mark kind1 first1 last1) × Kinded (mark kind2 first2 last2) × Kinded (mark kind3 first3 last3) }
-    ensures { result ≡ class_in_spec (row 0 0 resolution offset lowest highest (mark kind1 first1 last1) (mark kind2 first2 last2) (mark kind3 first3 last3)) raw }
+    requires { Kinded mark1 × Kinded mark2 × Kinded mark3 }
+    ensures { result ≡ class_in_spec (row 0 0 resolution offset lowest highest mark1 mark2 mark3) raw }
 {
     let count = raw.0;
-    if is_between(first1, last1, count) {
-        return marked(kind1, raw);
+    if is_between(mark1.first, mark1.last, count) {
+        return marked(mark1.kind, raw);
     }
-    if is_between(first2, last2, count) {
-        return marked(kind2, raw);
+    if is_between(mark2.first, mark2.last, count) {
+        return marked(mark2.kind, raw);
     }
-    if is_between(first3, last3, count) {
-        return marked(kind3, raw);
+    if is_between(mark3.first, mark3.last, count) {
+        return marked(mark3.kind, raw);
     }
     if is_between(lowest, highest, count) {
         return Class::Value(reading(raw, resolution, offset));
@@ -109,9 +101,23 @@ pub fn three_marks(
     ensures { result ≡ cut_for (some (row 0 bits resolution offset lowest highest (mark kind1 first1 last1) (mark kind2 first2 last2) (mark kind3 first3 last3))) window }
 {
     let raw = Raw(low_bits(window, bits));
+    let mark1 = Mark {
+        kind: kind1,
+        first: first1,
+        last: last1,
+    };
+    let mark2 = Mark {
+        kind: kind2,
+        first: first2,
+        last: last2,
+    };
+    let mark3 = Mark {
+        kind: kind3,
+        first: first3,
+        last: last3,
+    };
     let class = class_in(
-        resolution, offset, lowest, highest, kind1, first1, last1, kind2, first2, last2, kind3,
-        first3, last3, raw,
+        resolution, offset, lowest, highest, mark1, mark2, mark3, raw,
     );
     Cut {
         bits,

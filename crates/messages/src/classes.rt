@@ -6,6 +6,9 @@ ghost use Rattle.messages.specs.Signals.{numbers_of_cut, numbers_of_class};
 
 use catalogue::{Class, NoClass, Raw};
 
+// The code of a count that is too wide.
+const TOO_WIDE: u8 = 7;
+
 // The code of a class, and the thousandths of a value; 0 where the class is no value.
 fn numbers_of(class: Result<Class, NoClass>) -> (u8, i64)
     ensures { (result.0 ≡ class_code class) × (result.1 ≡ thousandths_of_spec class) }
@@ -18,7 +21,7 @@ fn numbers_of(class: Result<Class, NoClass>) -> (u8, i64)
         Ok(Class::Reserved(_)) => (4, 0),
         Ok(Class::Outside(_)) => (5, 0),
         Err(NoClass::NotInCatalogue) => (6, 0),
-        Err(NoClass::TooWide) => (7, 0),
+        Err(NoClass::TooWide) => (TOO_WIDE, 0),
     }
 }
 
@@ -45,9 +48,8 @@ pub fn class_numbers(number: u32, raw: Raw, code: &mut u8) -> i64
     let mut count: u32 = 0;
     let reading = cut_numbers(number, raw.0, &mut bits, &mut count, &mut *code);
     if count != raw.0 {
-        let (too_wide, no_reading) = numbers_of(Err(NoClass::TooWide));
-        *code = too_wide;
-        return no_reading;
+        *code = TOO_WIDE;
+        return 0;
     }
     reading
 }

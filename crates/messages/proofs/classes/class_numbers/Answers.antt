@@ -12,10 +12,7 @@ pub returns-then-count-raw : goal.returns-then-count-raw
 returns-then-count-raw c =
     let whole = c.cut_numbers-reading.ensures in
     let class = cut_too_wide _ _ (λ e. c.if-count-raw.true (its_count whole ∙ e)) in
-    let numbers = c.numbers_of-too_wide in
-    let reading = to_z-of_z w64 numbers.result.1 (search rules) ∙ numbers.ensures.1 ∙ ap thousandths_of_spec class in
-    let code = numbers.ensures.0 ∙ ap class_code class in
-    λ i. (reading i, code i)
+    λ i. (thousandths_of_spec (class i), class_code (class i))
 
 pub returns : goal.returns
 returns c =
